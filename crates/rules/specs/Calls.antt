@@ -1,0 +1,267 @@
+-- The station, its calls, their refusals and answers (document 01, "The calls" and the two tables of refusals).
+use Prim.Native.Nat.{ℕ, zero, suc, _+_, _-_, _*_, _/_}
+use mathlib.Core.Bool.{Bool, cond, not, _&&_, _||_}
+use mathlib.Core.List.{List, [], _∷_, _++_}
+use lib.Dec.{ltb, leb, eqb}
+use lib.ListN.{length, drop}
+use Rattle.rules.specs.Basics.{Found, at, nothing, firstOf, keep, some, sortedBy}
+use Rattle.rules.specs.Load.{Limits}
+use Rattle.rules.specs.Charge.{Charge, endOf, activeFor, starting, loadsOf, isBegun, waitingCharges, unfinishedCharges, lateness}
+use Rattle.rules.specs.Search.{earliest}
+use Rattle.rules.specs.Replan.{Proposal, starts, none, latest, Replanned, byLines}
+use Rattle.rules.specs.Judgement.{restarted, judged}
+
+-- "A station holds a limit N, a percentage c, a bound D, a clock, the next ticket and up to 180 charges."
+-- The charges stand in ticket order.
+pub record State : Type 0 where
+  pub limit : ℕ
+  pub percent : ℕ
+  pub bound : ℕ
+  pub clock : ℕ
+  pub next : ℕ
+  pub charges : List Charge
+
+abbrev pub limitsOf : State → Limits
+limitsOf s = record { limit = s .limit; bound = s .bound }
+
+-- the same station with another clock and other charges
+abbrev pub holding : State → ℕ → List Charge → State
+holding s clock cs =
+    record { limit = s .limit; percent = s .percent; bound = s .bound; clock = clock; next = s .next; charges = cs }
+
+-- What a call answers.
+pub data Answer : Type 0 where
+  -- "A refusal returns its number alone"
+  refused : ℕ → Answer
+  -- an opening: the bound D
+  opened : ℕ → Answer
+  -- an order: "ticket and start"
+  ordered : ℕ → ℕ → Answer
+  -- a clock move: "how many were reported, how many dropped"
+  moved : ℕ → ℕ → Answer
+  -- an offer or a replan: "cause, lateness before and after (equal when kept), rounds used"
+  planned : ℕ → ℕ → ℕ → ℕ → Answer
+  -- an enquiry: "waiting with its start, charging with start and end"
+  waiting : ℕ → Answer
+  charging : ℕ → ℕ → Answer
+
+-- an answer, the next station, and the whole of the lent list afterwards (empty where none is lent)
+pub record Result : Type 0 where
+  pub answer : Answer
+  pub state : State
+  pub list : List ℕ
+
+-- "A refusal returns its number alone; the station and every list stay."
+abbrev pub answering : ℕ → State → List ℕ → Result → Result
+answering zero s list r = r
+answering (suc k) s list r = record { answer = refused (suc k); state = s; list = list }
+
+-- Open
+
+-- "D is c × N / 100 rounded down."
+abbrev pub boundOf : ℕ → ℕ → ℕ
+boundOf n c = c * n / 100
+
+-- "A fresh station: clock 0, next ticket 1, no charges."
+abbrev pub fresh : ℕ → ℕ → State
+fresh n c = record { limit = n; percent = c; bound = boundOf n c; clock = 0; next = 1; charges = [] }
+
+abbrev pub openRefusals : ℕ → ℕ → List (Bool × ℕ)
+openRefusals n c =
+    -- "N not 1 to 60"
+    (ltb n 1 || ltb 60 n, 1)
+    -- "c above 100"
+    ∷ (ltb 100 c, 2)
+    -- "c × N below 100"
+    ∷ (ltb (c * n) 100, 3)
+    ∷ []
+
+-- "Beside a refused opening stands the fresh station of 1, 100."
+unfoldable pub opening : ℕ → ℕ → Result
+opening n c =
+    answering (firstOf (openRefusals n c)) (fresh 1 100) []
+    (record { answer = opened (boundOf n c); state = fresh n c; list = [] })
+
+-- The calls of a station that stands.
+pub data Call : Type 0 where
+  -- line, p, d
+  order : ℕ → ℕ → ℕ → Call
+  -- target, report list
+  move : ℕ → List ℕ → Call
+  -- starts
+  offer : List ℕ → Call
+  replanLatest : Call
+  -- allowance
+  replanLines : ℕ → Call
+  -- ticket
+  enquire : ℕ → Call
+
+-- the list that is lent to a call
+abbrev pub lent : Call → List ℕ
+lent (order line p d) = []
+lent (move target list) = list
+lent (offer ss) = ss
+lent replanLatest = []
+lent (replanLines allowance) = []
+lent (enquire ticket) = []
+
+-- Refusals 4 to 15, "where several apply, the lowest number".
+abbrev pub refusals : State → Call → List (Bool × ℕ)
+refusals s (order line p d) =
+    -- "line not 1 to 3"
+    (ltb line 1 || ltb 3 line, 4)
+    -- "p not 1 to 1,440"
+    ∷ (ltb p 1 || ltb 1440 p, 5)
+    -- "d above 2,000,000"
+    ∷ (ltb 2000000 d, 6)
+    -- "d below clock + p"
+    ∷ (ltb d (s .clock + p), 7)
+    -- "180 charges held"
+    ∷ (leb 180 (length (s .charges)), 13)
+    -- "65,535 tickets given"
+    ∷ (ltb 65535 (s .next), 14)
+    ∷ []
+refusals s (move target list) =
+    -- "target above 1,000,000"
+    (ltb 1000000 target, 8)
+    -- "report list under 360 places"
+    ∷ (ltb (length list) 360, 9)
+    -- "target below the clock"
+    ∷ (ltb target (s .clock), 12)
+    ∷ []
+refusals s (offer ss) =
+    -- "list length is not the number of waiting charges"
+    (not (eqb (length ss) (length (waitingCharges (s .clock) (s .charges)))), 10) ∷ []
+refusals s replanLatest = []
+refusals s (replanLines allowance) =
+    -- "allowance not 1 to 1,000"
+    (ltb allowance 1 || ltb 1000 allowance, 11) ∷ []
+refusals s (enquire ticket) =
+    -- "no held charge has this ticket"
+    (not (some (λ c. eqb (c .ticket) ticket) (s .charges)), 15) ∷ []
+
+-- Order
+
+-- "The order minute is the clock."
+abbrev pub newCharge : State → ℕ → ℕ → ℕ → ℕ → Charge
+newCharge s line p d start =
+    record { ticket = s .next; line = line; orderMinute = s .clock; time = p; due = d; start = start }
+
+-- "No other start moves. .. Tickets rise by one."
+abbrev pub taking : State → Charge → State
+taking s c =
+    record {
+      limit = s .limit;
+      percent = s .percent;
+      bound = s .bound;
+      clock = s .clock;
+      next = suc (s .next);
+      charges = s .charges ++ (c ∷ []);
+    }
+
+-- "Answer: ticket and start." A sound plan always leaves a start (`earliest-found`), so `nothing` is never met.
+abbrev pub orderedAt : State → (ℕ → Charge) → Found → Result
+orderedAt s c (at start) = record { answer = ordered (s .next) start; state = taking s (c start); list = [] }
+orderedAt s c nothing = record { answer = refused 0; state = s; list = [] }
+
+unfoldable pub ordering : State → ℕ → ℕ → ℕ → Result
+ordering s line p d =
+    orderedAt s (newCharge s line p d)
+    (earliest (limitsOf s) (s .clock) (loadsOf (s .charges)) line (activeFor (newCharge s line p d 0)))
+
+-- Move the clock
+
+-- "Charges with start at or above the old clock and below the target are reported"
+abbrev pub isPassed : ℕ → ℕ → Charge → Bool
+isPassed clock target c = leb clock (c .start) && ltb (c .start) target
+
+-- "ordered by start, then ticket"
+abbrev pub startBefore : Charge → Charge → Bool
+startBefore a b = ltb (a .start) (b .start) || (eqb (a .start) (b .start) && ltb (a .ticket) (b .ticket))
+
+abbrev pub reported : ℕ → ℕ → List Charge → List Charge
+reported clock target cs = sortedBy startBefore (keep (isPassed clock target) cs)
+
+-- "ticket, start, ticket, start"
+abbrev pub pairs : List Charge → List ℕ
+pairs [] = []
+pairs (c ∷ cs) = c .ticket ∷ c .start ∷ pairs cs
+
+-- "Places after them keep what they held."
+abbrev pub written : List ℕ → List ℕ → List ℕ
+written xs list = xs ++ drop (length xs) list
+
+-- "Then finished charges are dropped. Answer: how many were reported, how many dropped."
+unfoldable pub moving : State → ℕ → List ℕ → Result
+moving s target list =
+    let report : List Charge = reported (s .clock) target (s .charges) in
+    let left : List Charge = unfinishedCharges target (s .charges) in
+    record {
+      answer = moved (length report) (length (s .charges) - length left);
+      state = holding s target left;
+      list = written (pairs report) list;
+    }
+
+-- Offer and both replans
+
+-- "Otherwise the station is unchanged. Answer: cause, lateness before and after (equal when kept), rounds used"
+abbrev pub decided : State → ℕ → List ℕ → List ℕ → ℕ → Result
+decided s rounds ss list zero =
+    let new : List Charge = restarted (s .clock) (s .charges) ss in
+    record {
+      answer = planned 0 (lateness (s .charges)) (lateness new) rounds;
+      state = holding s (s .clock) new;
+      list = list;
+    }
+decided s rounds ss list (suc k) =
+    record { answer = planned (suc k) (lateness (s .charges)) (lateness (s .charges)) rounds; state = s; list = list }
+
+-- "All three end with the same test."
+abbrev pub tested : State → ℕ → Proposal → List ℕ → Result
+tested s rounds (starts ss) list = decided s rounds ss list (judged (limitsOf s) (s .clock) (s .charges) ss)
+tested s rounds (none cause) list = decided s rounds [] list cause
+
+unfoldable pub offering : State → List ℕ → Result
+offering s ss = tested s 0 (starts ss) ss
+
+-- "rounds used (0 but by lines)"
+unfoldable pub replanningLatest : State → Result
+replanningLatest s = tested s 0 (latest (limitsOf s) (s .clock) (s .charges)) []
+
+unfoldable pub replanningLines : State → ℕ → Result
+replanningLines s allowance =
+    let r : Replanned = byLines (limitsOf s) (s .clock) allowance (s .charges) in
+    tested s (r .rounds) (r .proposal) []
+
+-- Enquire
+
+-- "waiting with its start, charging with start and end, or refusal 15"
+abbrev pub told : ℕ → List Charge → ℕ → Answer
+told clock [] ticket = refused 15
+told clock (c ∷ cs) ticket =
+    cond (eqb (c .ticket) ticket)
+    (cond (isBegun clock c) (charging (c .start) (endOf c)) (waiting (c .start)))
+    (told clock cs ticket)
+
+unfoldable pub enquiring : State → ℕ → Result
+enquiring s ticket = record { answer = told (s .clock) (s .charges) ticket; state = s; list = [] }
+
+-- One call
+
+-- what comes of a call that is not refused
+abbrev pub granted : State → Call → Result
+granted s (order line p d) = ordering s line p d
+granted s (move target list) = moving s target list
+granted s (offer ss) = offering s ss
+granted s replanLatest = replanningLatest s
+granted s (replanLines allowance) = replanningLines s allowance
+granted s (enquire ticket) = enquiring s ticket
+
+-- "Each gets its number and changes neither the station nor any lent list. No other call is refused, and every call returns."
+abbrev pub step : State → Call → Result
+step s c = answering (firstOf (refusals s c)) s (lent c) (granted s c)
+
+-- "Each call gets the station that the last one left"
+abbrev pub run : State → List Call → List Result
+run s [] = []
+run s (c ∷ cs) = let r : Result = step s c in r ∷ run (r .state) cs

@@ -1,0 +1,70 @@
+-- Charges: what they draw, begun and waiting, finished, last end, lateness (document 01, "The yard and its words").
+use Prim.Native.Nat.{ℕ, _+_, _-_, max}
+use mathlib.Core.Bool.{Bool, not}
+use mathlib.Core.List.{List, [], _∷_, map}
+use lib.Dec.{ltb, leb}
+use Rattle.rules.specs.Basics.{keep}
+use Rattle.rules.specs.Load.{Load, loadFrom}
+
+-- "A charge has a ticket, a line, an order minute, a charging time p, a due minute d and a start s."
+pub record Charge : Type 0 where
+  pub ticket : ℕ
+  pub line : ℕ
+  pub orderMinute : ℕ
+  pub time : ℕ
+  pub due : ℕ
+  pub start : ℕ
+
+-- the same charge with another start
+abbrev pub starting : Charge → ℕ → Charge
+starting c s =
+    record { ticket = c .ticket; line = c .line; orderMinute = c .orderMinute; time = c .time; due = c .due; start = s }
+
+-- "Its end is s + p."
+abbrev pub endOf : Charge → ℕ
+endOf c = c .start + c .time
+
+-- for how many minutes it is active
+abbrev pub activeFor : Charge → ℕ
+activeFor c = c .time
+
+-- "It is active in minutes s to s + p − 1."
+abbrev pub loadOf : Charge → Load
+loadOf c = loadFrom (c .line) (activeFor c) (c .start)
+
+abbrev pub loadsOf : List Charge → List Load
+loadsOf cs = map loadOf cs
+
+-- "It is begun when s is below the clock, else waiting; so a start equal to the clock still waits."
+abbrev pub isBegun : ℕ → Charge → Bool
+isBegun clock c = ltb (c .start) clock
+
+abbrev pub isWaiting : ℕ → Charge → Bool
+isWaiting clock c = not (isBegun clock c)
+
+abbrev pub begunCharges : ℕ → List Charge → List Charge
+begunCharges clock cs = keep (isBegun clock) cs
+
+abbrev pub waitingCharges : ℕ → List Charge → List Charge
+waitingCharges clock cs = keep (isWaiting clock) cs
+
+-- "A charge whose end is at or below the clock is finished."
+abbrev pub isFinished : ℕ → Charge → Bool
+isFinished clock c = leb (endOf c) clock
+
+abbrev pub unfinishedCharges : ℕ → List Charge → List Charge
+unfinishedCharges clock cs = keep (λ c. not (isFinished clock c)) cs
+
+-- "the last end of held charges (0 if none)"
+abbrev pub lastEnd : List Charge → ℕ
+lastEnd [] = 0
+lastEnd (c ∷ cs) = max (endOf c) (lastEnd cs)
+
+-- "max(0, end − d)": a difference of natural numbers is 0 where it would be below
+abbrev pub lateOf : Charge → ℕ
+lateOf c = endOf c - c .due
+
+-- "Lateness is the sum of max(0, end − d) over the charges held."
+abbrev pub lateness : List Charge → ℕ
+lateness [] = 0
+lateness (c ∷ cs) = lateOf c + lateness cs

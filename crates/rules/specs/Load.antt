@@ -1,0 +1,85 @@
+-- Loads, the count of a line in a minute, and soundness (document 01, "The yard and its words").
+use Prim.Native.Nat.{ℕ, zero, suc, _+_, _-_, max, _≤_}
+use mathlib.Core.Bool.{Bool, cond, _&&_}
+use mathlib.Core.List.{List, [], _∷_}
+use lib.Dec.{ltb, leb, eqb}
+use Rattle.rules.specs.Basics.{throughout}
+
+-- What one charge draws: a point on a line, in the minutes from `from` up to, and without, `until`.
+pub record Load : Type 0 where
+  pub line : ℕ
+  pub from : ℕ
+  pub until : ℕ
+
+-- the load on a line that begins in minute s and lasts `time` minutes
+abbrev pub loadFrom : ℕ → ℕ → ℕ → Load
+loadFrom line time s = record { line = line; from = s; until = s + time }
+
+-- "It is active in minutes s to s + p − 1."
+abbrev pub active : Load → ℕ → Bool
+active x t = leb (x .from) t && ltb t (x .until)
+
+-- what an active load of line i adds to the count of line l
+abbrev pub share : ℕ → ℕ → ℕ
+share i l = cond (eqb i l) 1 0
+
+-- what a load adds to the count of line l in minute t
+abbrev pub draws : Load → ℕ → ℕ → ℕ
+draws x l t = cond (active x t) (share (x .line) l) 0
+
+-- "The count of a line in a minute is the number of its active charges."
+abbrev pub count : List Load → ℕ → ℕ → ℕ
+count [] l t = 0
+count (x ∷ xs) l t = draws x l t + count xs l t
+
+-- the counts of all lines in minute t
+abbrev pub counts : List Load → ℕ → ℕ → ℕ
+counts xs t l = count xs l t
+
+-- the minute from which on nothing is drawn, 0 without a load
+abbrev pub lastUntil : List Load → ℕ
+lastUntil [] = 0
+lastUntil (x ∷ xs) = max (x .until) (lastUntil xs)
+
+-- the limit N and the bound D
+pub record Limits : Type 0 where
+  pub limit : ℕ
+  pub bound : ℕ
+
+-- "One feeder, lines 1 to 3."
+pub record IsLine (l : ℕ) : Type 0 where
+  pub low : 1 ≤ l
+  pub high : l ≤ 3
+
+-- f holds on lines 1 to 3
+abbrev pub onLines : (ℕ → Bool) → Bool
+onLines f = throughout f 3 1
+
+-- "each count is at most N"
+unfoldable pub limited : ℕ → (ℕ → ℕ) → Bool
+limited n f = onLines (λ l. leb (f l) n)
+
+-- "each two counts differ by at most D"
+unfoldable pub balanced : ℕ → (ℕ → ℕ) → Bool
+balanced d f = onLines (λ l. onLines (λ m. leb (f l) (f m + d)))
+
+-- three counts within limit and bound
+abbrev pub soundCounts : Limits → (ℕ → ℕ) → Bool
+soundCounts y f = limited (y .limit) f && balanced (y .bound) f
+
+abbrev pub limitAt : Limits → List Load → ℕ → Bool
+limitAt y xs t = limited (y .limit) (counts xs t)
+
+abbrev pub balanceAt : Limits → List Load → ℕ → Bool
+balanceAt y xs t = balanced (y .bound) (counts xs t)
+
+abbrev pub soundAt : Limits → List Load → ℕ → Bool
+soundAt y xs t = soundCounts y (counts xs t)
+
+-- a test "in every minute from the clock on", for tests that hold wherever every count is 0
+abbrev pub fromOn : ℕ → List Load → (ℕ → Bool) → Bool
+fromOn clock xs test = throughout test (lastUntil xs - clock) clock
+
+-- "A plan is sound when in every minute from the clock on each count is at most N and each two counts differ by at most D."
+unfoldable pub sound : Limits → ℕ → List Load → Bool
+sound y clock xs = fromOn clock xs (soundAt y xs)

@@ -1,0 +1,31 @@
+-- The smallest start of a charge, and the first unbalanced minute (document 01, "Order" and both replans).
+-- Past the last end of a plan every count is 0, so each search ends there; proofs/Searches.antt shows that it misses nothing.
+use Prim.Native.Nat.{ℕ, suc, _-_}
+use mathlib.Core.Bool.{not}
+use mathlib.Core.List.{List, [], _∷_, _++_}
+use lib.Dec.{leb}
+use Rattle.rules.specs.Basics.{throughout, Found, first}
+use Rattle.rules.specs.Load.{Load, loadFrom, count, lastUntil, Limits, sound, balanceAt}
+
+-- the loads and one more, on a line for `time` minutes from s on
+abbrev pub added : List Load → ℕ → ℕ → ℕ → List Load
+added xs line time s = xs ++ (loadFrom line time s ∷ [])
+
+-- "The start is the smallest s not below the clock with which the held plan and this charge are sound together."
+unfoldable pub earliest : Limits → ℕ → List Load → ℕ → ℕ → Found
+earliest y clock xs line time = first (λ s. sound y clock (added xs line time s)) (suc (lastUntil xs - clock)) clock
+
+-- the cap of each line in each minute
+abbrev pub Caps : Type 0
+Caps = ℕ → ℕ → ℕ
+
+-- "the smallest start, not below the clock, with the line's count, itself included, at or below the cap in all its minutes"
+unfoldable pub earliestUnder : Caps → ℕ → List Load → ℕ → ℕ → Found
+earliestUnder cap clock xs line time =
+    first (λ s. throughout (λ t. leb (count (added xs line time s) line t) (cap line t)) time s)
+    (suc (lastUntil xs - clock))
+    clock
+
+-- "the first minute t in which two counts differ by more than D, from the clock on"
+unfoldable pub firstUnbalanced : Limits → ℕ → List Load → Found
+firstUnbalanced y clock xs = first (λ t. not (balanceAt y xs t)) (lastUntil xs - clock) clock
