@@ -8,6 +8,11 @@ abbrev pub throughout : (ℕ → Bool) → ℕ → ℕ → Bool
 throughout f zero a = true
 throughout f (suc k) a = f a && throughout f k (suc a)
 
+-- f at each of the k numbers from a on
+abbrev pub tabulate : {A : Type 0} → (ℕ → A) → ℕ → ℕ → List A
+tabulate f zero a = []
+tabulate f (suc k) a = f a ∷ tabulate f k (suc a)
+
 -- what a search answers
 pub data Found : Type 0 where
   at : ℕ → Found

@@ -5,7 +5,7 @@ use mathlib.Core.List.{List, [], _∷_, _++_}
 use lib.Dec.{ltb, leb, eqb}
 use lib.ListN.{length, drop}
 use Rattle.rules.specs.Basics.{Found, at, nothing, firstOf, keep, some, sortedBy}
-use Rattle.rules.specs.Load.{Limits}
+use Rattle.rules.specs.Load.{Limits, limits}
 use Rattle.rules.specs.Charge.{Charge, endOf, activeFor, starting, loadsOf, isBegun, waitingCharges, unfinishedCharges, lateness}
 use Rattle.rules.specs.Search.{earliest}
 use Rattle.rules.specs.Replan.{Proposal, starts, none, latest, Replanned, byLines}
@@ -22,7 +22,7 @@ pub record State : Type 0 where
   pub charges : List Charge
 
 abbrev pub limitsOf : State → Limits
-limitsOf s = record { limit = s .limit; bound = s .bound }
+limitsOf s = limits (s .limit) (s .bound)
 
 -- the same station with another clock and other charges
 abbrev pub holding : State → ℕ → List Charge → State

@@ -46,6 +46,9 @@ pub record Limits : Type 0 where
   pub limit : ℕ
   pub bound : ℕ
 
+abbrev pub limits : ℕ → ℕ → Limits
+limits n d = record { limit = n; bound = d }
+
 -- "One feeder, lines 1 to 3."
 pub record IsLine (l : ℕ) : Type 0 where
   pub low : 1 ≤ l

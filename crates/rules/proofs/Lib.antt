@@ -1,0 +1,4 @@
+pub mod Ranges
+pub mod Lists
+pub mod Counts
+pub mod Searches

@@ -1,0 +1,95 @@
+-- Lists made from a function of the place, and lists of the members that pass a test.
+use mathlib.Core.Path.{_≡_, refl, ap}
+use Prim.Native.Nat.{ℕ, zero, suc, _+_, _≤_, _<_}
+use mathlib.Core.Bool.{Bool, true, false, cond, not, true≢false}
+use mathlib.Core.List.{List, [], _∷_, _++_, map}
+use native.Mathlib.Omega.{arith}
+use native.Mathlib.Numerals.{add-one}
+use lib.ListN.{length, getD}
+use Rattle.rules.specs.Basics.{tabulate, keep}
+
+pub length-tabulate : {A : Type 0} (f : ℕ → A) (k a : ℕ) → length (tabulate f k a) ≡ k
+length-tabulate f zero a = refl
+length-tabulate f (suc k) a = ap suc (length-tabulate f k (suc a))
+
+-- equal functions on the range give equal lists
+pub tabulate-same :
+    {A : Type 0} (f g : ℕ → A) (k a : ℕ)
+    → ((i : ℕ) → a ≤ i → i < a + k → f i ≡ g i)
+    → tabulate f k a ≡ tabulate g k a
+tabulate-same f g zero a h = refl
+tabulate-same f g (suc k) a h =
+    rw (h a (omega arith) (omega arith), tabulate-same f g k (suc a) (λ i p q. h i (omega arith) (omega arith)))
+
+-- one number more
+pub tabulate-more :
+    {A : Type 0} (f : ℕ → A) (k a : ℕ) → tabulate f (suc k) a ≡ tabulate f k a ++ (f (a + k) ∷ [])
+tabulate-more f zero a = rw (nothing-added a)
+  where
+    nothing-added : (a : ℕ) → a + 0 ≡ a
+    nothing-added a = omega arith
+tabulate-more f (suc k) a =
+    ap (λ l. f a ∷ l) (rw (along a k) (tabulate-more f k (suc a)))
+  where
+    along : (a k : ℕ) → a + suc k ≡ suc a + k
+    along a k = omega arith
+
+-- one number more, as code counts
+pub tabulate-next :
+    {A : Type 0} (f : ℕ → A) (k : ℕ) → tabulate f (k + 1) 0 ≡ tabulate f k 0 ++ (f k ∷ [])
+tabulate-next f k = rw (add-one k, tabulate-more f k 0) (ap (λ (i : ℕ). tabulate f k 0 ++ (f i ∷ [])) (from-zero k))
+  where
+    from-zero : (k : ℕ) → 0 + k ≡ k
+    from-zero k = omega arith
+
+pub tabulate-join :
+    {A : Type 0} (f : ℕ → A) (j k a : ℕ) → tabulate f (j + k) a ≡ tabulate f j a ++ tabulate f k (a + j)
+tabulate-join f zero k a = rw (left k, right a)
+  where
+    left : (k : ℕ) → 0 + k ≡ k
+    left k = omega arith
+
+    right : (a : ℕ) → a + 0 ≡ a
+    right a = omega arith
+tabulate-join f (suc j) k a =
+    rw (left j k) (ap (λ l. f a ∷ l) (rw (right a j) (tabulate-join f j k (suc a))))
+  where
+    left : (j k : ℕ) → suc j + k ≡ suc (j + k)
+    left j k = omega arith
+
+    right : (a j : ℕ) → a + suc j ≡ suc a + j
+    right a j = omega arith
+
+pub map-tabulate :
+    {A : Type 0} {B : Type 0} (g : A → B) (f : ℕ → A) (k a : ℕ) → map g (tabulate f k a) ≡ tabulate (λ i. g (f i)) k a
+map-tabulate g f zero a = refl
+map-tabulate g f (suc k) a = ap (λ l. g (f a) ∷ l) (map-tabulate g f k (suc a))
+
+pub getD-tabulate :
+    {A : Type 0} (f : ℕ → A) (k a i : ℕ) (d : A) → i < k → getD (tabulate f k a) i d ≡ f (a + i)
+getD-tabulate f zero a i d h = absurd (omega arith)
+getD-tabulate f (suc k) a zero d h = ap f (same a)
+  where
+    same : (a : ℕ) → a ≡ a + 0
+    same a = omega arith
+getD-tabulate f (suc k) a (suc i) d h = rw (along a i) (getD-tabulate f k (suc a) i d (omega arith))
+  where
+    along : (a i : ℕ) → a + suc i ≡ suc a + i
+    along a i = omega arith
+
+pub map-append : {A : Type 0} {B : Type 0} (g : A → B) (xs ys : List A) → map g (xs ++ ys) ≡ map g xs ++ map g ys
+map-append g [] ys = refl
+map-append g (x ∷ xs) ys = ap (λ l. g x ∷ l) (map-append g xs ys)
+
+-- The members that pass a test
+
+pub keep-append : {A : Type 0} (f : A → Bool) (xs ys : List A) → keep f (xs ++ ys) ≡ keep f xs ++ keep f ys
+keep-append f [] ys = refl
+keep-append f (x ∷ xs) ys = go (f x) (keep-append f xs ys)
+  where
+    go :
+        (b : Bool)
+        → keep f (xs ++ ys) ≡ keep f xs ++ keep f ys
+        → cond b (x ∷ keep f (xs ++ ys)) (keep f (xs ++ ys)) ≡ cond b (x ∷ keep f xs) (keep f xs) ++ keep f ys
+    go true ih = rw ih
+    go false ih = ih
