@@ -2,3 +2,4 @@ pub mod Ranges
 pub mod Lists
 pub mod Counts
 pub mod Searches
+pub mod Sorting

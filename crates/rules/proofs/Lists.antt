@@ -6,7 +6,7 @@ use mathlib.Core.List.{List, [], _∷_, _++_, map}
 use native.Mathlib.Omega.{arith}
 use native.Mathlib.Numerals.{add-one}
 use lib.ListN.{length, getD}
-use Rattle.rules.specs.Basics.{tabulate, keep}
+use Rattle.rules.specs.Basics.{Each, tabulate, keep}
 
 pub length-tabulate : {A : Type 0} (f : ℕ → A) (k a : ℕ) → length (tabulate f k a) ≡ k
 length-tabulate f zero a = refl
@@ -93,3 +93,13 @@ keep-append f (x ∷ xs) ys = go (f x) (keep-append f xs ys)
         → cond b (x ∷ keep f (xs ++ ys)) (keep f (xs ++ ys)) ≡ cond b (x ∷ keep f xs) (keep f xs) ++ keep f ys
     go true ih = rw ih
     go false ih = ih
+
+-- A property of each member
+
+pub each-map : {A : Type 0} (P Q : A → Type 0) → ((a : A) → P a → Q a) → (l : List A) → Each P l → Each Q l
+each-map P Q f [] e = tt
+each-map P Q f (a ∷ l) e = (f a (e .0), each-map P Q f l (e .1))
+
+pub each-append : {A : Type 0} (P : A → Type 0) (l m : List A) → Each P l → Each P m → Each P (l ++ m)
+each-append P [] m d e = e
+each-append P (a ∷ l) m d e = (d .0, each-append P l m (d .1) e)

@@ -6,7 +6,7 @@ use lib.Dec.{ltb, leb, eqb}
 use lib.ListN.{length, drop}
 use Rattle.rules.specs.Basics.{Found, at, nothing, firstOf, keep, some, sortedBy}
 use Rattle.rules.specs.Load.{Limits, limits}
-use Rattle.rules.specs.Charge.{Charge, endOf, activeFor, starting, loadsOf, isBegun, waitingCharges, unfinishedCharges, lateness}
+use Rattle.rules.specs.Charge.{Charge, endOf, activeFor, starting, loadsOf, isBegun, waitingCharges, unfinishedCharges, thenTicket, lateness}
 use Rattle.rules.specs.Search.{earliest}
 use Rattle.rules.specs.Replan.{Proposal, starts, none, latest, Replanned, byLines}
 use Rattle.rules.specs.Judgement.{restarted, judged}
@@ -177,7 +177,7 @@ isPassed clock target c = leb clock (c .start) && ltb (c .start) target
 
 -- "ordered by start, then ticket"
 abbrev pub startBefore : Charge → Charge → Bool
-startBefore a b = ltb (a .start) (b .start) || (eqb (a .start) (b .start) && ltb (a .ticket) (b .ticket))
+startBefore a b = thenTicket (a .start) (b .start) a b
 
 abbrev pub reported : ℕ → ℕ → List Charge → List Charge
 reported clock target cs = sortedBy startBefore (keep (isPassed clock target) cs)
