@@ -6,7 +6,7 @@ use mathlib.Core.Bool.{Bool, true, false, cond}
 use mathlib.Core.List.{List, [], _∷_, _++_, map}
 use lib.Dec.{eqb}
 use Rattle.rules.specs.Load.{Load, loadFrom, count}
-use Rattle.rules.specs.Calls.{State, Answer, refused, opened, ordered, moved, planned, waiting, charging, Result, Call, order, move, offer, replanLatest, replanLines, enquire, step, run}
+use Rattle.rules.specs.Calls.{State, Answer, refused, opened, ordered, moved, planned, waiting, charging, Result, Call, order, move, offer, replanLatest, replanLines, enquire, step}
 
 -- P holds for each member of a list
 abbrev pub Each {ℓ} : {A : Type ℓ} → (A → Type 0) → List A → Type 0
@@ -103,7 +103,8 @@ learnt clock (enquire ticket) a list = nothingNew clock
 
 -- What is known after a list of calls
 
--- the clock, all accepted orders and all reports, in the order of the calls; the station left serves for enquiries only
+-- the clock, all accepted orders and all reports, in the order of the calls;
+-- the station left serves for the next call and for enquiries only
 pub record Past : Type 0 where
   pub clock : ℕ
   pub orders : List Order
@@ -124,13 +125,13 @@ extended h c r =
       station = r .state;
     }
 
-abbrev pub after : Past → List Call → List Result → Past
-after h [] rs = h
-after h (c ∷ cs) [] = h
-after h (c ∷ cs) (r ∷ rs) = after (extended h c r) cs rs
+-- "Each call gets the station that the last one left"
+abbrev pub after : Past → List Call → Past
+after h [] = h
+after h (c ∷ calls) = after (extended h c (step (h .station) c)) calls
 
 abbrev pub past : State → List Call → Past
-past s calls = after (beginning s) calls (run s calls)
+past s calls = after (beginning s) calls
 
 -- Reports, starts and counts
 
