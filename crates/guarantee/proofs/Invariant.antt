@@ -69,7 +69,7 @@ pub judged-taken : (y : Limits) (k : ℕ) (cs : List Charge) (ss : List ℕ) →
 unfolding judged
 judged-taken y k cs ss e =
     let new : List Charge = restarted k cs ss in
-    let p = firstOf-none (causes y k cs ss new) (omega arith) e in
+    let p = firstOf-none 0 (causes y k cs ss new) (omega arith) e in
     record {
       none-early = p .0;
       not-longer = ltb-false (lastEnd cs) (lastEnd new) (p .1 .0);

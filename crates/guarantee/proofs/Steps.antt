@@ -19,8 +19,9 @@ use Rattle.rules.specs.Calls.{State, limitsOf, Answer, refused, Result, answeri
 use Rattle.rules.proofs.Ranges.{or-left, IsFirst}
 use Rattle.rules.proofs.Lists.{keep-append}
 use Rattle.rules.proofs.Searches.{earliest-first}
-use Rattle.guarantee.specs.Past.{Each, Order, Report, Learnt, nothingNew, learnt, Past, extended, after}
-use Rattle.guarantee.proofs.Tables.{NoneHolds, firstOf-none}
+use Rattle.guarantee.specs.Past.{Order, Report, Learnt, nothingNew, learnt, Past, extended, after}
+use Rattle.guarantee.specs.DemandOne.{NoneApplies}
+use Rattle.guarantee.proofs.Tables.{Ascending, firstOf-none}
 use Rattle.guarantee.proofs.History.{orderOf, Replanned, end, same, other, restarted-none, unfinished-later}
 use Rattle.guarantee.proofs.Invariant.{Invariant, Taken, judged-taken, after-order, after-move, after-plan, plan-replanned, plan-held}
 
@@ -93,14 +94,14 @@ refused-learnt k j replanLatest list = refl
 refused-learnt k j (replanLines allowance) list = refl
 refused-learnt k j (enquire ticket) list = refl
 
--- refusals have numbers from 1 on
-pub refusals-positive : (s : State) (c : Call) → Each (λ row. 1 ≤ row .1) (refusals s c)
-refusals-positive s (order line p d) = omega arith
-refusals-positive s (move target list) = omega arith
-refusals-positive s (offer ss) = omega arith
-refusals-positive s replanLatest = tt
-refusals-positive s (replanLines allowance) = omega arith
-refusals-positive s (enquire ticket) = omega arith
+-- the numbers of the refusals of a call rise
+pub refusals-ascend : (s : State) (c : Call) → Ascending 1 (refusals s c)
+refusals-ascend s (order line p d) = omega arith
+refusals-ascend s (move target list) = omega arith
+refusals-ascend s (offer ss) = omega arith
+refusals-ascend s replanLatest = tt
+refusals-ascend s (replanLines allowance) = omega arith
+refusals-ascend s (enquire ticket) = omega arith
 
 module _
     (s : State) (k : ℕ) (os : List Order) (hs : List Charge) (rs : List Report)
@@ -185,7 +186,7 @@ module _
     -- a call that is not refused
     granted-next :
         (c : Call)
-        → NoneHolds (refusals (stationOf s k os hs) c)
+        → NoneApplies (refusals (stationOf s k os hs) c)
         → Next s k os hs rs c (granted (stationOf s k os hs) c)
     unfolding ordering moving offering replanningLatest replanningLines enquiring
     granted-next (order line p d) q =
@@ -217,7 +218,7 @@ module _
         go (firstOf (refusals (stationOf s k os hs) c))
         (λ e.
         granted-next c
-        (firstOf-none (refusals (stationOf s k os hs) c) (refusals-positive (stationOf s k os hs) c) e))
+        (firstOf-none 0 (refusals (stationOf s k os hs) c) (refusals-ascend (stationOf s k os hs) c) e))
       where
         go :
             (j : ℕ)

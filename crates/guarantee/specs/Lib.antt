@@ -1,3 +1,4 @@
 pub mod Past
+pub mod DemandOne
 pub mod DemandThree
 pub mod Example
