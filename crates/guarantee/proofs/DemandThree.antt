@@ -6,13 +6,14 @@ use mathlib.Core.List.{List, [], _∷_, _++_, map}
 use native.Mathlib.Omega.{arith}
 use lib.Dec.{eqb}
 use borrow.Author.Tests.{ltb-false, lt-ltb, le-ltb, eq-eqb, ne-eqb}
-use Rattle.rules.specs.Basics.{firstOf, some}
+use Rattle.rules.specs.Basics.{Each, firstOf, some}
 use Rattle.rules.specs.Load.{Limits, count}
 use Rattle.rules.specs.Charge.{Charge, endOf, loadsOf, isBegun, unfinishedCharges}
 use Rattle.rules.specs.Calls.{State, limitsOf, told, opened, answering, boundOf, fresh, openRefusals, opening, Call}
-use Rattle.guarantee.specs.Past.{Each, Order, Past, beginning, past, timesReported, enquiry, startIn, startOf, loadOf, countIn, totalTime, lastMinute}
+use Rattle.guarantee.specs.Past.{Order, Past, beginning, past, timesReported, enquiry, startIn, startOf, loadOf, countIn, totalTime, lastMinute}
 use Rattle.guarantee.specs.DemandThree.{Kept, Unmoved, DemandThree}
-use Rattle.guarantee.proofs.Each.{each-map, each-two, each-image}
+use Rattle.rules.proofs.Lists.{each-map}
+use Rattle.guarantee.proofs.Each.{each-two, each-image}
 use Rattle.guarantee.proofs.History.{Fit, orderOf, ordersOf}
 use Rattle.guarantee.proofs.Reports.{Worth, sumReports, sumBegun}
 use Rattle.guarantee.proofs.Tickets.{isTicket, isPair, times-sum, not-reported-start, once-reported-start, sum-of-own, sum-ours, enquiry-told, Told, told-each}

@@ -2,27 +2,28 @@
 use mathlib.Core.Logic.{_⊎_, inl, inr}
 use mathlib.Core.Path.{_≡_, refl, sym, ap, _∙_}
 use Prim.Native.Nat.{ℕ, suc, _+_, _-_, _≤_, _<_}
-use mathlib.Core.Bool.{Bool, true, false, not}
+use mathlib.Core.Bool.{true, not}
 use mathlib.Core.List.{List, [], _∷_, _++_, map}
 use native.Mathlib.Omega.{arith}
-use lib.Dec.{ltb}
 use lib.ListN.{length, length-append}
-use borrow.Author.Tests.{ltb-true, ltb-false, not-false, le-ltb}
-use Rattle.rules.specs.Basics.{some, keep, sortedBy}
-use Rattle.rules.specs.Load.{Limits, count, counts, lastUntil, limitAt, balanceAt, fromOn, sound}
-use Rattle.rules.specs.Charge.{Charge, endOf, loadOf, loadsOf, unfinishedCharges, isFinished, lastEnd, lateness}
+use borrow.Author.Tests.{le-ltb}
+use Rattle.rules.specs.Basics.{Each, keep}
+use Rattle.rules.specs.Load.{Limits, counts, lastUntil, sound}
+use Rattle.rules.specs.Charge.{Charge, endOf, loadOf, loadsOf, isFinished, unfinishedCharges, lastEnd}
 use Rattle.rules.specs.Search.{added}
-use Rattle.rules.specs.Judgement.{restarted, causes, judged}
+use Rattle.rules.specs.Judgement.{restarted}
 use Rattle.rules.specs.Calls.{isPassed, startBefore, reported, pairs}
+use Rattle.rules.specs.Valid.{Rising}
 use Rattle.rules.proofs.Ranges.{below-or-not}
-use Rattle.rules.proofs.Lists.{map-append}
-use Rattle.rules.proofs.Counts.{Sound, sound-same, sound-from, fromOn-at, limit-past, balance-past, limited-at, balanced-at, count-append, draws-before}
-use Rattle.guarantee.specs.Past.{Each, Order, Report, firstPairs, Numbered, totalTime, lastMinute}
-use Rattle.guarantee.proofs.Each.{each-map, each-two, each-append}
-use Rattle.guarantee.proofs.Tables.{firstOf-none}
-use Rattle.guarantee.proofs.History.{orderOf, ordersOf, Fit, count-unfinished, until-end, lastEnd-keep, unfinished-lastEnd, Replanned, restarted-replanned, restarted-unfinished, replanned-orders, replanned-count, replanned-each}
-use Rattle.guarantee.proofs.Reports.{Worth, sumReports, sumBegun, sumReports-append, sumBegun-append, sum-sorted, sum-pairs, sum-passed, sum-replanned}
-use Rattle.guarantee.proofs.Tickets.{Rising, rising-append, replanned-rising}
+use Rattle.rules.proofs.Lists.{map-append, each-map, each-append}
+use Rattle.rules.proofs.Counts.{Sound, sound-same, sound-from, count-append, draws-before}
+use Rattle.rules.proofs.Judgements.{Meets}
+use Rattle.rules.proofs.Validity.{last-until, Restarted, restarted-is, restarted-each, count-unfinished}
+use Rattle.guarantee.specs.Past.{Order, Report, firstPairs, Numbered, totalTime, lastMinute}
+use Rattle.guarantee.proofs.Each.{each-two}
+use Rattle.guarantee.proofs.History.{orderOf, ordersOf, Fit, lastEnd-keep, unfinished-lastEnd, restarted-unfinished, restarted-orders, restarted-count}
+use Rattle.guarantee.proofs.Reports.{Worth, sumReports, sumBegun, sumReports-append, sumBegun-append, sum-sorted, sum-pairs, sum-passed, sum-restarted}
+use Rattle.guarantee.proofs.Tickets.{rising-append, restarted-rising}
 
 -- y: limit and bound; k: the clock; os: the accepted orders; hs: the history; rs: the reports
 pub record Invariant (y : Limits) (k : ℕ) (os : List Order) (hs : List Charge) (rs : List Report) : Type 0 where
@@ -57,47 +58,7 @@ lastMinute-append : (m : ℕ) (os : List Order) (o : Order) → lastMinute m (os
 lastMinute-append m [] o = refl
 lastMinute-append m (x ∷ os) o = lastMinute-append (x .minute) os o
 
--- What a plan that is taken has passed
-
-pub record Taken (y : Limits) (k : ℕ) (cs : List Charge) (ss : List ℕ) : Type 0 where
-  pub none-early : some (λ s. ltb s k) ss ≡ false
-  pub not-longer : lastEnd (restarted k cs ss) ≤ lastEnd cs
-  pub sound-on : (t : ℕ) → k ≤ t → Sound y (counts (loadsOf (restarted k cs ss)) t)
-  pub less-late : lateness (restarted k cs ss) < lateness cs
-
-pub judged-taken : (y : Limits) (k : ℕ) (cs : List Charge) (ss : List ℕ) → judged y k cs ss ≡ 0 → Taken y k cs ss
-unfolding judged
-judged-taken y k cs ss e =
-    let new : List Charge = restarted k cs ss in
-    let p = firstOf-none 0 (causes y k cs ss new) (omega arith) e in
-    record {
-      none-early = p .0;
-      not-longer = ltb-false (lastEnd cs) (lastEnd new) (p .1 .0);
-      sound-on =
-          λ t h.
-          record {
-            limit =
-                limited-at (y .limit) (counts (loadsOf new) t)
-                (fromOn-at k (loadsOf new) (limitAt y (loadsOf new)) (limit-past y (loadsOf new))
-                (not-false _ (p .1 .1 .0))
-                t h);
-            balance =
-                balanced-at (y .bound) (counts (loadsOf new) t)
-                (fromOn-at k (loadsOf new) (balanceAt y (loadsOf new)) (balance-past y (loadsOf new))
-                (not-false _ (p .1 .1 .1 .0))
-                t h);
-          };
-      less-late = ltb-true (lateness new) (lateness cs) (not-false _ (p .1 .1 .1 .1 .0));
-    }
-
 module _ (y : Limits) (k : ℕ) (os : List Order) (hs : List Charge) (rs : List Report) (inv : Invariant y k os hs rs) where
-  -- the held plan is sound from the clock on
-  pub held-sound : (t : ℕ) → k ≤ t → Sound y (counts (loadsOf (unfinishedCharges k hs)) t)
-  held-sound t h =
-      sound-same y (counts (loadsOf hs) t) (counts (loadsOf (unfinishedCharges k hs)) t)
-      (λ l j. count-unfinished k hs l t h)
-      (inv .always t)
-
   -- An order
 
   module _
@@ -147,7 +108,7 @@ module _ (y : Limits) (k : ℕ) (os : List Order) (hs : List Charge) (rs : List 
           (λ x h. omega (arith, inv .last))
           hs
           (inv .in-time))
-          (omega (arith, inv .last, until-end (unfinishedCharges k hs)), tt)
+          (omega (arith, inv .last, last-until (unfinishedCharges k hs)), tt)
 
       pub after-order : Invariant y k (os ++ (orderOf c ∷ [])) (hs ++ (c ∷ [])) rs
       after-order =
@@ -208,72 +169,75 @@ module _ (y : Limits) (k : ℕ) (os : List Order) (hs : List Charge) (rs : List 
 
   -- A plan that is taken
 
-  module _ (ss : List ℕ) (ok : Taken y k (unfinishedCharges k hs) ss) where
-    pub plan-replanned : Replanned k hs (restarted k hs ss)
-    plan-replanned = restarted-replanned k hs ss (ok .none-early)
+  module _
+      (ss : List ℕ)
+      (ok : Meets y k (unfinishedCharges k hs) ss (restarted k (unfinishedCharges k hs) ss))
+    where
+      pub plan-restarted : Restarted k hs (restarted k hs ss)
+      plan-restarted = restarted-is k hs ss (ok .none-early)
 
-    pub plan-held : restarted k (unfinishedCharges k hs) ss ≡ unfinishedCharges k (restarted k hs ss)
-    plan-held = restarted-unfinished k hs ss (inv .fit) (ok .none-early)
+      pub plan-held : restarted k (unfinishedCharges k hs) ss ≡ unfinishedCharges k (restarted k hs ss)
+      plan-held = restarted-unfinished k hs ss (inv .fit) (ok .none-early)
 
-    plan-always : (t : ℕ) → Sound y (counts (loadsOf (restarted k hs ss)) t)
-    plan-always t = go (below-or-not t k)
-      where
-        go : (t < k) ⊎ (k ≤ t) → Sound y (counts (loadsOf (restarted k hs ss)) t)
-        go (inl h) =
-            sound-same y (counts (loadsOf hs) t) (counts (loadsOf (restarted k hs ss)) t)
-            (λ l j. replanned-count plan-replanned l t h)
-            (inv .always t)
-        go (inr h) =
-            sound-same y
-            (counts (loadsOf (restarted k (unfinishedCharges k hs) ss)) t)
-            (counts (loadsOf (restarted k hs ss)) t)
-            (λ l j. rw plan-held (sym (count-unfinished k (restarted k hs ss) l t h)))
-            (ok .sound-on t h)
+      plan-always : (t : ℕ) → Sound y (counts (loadsOf (restarted k hs ss)) t)
+      plan-always t = go (below-or-not t k)
+        where
+          go : (t < k) ⊎ (k ≤ t) → Sound y (counts (loadsOf (restarted k hs ss)) t)
+          go (inl h) =
+              sound-same y (counts (loadsOf hs) t) (counts (loadsOf (restarted k hs ss)) t)
+              (λ l j. restarted-count plan-restarted l t h)
+              (inv .always t)
+          go (inr h) =
+              sound-same y
+              (counts (loadsOf (restarted k (unfinishedCharges k hs) ss)) t)
+              (counts (loadsOf (restarted k hs ss)) t)
+              (λ l j. rw plan-held (sym (count-unfinished k (restarted k hs ss) l t h)))
+              (record { limit = ok .limit t h; balance = ok .balance t h })
 
-    -- ends of unfinished charges are bounded by the last end, ends of finished ones did not change
-    plan-in-time : (b : ℕ) → Each (λ c. endOf c ≤ b) hs → Each (λ c. endOf c ≤ b) (restarted k hs ss)
-    plan-in-time b e =
-        each-two
-        (λ c. (1 ≤ c .time) × (endOf c ≤ k → endOf c ≤ b))
-        (λ c. k < endOf c → endOf c ≤ b)
-        (λ c. endOf c ≤ b)
-        (λ c p q. go c (below-or-not k (endOf c)) (p .1) q)
-        (restarted k hs ss)
-        (replanned-each
-        (λ c. (1 ≤ c .time) × (endOf c ≤ k → endOf c ≤ b))
-        (λ c s h p. (p .0, λ q. absurd (omega arith)))
-        plan-replanned
-        (each-two (Fit k) (λ c. endOf c ≤ b) (λ c. (1 ≤ c .time) × (endOf c ≤ k → endOf c ≤ b))
-        (λ c f h. (f .lasts, λ q. h))
-        hs
-        (inv .fit)
-        e))
-        (unfinished-lastEnd k b (restarted k hs ss)
-        (rw (← plan-held) (omega (arith, ok .not-longer, lastEnd-keep (λ c. not (isFinished k c)) b hs e))))
-      where
-        go :
-            (c : Charge)
-            → (k < endOf c) ⊎ (endOf c ≤ k)
-            → (endOf c ≤ k → endOf c ≤ b)
-            → (k < endOf c → endOf c ≤ b)
-            → endOf c ≤ b
-        go c (inl h) p q = q h
-        go c (inr h) p q = p h
+      -- ends of unfinished charges are bounded by the last end, ends of finished ones did not change
+      plan-in-time : (b : ℕ) → Each (λ c. endOf c ≤ b) hs → Each (λ c. endOf c ≤ b) (restarted k hs ss)
+      plan-in-time b e =
+          each-two
+          (λ c. (1 ≤ c .time) × (endOf c ≤ k → endOf c ≤ b))
+          (λ c. k < endOf c → endOf c ≤ b)
+          (λ c. endOf c ≤ b)
+          (λ c p q. go c (below-or-not k (endOf c)) (p .1) q)
+          (restarted k hs ss)
+          (restarted-each
+          (λ c. (1 ≤ c .time) × (endOf c ≤ k → endOf c ≤ b))
+          (λ c s h p. (p .0, λ q. absurd (omega arith)))
+          plan-restarted
+          (each-two (Fit k) (λ c. endOf c ≤ b) (λ c. (1 ≤ c .time) × (endOf c ≤ k → endOf c ≤ b))
+          (λ c f h. (f .lasts, λ q. h))
+          hs
+          (inv .fit)
+          e))
+          (unfinished-lastEnd k b (restarted k hs ss)
+          (rw (← plan-held) (omega (arith, ok .not-later, lastEnd-keep (λ c. not (isFinished k c)) b hs e))))
+        where
+          go :
+              (c : Charge)
+              → (k < endOf c) ⊎ (endOf c ≤ k)
+              → (endOf c ≤ k → endOf c ≤ b)
+              → (k < endOf c → endOf c ≤ b)
+              → endOf c ≤ b
+          go c (inl h) p q = q h
+          go c (inr h) p q = p h
 
-    pub after-plan : Invariant y k os (restarted k hs ss) rs
-    after-plan =
-        record {
-          numbered = inv .numbered;
-          last = inv .last;
-          orders = replanned-orders plan-replanned ∙ inv .orders;
-          rising = replanned-rising plan-replanned 1 (inv .rising);
-          given = replanned-each (λ c. c .ticket ≤ length os) (λ c s h g. g) plan-replanned (inv .given);
-          fit =
-              replanned-each (Fit k)
-              (λ c s h f. record { lasts = f .lasts; known = f .known; not-early = omega (arith, f .known) })
-              plan-replanned
-              (inv .fit);
-          in-time = plan-in-time (lastMinute 0 os + totalTime os) (inv .in-time);
-          always = plan-always;
-          reports = λ f. inv .reports f ∙ sym (sum-replanned f plan-replanned);
-        }
+      pub after-plan : Invariant y k os (restarted k hs ss) rs
+      after-plan =
+          record {
+            numbered = inv .numbered;
+            last = inv .last;
+            orders = restarted-orders plan-restarted ∙ inv .orders;
+            rising = restarted-rising plan-restarted 1 (inv .rising);
+            given = restarted-each (λ c. c .ticket ≤ length os) (λ c s h g. g) plan-restarted (inv .given);
+            fit =
+                restarted-each (Fit k)
+                (λ c s h f. record { lasts = f .lasts; known = f .known; not-early = omega (arith, f .known) })
+                plan-restarted
+                (inv .fit);
+            in-time = plan-in-time (lastMinute 0 os + totalTime os) (inv .in-time);
+            always = plan-always;
+            reports = λ f. inv .reports f ∙ sym (sum-restarted f plan-restarted);
+          }

@@ -6,3 +6,4 @@ pub mod Tickets
 pub mod Invariant
 pub mod Steps
 pub mod DemandThree
+pub mod DemandOne

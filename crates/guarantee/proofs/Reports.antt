@@ -7,11 +7,12 @@ use mathlib.Core.List.{List, [], _∷_, _++_}
 use native.Mathlib.Omega.{arith}
 use lib.ListN.{length}
 use borrow.Author.Tests.{ltb-true, ltb-false, leb-true, le-ltb, le-leb, lt-leb}
-use Rattle.rules.specs.Basics.{keep, insertBy, sortedBy}
+use Rattle.rules.specs.Basics.{Each, keep, insertBy, sortedBy}
 use Rattle.rules.specs.Charge.{Charge, endOf, isBegun, isFinished, unfinishedCharges}
 use Rattle.rules.specs.Calls.{isPassed, pairs}
-use Rattle.guarantee.specs.Past.{Each, Report, firstPairs}
-use Rattle.guarantee.proofs.History.{Fit, Replanned, end, same, other}
+use Rattle.rules.proofs.Validity.{Restarted, empty, same, other}
+use Rattle.guarantee.specs.Past.{Report, firstPairs}
+use Rattle.guarantee.proofs.History.{Fit}
 
 -- a number made of ticket and start
 abbrev pub Worth : Type 0
@@ -103,8 +104,8 @@ sum-passed f k m (c ∷ cs) h e =
         absurd (omega arith)
 
 -- a taken plan changes nothing that is begun
-pub sum-replanned : (f : Worth) {k : ℕ} {cs ds : List Charge} → Replanned k cs ds → sumBegun f k ds ≡ sumBegun f k cs
-sum-replanned f end = refl
-sum-replanned f (same r) = rw (sum-replanned f r)
-sum-replanned f {k} (other {c = c} {s = s} h j r) =
-    rw (sum-replanned f r, le-ltb (c .start) k h, le-ltb s k j)
+pub sum-restarted : (f : Worth) {k : ℕ} {cs ds : List Charge} → Restarted k cs ds → sumBegun f k ds ≡ sumBegun f k cs
+sum-restarted f empty = refl
+sum-restarted f (same r) = rw (sum-restarted f r)
+sum-restarted f {k} (other {c = c} {s = s} h j r) =
+    rw (sum-restarted f r, le-ltb (c .start) k h, le-ltb s k j)

@@ -19,11 +19,13 @@ use Rattle.rules.specs.Calls.{State, limitsOf, Answer, refused, Result, answeri
 use Rattle.rules.proofs.Ranges.{or-left, IsFirst}
 use Rattle.rules.proofs.Lists.{keep-append}
 use Rattle.rules.proofs.Searches.{earliest-first}
+use Rattle.rules.proofs.Tables.{NoneHolds, firstOf-none}
+use Rattle.rules.proofs.Judgements.{judged-meets}
+use Rattle.rules.proofs.Validity.{Restarted, empty, same, other}
 use Rattle.guarantee.specs.Past.{Order, Report, Learnt, nothingNew, learnt, Past, extended, after}
-use Rattle.guarantee.specs.DemandOne.{NoneApplies}
-use Rattle.guarantee.proofs.Tables.{Ascending, firstOf-none}
-use Rattle.guarantee.proofs.History.{orderOf, Replanned, end, same, other, restarted-none, unfinished-later}
-use Rattle.guarantee.proofs.Invariant.{Invariant, Taken, judged-taken, after-order, after-move, after-plan, plan-replanned, plan-held}
+use Rattle.guarantee.proofs.Tables.{ascending-numbered, refusals-ascend}
+use Rattle.guarantee.proofs.History.{orderOf, unfinished-later}
+use Rattle.guarantee.proofs.Invariant.{Invariant, after-order, after-move, after-plan, plan-restarted, plan-held}
 
 -- the station that is left: s is the one that the opening gave, k the clock, os the accepted orders, hs the history
 abbrev pub stationOf : State → ℕ → List Order → List Charge → State
@@ -57,11 +59,11 @@ grown-refl : (k : ℕ) (cs : List Charge) → Grown k cs cs
 grown-refl k [] = more
 grown-refl k (c ∷ cs) = on refl (λ h. refl) (grown-refl k cs)
 
-grown-replanned : {k : ℕ} {cs ds : List Charge} → Replanned k cs ds → Grown k cs ds
-grown-replanned end = more
-grown-replanned (same r) = on refl (λ h. refl) (grown-replanned r)
-grown-replanned (other {c = c} {s = s} i j r) =
-    on {c = c} {d = starting c s} refl (λ h. absurd (omega arith)) (grown-replanned r)
+grown-restarted : {k : ℕ} {cs ds : List Charge} → Restarted k cs ds → Grown k cs ds
+grown-restarted empty = more
+grown-restarted (same r) = on refl (λ h. refl) (grown-restarted r)
+grown-restarted (other {c = c} {s = s} i j r) =
+    on {c = c} {d = starting c s} refl (λ h. absurd (omega arith)) (grown-restarted r)
 
 grown-trans : {k m : ℕ} {cs ds es : List Charge} → k ≤ m → Grown k cs ds → Grown m ds es → Grown k cs es
 grown-trans h more b = more
@@ -93,15 +95,6 @@ refused-learnt k j (offer ss) list = refl
 refused-learnt k j replanLatest list = refl
 refused-learnt k j (replanLines allowance) list = refl
 refused-learnt k j (enquire ticket) list = refl
-
--- the numbers of the refusals of a call rise
-pub refusals-ascend : (s : State) (c : Call) → Ascending 1 (refusals s c)
-refusals-ascend s (order line p d) = omega arith
-refusals-ascend s (move target list) = omega arith
-refusals-ascend s (offer ss) = omega arith
-refusals-ascend s replanLatest = tt
-refusals-ascend s (replanLines allowance) = omega arith
-refusals-ascend s (enquire ticket) = omega arith
 
 module _
     (s : State) (k : ℕ) (os : List Order) (hs : List Charge) (rs : List Report)
@@ -142,18 +135,13 @@ module _
             → judged (limitsOf s) k (unfinishedCharges k hs) ss ≡ j
             → Next s k os hs rs c (decided (stationOf s k os hs) rounds ss list j)
         go zero q =
-            let ok : Taken (limitsOf s) k (unfinishedCharges k hs) ss
-            = judged-taken (limitsOf s) k (unfinishedCharges k hs) ss q in
+            let ok = judged-meets (limitsOf s) k (unfinishedCharges k hs) ss q in
             becomes c _ (restarted k hs ss) (e _)
             (rw (plan-held (limitsOf s) k os hs rs inv ss ok))
             (after-plan (limitsOf s) k os hs rs inv ss ok)
-            (grown-replanned (plan-replanned (limitsOf s) k os hs rs inv ss ok))
+            (grown-restarted (plan-restarted (limitsOf s) k os hs rs inv ss ok))
         go (suc j) q = stays c _ (e _) refl
-    tested-next c rounds (none cause) list e = go cause
-      where
-        go : (j : ℕ) → Next s k os hs rs c (decided (stationOf s k os hs) rounds [] list j)
-        go zero = stays c _ (e _) (rw (restarted-none k (unfinishedCharges k hs)))
-        go (suc j) = stays c _ (e _) refl
+    tested-next c rounds (none cause) list e = stays c _ (e _) refl
 
     order-next :
         (line p d : ℕ)
@@ -186,7 +174,7 @@ module _
     -- a call that is not refused
     granted-next :
         (c : Call)
-        → NoneApplies (refusals (stationOf s k os hs) c)
+        → NoneHolds (refusals (stationOf s k os hs) c)
         → Next s k os hs rs c (granted (stationOf s k os hs) c)
     unfolding ordering moving offering replanningLatest replanningLines enquiring
     granted-next (order line p d) q =
@@ -218,7 +206,9 @@ module _
         go (firstOf (refusals (stationOf s k os hs) c))
         (λ e.
         granted-next c
-        (firstOf-none 0 (refusals (stationOf s k os hs) c) (refusals-ascend (stationOf s k os hs) c) e))
+        (firstOf-none (refusals (stationOf s k os hs) c)
+        (ascending-numbered 0 (refusals (stationOf s k os hs) c) (refusals-ascend (stationOf s k os hs) c))
+        e))
       where
         go :
             (j : ℕ)

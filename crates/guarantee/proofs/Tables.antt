@@ -6,10 +6,11 @@ use mathlib.Core.List.{List, [], _∷_}
 use native.Mathlib.Omega.{arith}
 use lib.Dec.{eqb}
 use borrow.Author.Tests.{eqb-true, eq-eqb}
-use Rattle.rules.specs.Basics.{some, firstOf}
-use Rattle.guarantee.specs.Past.{Each}
-use Rattle.guarantee.specs.DemandOne.{Lowest, NoneApplies}
-use Rattle.guarantee.proofs.Each.{each-map}
+use Rattle.rules.specs.Basics.{Each, some, firstOf}
+use Rattle.rules.specs.Calls.{State, Call, order, move, offer, replanLatest, replanLines, enquire, openRefusals, refusals}
+use Rattle.rules.proofs.Lists.{each-map}
+use Rattle.rules.proofs.Tables.{Numbered}
+use Rattle.guarantee.specs.DemandOne.{Lowest}
 
 -- the numbers rise, from i or a later one on
 abbrev pub Ascending : ℕ → List (Bool × ℕ) → Type 0
@@ -24,22 +25,9 @@ ascending-from i (row ∷ rows) p = (
       (ascending-from (suc (row .1)) rows (p .1)),
 )
 
-pub firstOf-none : (i : ℕ) (rows : List (Bool × ℕ)) → Ascending (suc i) rows → firstOf rows ≡ 0 → NoneApplies rows
-firstOf-none i [] p e = tt
-firstOf-none i (row ∷ rows) p e = go (row .0) refl e (firstOf-none (row .1) rows (p .1))
-  where
-    go :
-        (b : Bool)
-        → row .0 ≡ b
-        → cond b (row .1) (firstOf rows) ≡ 0
-        → (firstOf rows ≡ 0 → NoneApplies rows)
-        → NoneApplies (row ∷ rows)
-    go true q u ih = absurd (omega (arith, p .0))
-    go false q u ih = (q, ih u)
-
-pub firstOf-zero : (rows : List (Bool × ℕ)) → NoneApplies rows → firstOf rows ≡ 0
-firstOf-zero [] e = refl
-firstOf-zero (row ∷ rows) e = rw (e .0) (firstOf-zero rows (e .1))
+pub ascending-numbered : (i : ℕ) (rows : List (Bool × ℕ)) → Ascending (suc i) rows → Numbered rows
+ascending-numbered i rows p =
+    each-map (λ r. suc i ≤ r .1) (λ r. 1 ≤ r .1) (λ r h. omega arith) rows (ascending-from (suc i) rows p)
 
 pub firstOf-lowest :
     (i j : ℕ) (rows : List (Bool × ℕ)) → Ascending i rows → firstOf rows ≡ suc j → Lowest rows (suc j)
@@ -68,7 +56,7 @@ firstOf-lowest i j (row ∷ rows) p e = go (row .0) refl e (firstOf-lowest (suc 
         }
 
 -- a number of the table is not below the first
-applies-from :
+pub applies-from :
     (i k : ℕ) (rows : List (Bool × ℕ))
     → Ascending i rows
     → some (λ row. row .0 && eqb (row .1) k) rows ≡ true
@@ -110,3 +98,17 @@ lowest-firstOf i k (row ∷ rows) p l =
         own false e v =
             let h : suc (row .1) ≤ k = applies-from (suc (row .1)) k rows (p .1) v in absurd (omega (arith, low q))
     go false q u low ih = ih (record { applies = u; lowest = l .lowest .1 })
+
+-- The tables of the calls
+
+-- the numbers of the refusals of a call rise
+pub refusals-ascend : (s : State) (c : Call) → Ascending 1 (refusals s c)
+refusals-ascend s (order line p d) = omega arith
+refusals-ascend s (move target list) = omega arith
+refusals-ascend s (offer ss) = omega arith
+refusals-ascend s replanLatest = tt
+refusals-ascend s (replanLines allowance) = omega arith
+refusals-ascend s (enquire ticket) = omega arith
+
+pub openRefusals-ascend : (n c : ℕ) → Ascending 1 (openRefusals n c)
+openRefusals-ascend n c = omega arith

@@ -6,21 +6,19 @@ use mathlib.Core.List.{List, [], _∷_, _++_}
 use native.Mathlib.Omega.{arith}
 use lib.Dec.{eqb}
 use borrow.Author.Tests.{eqb-true, lt-ltb, le-ltb, le-leb, lt-leb, eq-eqb, ne-eqb}
-use Rattle.rules.specs.Basics.{keep, some}
+use Rattle.rules.specs.Basics.{Each, keep, some}
 use Rattle.rules.specs.Charge.{Charge, endOf, isBegun, isFinished, unfinishedCharges}
 use Rattle.rules.specs.Calls.{State, told, refused, waiting, charging, enquire, enquiring, step}
+use Rattle.rules.specs.Valid.{Rising}
 use Rattle.rules.proofs.Ranges.{or-left, or-right}
-use Rattle.guarantee.specs.Past.{Each, Order, Report, timesReported, reportedStart}
-use Rattle.guarantee.proofs.Each.{each-map, each-two}
-use Rattle.guarantee.proofs.History.{Fit, ordersOf, Replanned, end, same, other}
+use Rattle.rules.proofs.Lists.{each-map}
+use Rattle.rules.proofs.Validity.{Restarted, empty, same, other}
+use Rattle.guarantee.specs.Past.{Order, Report, timesReported, reportedStart}
+use Rattle.guarantee.proofs.Each.{each-two}
+use Rattle.guarantee.proofs.History.{Fit, ordersOf}
 use Rattle.guarantee.proofs.Reports.{Worth, sumReports, sumBegun}
 
 -- Rising tickets
-
--- the tickets rise, from i or a later one on
-abbrev pub Rising : ℕ → List Charge → Type 0
-Rising i [] = Unit {0}
-Rising i (c ∷ cs) = (i ≤ c .ticket) × Rising (suc (c .ticket)) cs
 
 pub rising-from : (i : ℕ) (cs : List Charge) → Rising i cs → Each (λ c. i ≤ c .ticket) cs
 rising-from i [] r = tt
@@ -39,11 +37,11 @@ pub rising-append :
 rising-append i [] d r h e = (h, tt)
 rising-append i (c ∷ cs) d r h e = (r .0, rising-append (suc (c .ticket)) cs d (r .1) (omega (arith, e .0)) (e .1))
 
-pub replanned-rising :
-    {k : ℕ} {cs ds : List Charge} → Replanned k cs ds → (i : ℕ) → Rising i cs → Rising i ds
-replanned-rising end i r = tt
-replanned-rising (same {c = c} p) i r = (r .0, replanned-rising p (suc (c .ticket)) (r .1))
-replanned-rising (other {c = c} h j p) i r = (r .0, replanned-rising p (suc (c .ticket)) (r .1))
+pub restarted-rising :
+    {k : ℕ} {cs ds : List Charge} → Restarted k cs ds → (i : ℕ) → Rising i cs → Rising i ds
+restarted-rising empty i r = tt
+restarted-rising (same {c = c} p) i r = (r .0, restarted-rising p (suc (c .ticket)) (r .1))
+restarted-rising (other {c = c} h j p) i r = (r .0, restarted-rising p (suc (c .ticket)) (r .1))
 
 -- What is reported of a ticket
 

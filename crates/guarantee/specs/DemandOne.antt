@@ -5,9 +5,9 @@ use Prim.Native.Nat.{ℕ, _≤_}
 use mathlib.Core.Bool.{Bool, true, false, _&&_}
 use mathlib.Core.List.{List, []}
 use lib.Dec.{eqb}
-use Rattle.rules.specs.Basics.{some}
+use Rattle.rules.specs.Basics.{Each, some}
 use Rattle.rules.specs.Calls.{State, Answer, refused, opened, ordered, moved, planned, waiting, charging, Result, boundOf, fresh, openRefusals, opening, Call, order, move, offer, replanLatest, replanLines, enquire, lent, refusals, step}
-use Rattle.guarantee.specs.Past.{Each, isRefused}
+use Rattle.guarantee.specs.Past.{isRefused}
 
 -- "Where several apply, the lowest number": the condition with number k holds, and none with a lower number
 pub record Lowest (rows : List (Bool × ℕ)) (k : ℕ) : Type 0 where

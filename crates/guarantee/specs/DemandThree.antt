@@ -4,10 +4,10 @@ use Prim.Native.Nat.{ℕ, _+_, _≤_, _<_}
 use mathlib.Core.Bool.{true}
 use mathlib.Core.List.{List, _++_}
 use lib.Dec.{eqb}
-use Rattle.rules.specs.Basics.{some}
+use Rattle.rules.specs.Basics.{Each, some}
 use Rattle.rules.specs.Load.{IsLine}
 use Rattle.rules.specs.Calls.{State, refused, waiting, charging, Call}
-use Rattle.guarantee.specs.Past.{Each, Order, Past, past, timesReported, enquiry, startOf, endOf, countIn, Numbered, totalTime, lastMinute}
+use Rattle.guarantee.specs.Past.{Order, Past, past, timesReported, enquiry, startOf, endOf, countIn, Numbered, totalTime, lastMinute}
 
 -- What is claimed of one accepted order.
 pub record Kept (h : Past) (o : Order) : Type 0 where

@@ -8,11 +8,6 @@ use lib.Dec.{eqb}
 use Rattle.rules.specs.Load.{Load, loadFrom, count}
 use Rattle.rules.specs.Calls.{State, Answer, refused, opened, ordered, moved, planned, waiting, charging, Result, Call, order, move, offer, replanLatest, replanLines, enquire, step}
 
--- P holds for each member of a list
-abbrev pub Each {ℓ} : {A : Type ℓ} → (A → Type 0) → List A → Type 0
-Each P [] = Unit {0}
-Each P (a ∷ l) = P a × Each P l
-
 -- An accepted order: its ticket is that of the answer. "Its order minute is the clock at that moment; its line and p are
 -- those passed in."
 pub record Order : Type 0 where
