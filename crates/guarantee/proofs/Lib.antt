@@ -7,3 +7,5 @@ pub mod Invariant
 pub mod Steps
 pub mod DemandThree
 pub mod DemandOne
+pub mod Proposals
+pub mod DemandTwo

@@ -1,4 +1,5 @@
 pub mod Past
 pub mod DemandOne
+pub mod DemandTwo
 pub mod DemandThree
 pub mod Example
