@@ -120,7 +120,7 @@ granted-answer s (enquire ticket) v q =
 
 -- The demand
 
-valid-demand-one : (s : State) → ValidState s → (call : Call) → DemandOne s call
+valid-demand-one : (s : State) → ValidState s → (call : Call) → DemandOne step s call
 valid-demand-one s v call =
     record {
       refused-by =
@@ -134,15 +134,15 @@ valid-demand-one s v call =
     }
 
 -- every station that an opening and calls lead to is valid
-pub reached-valid : (n c : ℕ) (calls : List Call) → ValidState (past (opening n c .state) calls .station)
+pub reached-valid : (n c : ℕ) (calls : List Call) → ValidState (past step (opening n c .state) calls .station)
 reached-valid n c calls = after-valid calls (beginning (opening n c .state)) (opening-valid n c)
   where
-    after-valid : (calls : List Call) (h : Past) → ValidState (h .station) → ValidState (after h calls .station)
+    after-valid : (calls : List Call) (h : Past) → ValidState (h .station) → ValidState (after step h calls .station)
     after-valid [] h v = v
     after-valid (x ∷ calls) h v = after-valid calls (extended h x (step (h .station) x)) (step-valid (h .station) x v)
 
-pub demand-one : (n c : ℕ) (calls : List Call) (call : Call) → DemandOne (past (opening n c .state) calls .station) call
-demand-one n c calls call = valid-demand-one (past (opening n c .state) calls .station) (reached-valid n c calls) call
+pub demand-one : (n c : ℕ) (calls : List Call) (call : Call) → DemandOne step (past step (opening n c .state) calls .station) call
+demand-one n c calls call = valid-demand-one (past step (opening n c .state) calls .station) (reached-valid n c calls) call
 
 pub demand-one-opening : (n c : ℕ) → DemandOneOpening n c
 unfolding opening

@@ -9,7 +9,7 @@ use borrow.Author.Tests.{ltb-false, lt-ltb, le-ltb, eq-eqb, ne-eqb}
 use Rattle.rules.specs.Basics.{Each, firstOf, some}
 use Rattle.rules.specs.Load.{Limits, count}
 use Rattle.rules.specs.Charge.{Charge, endOf, loadsOf, isBegun, unfinishedCharges}
-use Rattle.rules.specs.Calls.{State, limitsOf, told, opened, answering, boundOf, fresh, openRefusals, opening, Call}
+use Rattle.rules.specs.Calls.{State, limitsOf, told, opened, answering, boundOf, fresh, openRefusals, opening, Call, step}
 use Rattle.guarantee.specs.Past.{Order, Past, beginning, past, timesReported, enquiry, startIn, startOf, loadOf, countIn, totalTime, lastMinute}
 use Rattle.guarantee.specs.DemandThree.{Kept, Unmoved, DemandThree}
 use Rattle.rules.proofs.Lists.{each-map}
@@ -216,39 +216,39 @@ opening-known n c = go (firstOf (openRefusals n c))
 
 -- what is known after calls to a station on which nothing was known
 module _ (s : State) (calls : List Call) (known : Known s (beginning s) []) where
-  reached : Reach s (beginning s) [] (past s calls)
+  reached : Reach s (beginning s) [] (past step s calls)
   reached = reach s calls (beginning s) [] known
 
   unmoved-part :
-      (part rest : List Call) → calls ≡ part ++ rest → Each (Unmoved (past s part) (past s calls)) (past s part .orders)
+      (part rest : List Call) → calls ≡ part ++ rest → Each (Unmoved (past step s part) (past step s calls)) (past step s part .orders)
   unmoved-part part rest e =
-      let p : Reach s (beginning s) [] (past s part) = reach s part (beginning s) [] known in
-      let q = reach s rest (past s part) (p .now) (p .known) in
-      subst (λ (z : List Call). Each (Unmoved (past s part) (past s z)) (past s part .orders)) (sym e)
-      (subst (λ (g : Past). Each (Unmoved (past s part) g) (past s part .orders))
+      let p : Reach s (beginning s) [] (past step s part) = reach s part (beginning s) [] known in
+      let q = reach s rest (past step s part) (p .now) (p .known) in
+      subst (λ (z : List Call). Each (Unmoved (past step s part) (past step s z)) (past step s part .orders)) (sym e)
+      (subst (λ (g : Past). Each (Unmoved (past step s part) g) (past step s part .orders))
       (sym (after-append part rest (beginning s)))
-      (unmoved-orders s (past s part) _ (p .now) (q .now) (p .known) (q .known) (q .grown)))
+      (unmoved-orders s (past step s part) _ (p .now) (q .now) (p .known) (q .known) (q .grown)))
 
-  all-kept : DemandThree s calls
+  all-kept : DemandThree step s calls
   all-kept =
       record {
         limit =
             λ l t j.
-            rw (count-history s (past s calls) (reached .now) (reached .known) l t)
+            rw (count-history s (past step s calls) (reached .now) (reached .known) l t)
             (reached .known .invariant .always t .limit l j);
         balance =
             λ l m t j i.
             rw (
-              count-history s (past s calls) (reached .now) (reached .known) l t,
-              count-history s (past s calls) (reached .now) (reached .known) m t,
+              count-history s (past step s calls) (reached .now) (reached .known) l t,
+              count-history s (past step s calls) (reached .now) (reached .known) m t,
             )
             (reached .known .invariant .always t .balance l m j i);
         tickets = reached .known .invariant .numbered;
-        orders = orders-kept s (past s calls) (reached .now) (reached .known);
-        no-other = only-ours s (past s calls) (reached .now) (reached .known);
+        orders = orders-kept s (past step s calls) (reached .now) (reached .known);
+        no-other = only-ours s (past step s calls) (reached .now) (reached .known);
         unmoved = unmoved-part;
       }
 
 -- for every opening, refused ones too, and every list of calls
-pub demand-three : (n c : ℕ) (calls : List Call) → DemandThree (opening n c .state) calls
+pub demand-three : (n c : ℕ) (calls : List Call) → DemandThree step (opening n c .state) calls
 demand-three n c calls = all-kept (opening n c .state) calls (opening-known n c)

@@ -10,7 +10,7 @@ use lib.ListN.{length}
 use borrow.Author.Tests.{leb-true, ltb-true, le-leb, lt-ltb, not-false, eqb-true}
 use Rattle.rules.specs.Basics.{Each, firstOf}
 use Rattle.rules.specs.Load.{Load, Limits, active, counts, IsLine, sound}
-use Rattle.rules.specs.Charge.{Charge, endOf, loadOf, loadsOf, waitingCharges}
+use Rattle.rules.specs.Charge.{Charge, endOf, loadOf, loadsOf, waitingCharges, lateness}
 use Rattle.rules.specs.Search.{added}
 use Rattle.rules.specs.Replan.{Proposal, starts, none, latest, Replanned, byLines}
 use Rattle.rules.specs.Judgement.{restarted, judged}
@@ -25,7 +25,7 @@ use Rattle.rules.proofs.Judgements.{Meets, judged-meets, meets-judged}
 use Rattle.rules.proofs.Validity.{Restarted, restarted-is, restarted-each, order-found}
 use Rattle.guarantee.specs.Past.{past}
 use Rattle.guarantee.specs.DemandOne.{NoneApplies}
-use Rattle.guarantee.specs.DemandTwo.{SoundPlan, Unbroken, Better, Taken, GivenStarts, Tested, OrderStart, DemandTwo}
+use Rattle.guarantee.specs.DemandTwo.{SoundPlan, Unbroken, Better, Taken, GivenStarts, causeOf, Tested, OrderStart, DemandTwo}
 use Rattle.guarantee.proofs.Tables.{ascending-numbered, refusals-ascend}
 use Rattle.guarantee.proofs.Proposals.{Proper, latest-proper, lines-proper, restarted-starts, restarted-begun, restarted-otherwise}
 use Rattle.guarantee.proofs.DemandOne.{reached-valid}
@@ -105,16 +105,17 @@ refused-not-taken : (k : ℕ) → Taken (refused k) → ⊥
 refused-not-taken k (x, y, z, e) = let q : _≡_ {A = ℕ} 0 1 = cc in omega arith
 
 -- what the test makes of a proposal
-record Judged (s : State) (p : Proposal) (r : Result) : Type 0 where
+record Judged (s : State) (p : Proposal) (rounds : ℕ) (r : Result) : Type 0 where
   taken : Taken (r .answer) ↔ ((ss : List ℕ) × (p ≡ starts ss) × Better s ss (restarted (s .clock) (s .charges) ss))
   given : (ss : List ℕ) → p ≡ starts ss → Taken (r .answer) → GivenStarts s ss (r .state)
   unchanged : (Taken (r .answer) → ⊥) → r .state ≡ s
+  answer : r .answer ≡ planned (causeOf s p) (lateness (s .charges)) (lateness (r .state .charges)) rounds
 
 tested-judged :
     (s : State) (rounds : ℕ) (p : Proposal) (list : List ℕ)
     → ValidState s
     → Proper (length (waitingCharges (s .clock) (s .charges))) p
-    → Judged s p (tested s rounds p list)
+    → Judged s p rounds (tested s rounds p list)
 tested-judged s rounds (starts ss) list v proper = go (judged (limitsOf s) (s .clock) (s .charges) ss) refl
   where
     same-starts : (us : List ℕ) → starts ss ≡ starts us → ss ≡ us
@@ -123,7 +124,7 @@ tested-judged s rounds (starts ss) list v proper = go (judged (limitsOf s) (s .c
     go :
         (j : ℕ)
         → judged (limitsOf s) (s .clock) (s .charges) ss ≡ j
-        → Judged s (starts ss) (decided s rounds ss list j)
+        → Judged s (starts ss) rounds (decided s rounds ss list j)
     go zero e =
         let m : Meets (limitsOf s) (s .clock) (s .charges) ss (restarted (s .clock) (s .charges) ss)
         = judged-meets (limitsOf s) (s .clock) (s .charges) ss e in
@@ -141,6 +142,7 @@ tested-judged s rounds (starts ss) list v proper = go (judged (limitsOf s) (s .c
                 station-same = refl;
               });
           unchanged = λ n. absurd (n (_, _, _, refl));
+          answer = rw e;
         }
     go (suc j) e =
         record {
@@ -155,6 +157,7 @@ tested-judged s rounds (starts ss) list v proper = go (judged (limitsOf s) (s .c
           );
           given = λ us q t. absurd (not-taken j _ _ _ t);
           unchanged = λ n. refl;
+          answer = rw e;
         }
       where
         apart : (j : ℕ) → judged (limitsOf s) (s .clock) (s .charges) ss ≡ suc j → judged (limitsOf s) (s .clock) (s .charges) ss ≡ 0 → ⊥
@@ -165,6 +168,7 @@ tested-judged s rounds (none (suc j)) list v proper =
       taken = ((λ t. absurd (not-taken j _ _ _ t)), (λ b. absurd (apart (b .0) (b .1))));
       given = λ us q t. absurd (not-taken j _ _ _ t);
       unchanged = λ n. refl;
+      answer = refl;
     }
   where
     apart : (us : List ℕ) → none (suc j) ≡ starts us → ⊥
@@ -181,16 +185,16 @@ tested-list s rounds (none cause) list = refl
 
 -- a call that ends with the test, refused or not
 call-tested :
-    (s : State) (call : Call) (p : Proposal)
-    → (NoneApplies (refusals s call) → Judged s p (granted s call))
+    (s : State) (call : Call) (p : Proposal) (rounds : ℕ)
+    → (NoneApplies (refusals s call) → Judged s p rounds (granted s call))
     → granted s call .list ≡ lent call
-    → Tested s call p (step s call)
-call-tested s call p j same = go (firstOf (refusals s call)) refl
+    → Tested s call p rounds (step s call)
+call-tested s call p rounds j same = go (firstOf (refusals s call)) refl
   where
     go :
         (i : ℕ)
         → firstOf (refusals s call) ≡ i
-        → Tested s call p (answering i s (lent call) (granted s call))
+        → Tested s call p rounds (answering i s (lent call) (granted s call))
     go zero e =
         let free : NoneApplies (refusals s call)
         = firstOf-none (refusals s call) (ascending-numbered 0 (refusals s call) (refusals-ascend s call)) e in
@@ -198,6 +202,7 @@ call-tested s call p j same = go (firstOf (refusals s call)) refl
           taken = ((λ t. (free, j free .taken .0 t)), (λ b. j free .taken .1 (b .1)));
           given = j free .given;
           unchanged = j free .unchanged;
+          answer = λ q. j free .answer;
           same-list = same;
         }
     go (suc i) e =
@@ -208,6 +213,7 @@ call-tested s call p j same = go (firstOf (refusals s call)) refl
           );
           given = λ us q t. absurd (refused-not-taken (suc i) t);
           unchanged = λ n. refl;
+          answer = λ q. absurd (apart e (none-firstOf (refusals s call) q));
           same-list = refl;
         }
       where
@@ -248,30 +254,30 @@ order-start s line p d v q =
 
 -- The demand
 
-valid-demand-two : (s : State) → ValidState s → DemandTwo s
+valid-demand-two : (s : State) → ValidState s → DemandTwo step s
 unfolding offering replanningLatest replanningLines
 valid-demand-two s v =
     record {
       orders = λ line p d q. order-start s line p d v q;
       offers =
           λ ss.
-          call-tested s (offer ss) (starts ss)
+          call-tested s (offer ss) (starts ss) 0
           (λ q.
           tested-judged s 0 (starts ss) ss v
           (eqb-true (length ss) (length (waitingCharges (s .clock) (s .charges))) (not-false _ (q .0))))
           (tested-list s 0 (starts ss) ss);
       replans-latest =
           let p : Proposal = latest (limitsOf s) (s .clock) (s .charges) in
-          call-tested s replanLatest p
+          call-tested s replanLatest p 0
           (λ q. tested-judged s 0 p [] v (latest-proper (limitsOf s) (s .clock) (s .charges)))
           (tested-list s 0 p []);
       replans-lines =
           λ allowance.
           let r : Replanned = byLines (limitsOf s) (s .clock) allowance (s .charges) in
-          call-tested s (replanLines allowance) (r .proposal)
+          call-tested s (replanLines allowance) (r .proposal) (r .rounds)
           (λ q. tested-judged s (r .rounds) (r .proposal) [] v (lines-proper (limitsOf s) (s .clock) allowance (s .charges)))
           (tested-list s (r .rounds) (r .proposal) []);
     }
 
-pub demand-two : (n c : ℕ) (calls : List Call) → DemandTwo (past (opening n c .state) calls .station)
-demand-two n c calls = valid-demand-two (past (opening n c .state) calls .station) (reached-valid n c calls)
+pub demand-two : (n c : ℕ) (calls : List Call) → DemandTwo step (past step (opening n c .state) calls .station)
+demand-two n c calls = valid-demand-two (past step (opening n c .state) calls .station) (reached-valid n c calls)

@@ -249,7 +249,7 @@ reach-one s h hs c known =
 pub reach :
     (s : State) (calls : List Call) (h : Past) (hs : List Charge)
     → Known s h hs
-    → Reach s h hs (after h calls)
+    → Reach s h hs (after step h calls)
 reach s [] h hs known = record { now = hs; known = known; later = omega arith; grown = grown-refl (h .clock) hs }
 reach s (c ∷ calls) h hs known =
     let x : Reach s h hs (extended h c (step (h .station) c)) = reach-one s h hs c known in
@@ -263,6 +263,6 @@ reach s (c ∷ calls) h hs known =
 
 -- a first part, then the rest
 pub after-append :
-    (part rest : List Call) (h : Past) → after h (part ++ rest) ≡ after (after h part) rest
+    (part rest : List Call) (h : Past) → after step h (part ++ rest) ≡ after step (after step h part) rest
 after-append [] rest h = refl
 after-append (c ∷ part) rest h = after-append part rest (extended h c (step (h .station) c))

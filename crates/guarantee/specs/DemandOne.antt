@@ -6,7 +6,7 @@ use mathlib.Core.Bool.{Bool, true, false, _&&_}
 use mathlib.Core.List.{List, []}
 use lib.Dec.{eqb}
 use Rattle.rules.specs.Basics.{Each, some}
-use Rattle.rules.specs.Calls.{State, Answer, refused, opened, ordered, moved, planned, waiting, charging, Result, boundOf, fresh, openRefusals, opening, Call, order, move, offer, replanLatest, replanLines, enquire, lent, refusals, step}
+use Rattle.rules.specs.Calls.{State, Answer, refused, opened, ordered, moved, planned, waiting, charging, Result, boundOf, fresh, openRefusals, opening, Call, order, move, offer, replanLatest, replanLines, enquire, lent, refusals}
 use Rattle.guarantee.specs.Past.{isRefused}
 
 -- "Where several apply, the lowest number": the condition with number k holds, and none with a lower number
@@ -34,11 +34,11 @@ AnswerTo replanLatest a = (i : ℕ) × (b : ℕ) × (c : ℕ) × (n : ℕ) × (a
 AnswerTo (replanLines allowance) a = (i : ℕ) × (b : ℕ) × (c : ℕ) × (n : ℕ) × (a ≡ planned i b c n)
 AnswerTo (enquire ticket) a = ((s : ℕ) × (a ≡ waiting s)) ⊎ ((s : ℕ) × (e : ℕ) × (a ≡ charging s e))
 
--- a call to a station that stands: refusals 4 to 15
-pub record DemandOne (s : State) (call : Call) : Type 0 where
-  pub refused-by : RefusedBy (refusals s call) s (lent call) (step s call)
+-- a call to a station that stands: refusals 4 to 15; `gives` is what a call to a station gives
+pub record DemandOne (gives : State → Call → Result) (s : State) (call : Call) : Type 0 where
+  pub refused-by : RefusedBy (refusals s call) s (lent call) (gives s call)
   -- "No other call is refused, and every call returns."
-  pub answered : NoneApplies (refusals s call) → AnswerTo call (step s call .answer)
+  pub answered : NoneApplies (refusals s call) → AnswerTo call (gives s call .answer)
 
 -- an opening: refusals 1 to 3, "beside a refused opening stands the fresh station of 1, 100"
 pub record DemandOneOpening (n c : ℕ) : Type 0 where

@@ -6,7 +6,7 @@ use mathlib.Core.List.{List, _++_}
 use lib.Dec.{eqb}
 use Rattle.rules.specs.Basics.{Each, some}
 use Rattle.rules.specs.Load.{IsLine}
-use Rattle.rules.specs.Calls.{State, refused, waiting, charging, Call}
+use Rattle.rules.specs.Calls.{State, refused, waiting, charging, Result, Call}
 use Rattle.guarantee.specs.Past.{Order, Past, past, timesReported, enquiry, startOf, endOf, countIn, Numbered, totalTime, lastMinute}
 
 -- What is claimed of one accepted order.
@@ -32,26 +32,26 @@ pub record Kept (h : Past) (o : Order) : Type 0 where
 abbrev pub Unmoved : Past → Past → Order → Type 0
 Unmoved here there o = startOf here o < here .clock → startOf there o ≡ startOf here o
 
--- The whole claim, for a station and the list of calls made from it.
-pub record DemandThree (s : State) (calls : List Call) : Type 0 where
+-- The whole claim, for a station, the list of calls made from it, and what a call gives.
+pub record DemandThree (gives : State → Call → Result) (s : State) (calls : List Call) : Type 0 where
   -- "in every minute, gone or to come under the plan held, no line has more than its limit charging"
-  pub limit : (l t : ℕ) → IsLine l → countIn (past s calls) l t ≤ s .limit
+  pub limit : (l t : ℕ) → IsLine l → countIn (past gives s calls) l t ≤ s .limit
   -- "and no two lines differ by more than the bound"
   pub balance :
       (l m t : ℕ)
       → IsLine l
       → IsLine m
-      → countIn (past s calls) l t ≤ countIn (past s calls) m t + s .bound
+      → countIn (past gives s calls) l t ≤ countIn (past gives s calls) m t + s .bound
   -- "Each accepted order has exactly one charge": "tickets are 1, 2, 3 and so on in the order of acceptance"
-  pub tickets : Numbered 1 (past s calls .orders)
-  pub orders : Each (Kept (past s calls)) (past s calls .orders)
+  pub tickets : Numbered 1 (past gives s calls .orders)
+  pub orders : Each (Kept (past gives s calls)) (past gives s calls .orders)
   -- "No ticket but theirs has been reported."
   pub no-other :
       (t : ℕ)
-      → 1 ≤ timesReported (past s calls .reports) t
-      → some (λ (o : Order). eqb (o .ticket) t) (past s calls .orders) ≡ true
+      → 1 ≤ timesReported (past gives s calls .reports) t
+      → some (λ (o : Order). eqb (o .ticket) t) (past gives s calls .orders) ≡ true
   -- "No start before the clock has ever changed."
   pub unmoved :
       (part rest : List Call)
       → calls ≡ part ++ rest
-      → Each (Unmoved (past s part) (past s calls)) (past s part .orders)
+      → Each (Unmoved (past gives s part) (past gives s calls)) (past gives s part .orders)

@@ -8,9 +8,9 @@ use Rattle.rules.specs.Basics.{Each}
 use Rattle.rules.specs.Load.{Load, active, count, IsLine}
 use Rattle.rules.specs.Charge.{Charge, starting, endOf, loadOf, loadsOf, begunCharges, waitingCharges, lastEnd, lateness}
 use Rattle.rules.specs.Search.{added}
-use Rattle.rules.specs.Replan.{Proposal, starts, latest, byLines}
-use Rattle.rules.specs.Judgement.{restarted}
-use Rattle.rules.specs.Calls.{State, limitsOf, holding, Answer, ordered, planned, Result, Call, order, offer, replanLatest, replanLines, lent, refusals, newCharge, taking, step}
+use Rattle.rules.specs.Replan.{Proposal, starts, none, latest, byLines}
+use Rattle.rules.specs.Judgement.{restarted, judged}
+use Rattle.rules.specs.Calls.{State, limitsOf, holding, Answer, ordered, planned, Result, Call, order, offer, replanLatest, replanLines, lent, refusals, newCharge, taking}
 use Rattle.guarantee.specs.DemandOne.{NoneApplies}
 
 -- Constraints III and IV in every minute from the clock on, with the lines as parameters.
@@ -49,8 +49,13 @@ pub record GivenStarts (s : State) (ss : List ℕ) (next : State) : Type 0 where
   pub charges-same : map (λ c. starting c 0) (next .charges) ≡ map (λ c. starting c 0) (s .charges)
   pub station-same : next ≡ holding s (s .clock) (next .charges)
 
--- "All three end with the same test." The result of a call that comes with a list of starts, or with none.
-pub record Tested (s : State) (call : Call) (proposal : Proposal) (r : Result) : Type 0 where
+-- the cause for keeping the old plan, "first that applies", and 0 for taking the new one
+abbrev pub causeOf : State → Proposal → ℕ
+causeOf s (starts ss) = judged (limitsOf s) (s .clock) (s .charges) ss
+causeOf s (none cause) = cause
+
+-- "All three end with the same test." The result of a call that comes with a list of starts, or with none, after some rounds.
+pub record Tested (s : State) (call : Call) (proposal : Proposal) (rounds : ℕ) (r : Result) : Type 0 where
   -- "taken exactly when": not refused, and its list is better
   pub taken :
       Taken (r .answer)
@@ -59,6 +64,10 @@ pub record Tested (s : State) (call : Call) (proposal : Proposal) (r : Result) :
   pub given : (ss : List ℕ) → proposal ≡ starts ss → Taken (r .answer) → GivenStarts s ss (r .state)
   -- "Otherwise the station is unchanged."
   pub unchanged : (Taken (r .answer) → ⊥) → r .state ≡ s
+  -- "Answer: cause, lateness before and after (equal when kept), rounds used"
+  pub answer :
+      NoneApplies (refusals s call)
+      → r .answer ≡ planned (causeOf s proposal) (lateness (s .charges)) (lateness (r .state .charges)) rounds
   pub same-list : r .list ≡ lent call
 
 -- "An order gets the earliest start that these constraints allow with no other start moved"
@@ -72,16 +81,19 @@ pub record OrderStart (s : State) (line p d : ℕ) (r : Result) : Type 0 where
   -- `taking` puts the new charge behind the held ones, which stay as they are
   pub others-same : r .state ≡ taking s (newCharge s line p d start)
 
-pub record DemandTwo (s : State) : Type 0 where
+-- `gives` is what a call to a station gives
+pub record DemandTwo (gives : State → Call → Result) (s : State) : Type 0 where
   pub orders :
       (line p d : ℕ)
       → NoneApplies (refusals s (order line p d))
-      → OrderStart s line p d (step s (order line p d))
-  pub offers : (ss : List ℕ) → Tested s (offer ss) (starts ss) (step s (offer ss))
-  -- "replans follow the paper as document 01 fixes it": `latest` and `byLines` are its definitions
-  pub replans-latest : Tested s replanLatest (latest (limitsOf s) (s .clock) (s .charges)) (step s replanLatest)
+      → OrderStart s line p d (gives s (order line p d))
+  pub offers : (ss : List ℕ) → Tested s (offer ss) (starts ss) 0 (gives s (offer ss))
+  -- "replans follow the paper as document 01 fixes it": `latest` and `byLines` are its definitions;
+  -- "rounds used (0 but by lines)"
+  pub replans-latest : Tested s replanLatest (latest (limitsOf s) (s .clock) (s .charges)) 0 (gives s replanLatest)
   pub replans-lines :
       (allowance : ℕ)
       → Tested s (replanLines allowance)
       (byLines (limitsOf s) (s .clock) allowance (s .charges) .proposal)
-      (step s (replanLines allowance))
+      (byLines (limitsOf s) (s .clock) allowance (s .charges) .rounds)
+      (gives s (replanLines allowance))

@@ -120,13 +120,14 @@ extended h c r =
       station = r .state;
     }
 
--- "Each call gets the station that the last one left"
-abbrev pub after : Past → List Call → Past
-after h [] = h
-after h (c ∷ calls) = after (extended h c (step (h .station) c)) calls
+-- "Each call gets the station that the last one left"; `gives` is what a call to a station gives: `step` of the rules, and
+-- in specs/Wrong.antt something else.
+abbrev pub after : (State → Call → Result) → Past → List Call → Past
+after gives h [] = h
+after gives h (c ∷ calls) = after gives (extended h c (gives (h .station) c)) calls
 
-abbrev pub past : State → List Call → Past
-past s calls = after (beginning s) calls
+abbrev pub past : (State → Call → Result) → State → List Call → Past
+past gives s calls = after gives (beginning s) calls
 
 -- Reports, starts and counts
 
