@@ -16,7 +16,8 @@ use Rattle.rules.specs.Calls.{State, limitsOf, Answer, refused, opened, planned
 use Rattle.rules.specs.Valid.{ValidState}
 use Rattle.rules.proofs.Tables.{firstOf-none, none-firstOf}
 use Rattle.rules.proofs.Validity.{opening-valid, step-valid, order-found}
-use Rattle.guarantee.specs.Past.{isRefused, Past, beginning, extended, after, past}
+use Rattle.guarantee.specs.Past.{isRefused, Past, beginning, extended, after}
+use Rattle.guarantee.specs.Demands.{reached}
 use Rattle.guarantee.specs.DemandOne.{Lowest, NoneApplies, RefusedBy, AnswerTo, DemandOne, DemandOneOpening}
 use Rattle.guarantee.proofs.Tables.{Ascending, ascending-numbered, firstOf-lowest, applies-from, lowest-firstOf, refusals-ascend, openRefusals-ascend}
 
@@ -134,15 +135,15 @@ valid-demand-one s v call =
     }
 
 -- every station that an opening and calls lead to is valid
-pub reached-valid : (n c : ℕ) (calls : List Call) → ValidState (past step (opening n c .state) calls .station)
+pub reached-valid : (n c : ℕ) (calls : List Call) → ValidState (reached n c calls)
 reached-valid n c calls = after-valid calls (beginning (opening n c .state)) (opening-valid n c)
   where
     after-valid : (calls : List Call) (h : Past) → ValidState (h .station) → ValidState (after step h calls .station)
     after-valid [] h v = v
     after-valid (x ∷ calls) h v = after-valid calls (extended h x (step (h .station) x)) (step-valid (h .station) x v)
 
-pub demand-one : (n c : ℕ) (calls : List Call) (call : Call) → DemandOne step (past step (opening n c .state) calls .station) call
-demand-one n c calls call = valid-demand-one (past step (opening n c .state) calls .station) (reached-valid n c calls) call
+pub demand-one : (n c : ℕ) (calls : List Call) (call : Call) → DemandOne step (reached n c calls) call
+demand-one n c calls call = valid-demand-one (reached n c calls) (reached-valid n c calls) call
 
 pub demand-one-opening : (n c : ℕ) → DemandOneOpening n c
 unfolding opening

@@ -14,7 +14,7 @@ use Rattle.rules.specs.Charge.{Charge, endOf, loadOf, loadsOf, waitingCharges, 
 use Rattle.rules.specs.Search.{added}
 use Rattle.rules.specs.Replan.{Proposal, starts, none, latest, Replanned, byLines}
 use Rattle.rules.specs.Judgement.{restarted, judged}
-use Rattle.rules.specs.Calls.{State, limitsOf, Answer, refused, ordered, planned, Result, answering, Call, order, offer, replanLatest, replanLines, lent, refusals, newCharge, orderedAt, ordering, decided, tested, offering, replanningLatest, replanningLines, granted, opening, step}
+use Rattle.rules.specs.Calls.{State, limitsOf, Answer, refused, ordered, planned, Result, answering, Call, order, offer, replanLatest, replanLines, lent, refusals, newCharge, orderedAt, ordering, decided, tested, offering, replanningLatest, replanningLines, granted, step}
 use Rattle.rules.specs.Valid.{ValidCharge, ValidState}
 use Rattle.rules.proofs.Ranges.{and-left, and-right, and-both, below-or-not, IsFirst}
 use Rattle.rules.proofs.Lists.{each-map}
@@ -23,16 +23,16 @@ use Rattle.rules.proofs.Tables.{firstOf-none, none-firstOf}
 use Rattle.rules.proofs.Searches.{earliest-first}
 use Rattle.rules.proofs.Judgements.{Meets, judged-meets, meets-judged}
 use Rattle.rules.proofs.Validity.{Restarted, restarted-is, restarted-each, order-found}
-use Rattle.guarantee.specs.Past.{past}
 use Rattle.guarantee.specs.DemandOne.{NoneApplies}
 use Rattle.guarantee.specs.DemandTwo.{SoundPlan, Unbroken, Better, Taken, GivenStarts, causeOf, Tested, OrderStart, DemandTwo}
+use Rattle.guarantee.specs.Demands.{reached}
 use Rattle.guarantee.proofs.Tables.{ascending-numbered, refusals-ascend}
 use Rattle.guarantee.proofs.Proposals.{Proper, latest-proper, lines-proper, restarted-starts, restarted-begun, restarted-otherwise}
 use Rattle.guarantee.proofs.DemandOne.{reached-valid}
 
 -- Every minute from the clock on
 
-plan-sound : (s : State) (xs : List Load) → sound (limitsOf s) (s .clock) xs ≡ true → SoundPlan s xs
+pub plan-sound : (s : State) (xs : List Load) → sound (limitsOf s) (s .clock) xs ≡ true → SoundPlan s xs
 plan-sound s xs e =
     record {
       limit = λ l t j h. sound-from (limitsOf s) (s .clock) xs e t h .limit l j;
@@ -279,5 +279,5 @@ valid-demand-two s v =
           (tested-list s (r .rounds) (r .proposal) []);
     }
 
-pub demand-two : (n c : ℕ) (calls : List Call) → DemandTwo step (past step (opening n c .state) calls .station)
-demand-two n c calls = valid-demand-two (past step (opening n c .state) calls .station) (reached-valid n c calls)
+pub demand-two : (n c : ℕ) (calls : List Call) → DemandTwo step (reached n c calls)
+demand-two n c calls = valid-demand-two (reached n c calls) (reached-valid n c calls)

@@ -9,3 +9,5 @@ pub mod DemandThree
 pub mod DemandOne
 pub mod Proposals
 pub mod DemandTwo
+pub mod Demands
+pub mod Refuted
