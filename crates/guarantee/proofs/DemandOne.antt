@@ -1,18 +1,17 @@
 -- Demand 1.
-use mathlib.Core.Logic.{_⊎_, inl, inr, _↔_}
+use mathlib.Core.Logic.{inl, inr}
 use mathlib.Core.Path.{_≡_, refl, sym, ap, subst, _∙_}
-use Prim.Native.Nat.{ℕ, zero, suc, _≤_}
-use mathlib.Core.Bool.{Bool, true, false, not, _||_, true≢false}
+use Prim.Native.Nat.{ℕ, zero, suc}
+use mathlib.Core.Bool.{Bool, true, false, _||_, true≢false}
 use mathlib.Core.List.{List, [], _∷_}
 use native.Mathlib.Omega.{arith}
 use lib.Dec.{eqb}
 use borrow.Author.Tests.{not-false}
-use Rattle.rules.specs.Basics.{some, firstOf, Found, at, nothing}
-use Rattle.rules.specs.Charge.{Charge, endOf, loadsOf, isBegun}
-use Rattle.rules.specs.Search.{earliest}
+use Rattle.rules.specs.Basics.{some, firstOf}
+use Rattle.rules.specs.Charge.{Charge, endOf, isBegun}
 use Rattle.rules.specs.Replan.{Proposal, starts, none, latest, Replanned, byLines}
 use Rattle.rules.specs.Judgement.{judged}
-use Rattle.rules.specs.Calls.{State, limitsOf, Answer, refused, opened, planned, waiting, charging, Result, answering, boundOf, fresh, openRefusals, opening, Call, order, move, offer, replanLatest, replanLines, enquire, lent, refusals, newCharge, orderedAt, ordering, moving, decided, tested, offering, replanningLatest, replanningLines, told, enquiring, granted, step}
+use Rattle.rules.specs.Calls.{State, limitsOf, Answer, refused, opened, planned, Result, answering, boundOf, fresh, openRefusals, opening, Call, order, move, offer, replanLatest, replanLines, enquire, lent, refusals, ordering, moving, decided, tested, offering, replanningLatest, replanningLines, told, enquiring, granted, step}
 use Rattle.rules.specs.Valid.{ValidState}
 use Rattle.rules.proofs.Tables.{firstOf-none, none-firstOf}
 use Rattle.rules.proofs.Validity.{opening-valid, step-valid, order-found}

@@ -7,9 +7,9 @@ use native.Mathlib.Omega.{arith}
 use lib.Dec.{eqb}
 use borrow.Author.Tests.{ltb-false, lt-ltb, le-ltb, eq-eqb, ne-eqb}
 use Rattle.rules.specs.Basics.{Each, firstOf, some}
-use Rattle.rules.specs.Load.{Limits, count}
+use Rattle.rules.specs.Load.{count}
 use Rattle.rules.specs.Charge.{Charge, endOf, loadsOf, isBegun, unfinishedCharges}
-use Rattle.rules.specs.Calls.{State, limitsOf, told, opened, answering, boundOf, fresh, openRefusals, opening, Call, step}
+use Rattle.rules.specs.Calls.{State, told, opened, answering, boundOf, fresh, openRefusals, opening, Call, step}
 use Rattle.guarantee.specs.Past.{Order, Past, beginning, past, timesReported, enquiry, startIn, startOf, loadOf, countIn, totalTime, lastMinute}
 use Rattle.guarantee.specs.DemandThree.{Kept, Unmoved, DemandThree}
 use Rattle.rules.proofs.Lists.{each-map}
@@ -17,8 +17,7 @@ use Rattle.guarantee.proofs.Each.{each-two, each-image}
 use Rattle.guarantee.proofs.History.{Fit, orderOf, ordersOf}
 use Rattle.guarantee.proofs.Reports.{Worth, sumReports, sumBegun}
 use Rattle.guarantee.proofs.Tickets.{isTicket, isPair, times-sum, not-reported-start, once-reported-start, sum-of-own, sum-ours, enquiry-told, Told, told-each}
-use Rattle.guarantee.proofs.Invariant.{Invariant}
-use Rattle.guarantee.proofs.Steps.{stationOf, Grown, more, on, Known, Reach, reach, after-append}
+use Rattle.guarantee.proofs.Steps.{Grown, more, on, Known, Reach, reach, after-append}
 
 -- what calls and answers say of one charge of the history
 record Said (h : Past) (held : List Charge) (c : Charge) : Type 0 where
@@ -184,7 +183,7 @@ unmoved-orders s here there cs ds p q r =
 -- From the opening
 
 -- a station that no call has been made to
-pub fresh-known : (n c : ℕ) → Known (fresh n c) (beginning (fresh n c)) []
+fresh-known : (n c : ℕ) → Known (fresh n c) (beginning (fresh n c)) []
 fresh-known n c =
     record {
       station = refl;
@@ -202,7 +201,7 @@ fresh-known n c =
           };
     }
 
-pub opening-known : (n c : ℕ) → Known (opening n c .state) (beginning (opening n c .state)) []
+opening-known : (n c : ℕ) → Known (opening n c .state) (beginning (opening n c .state)) []
 unfolding opening
 opening-known n c = go (firstOf (openRefusals n c))
   where

@@ -1,24 +1,24 @@
 -- Demand 2.
 use mathlib.Core.Logic.{_⊎_, inl, inr, _↔_}
 use mathlib.Core.Path.{_≡_, refl, sym, subst, _∙_}
-use Prim.Native.Nat.{ℕ, zero, suc, _+_, _≤_, _<_}
-use mathlib.Core.Bool.{Bool, true, false, true≢false}
+use Prim.Native.Nat.{ℕ, zero, suc, _≤_, _<_}
+use mathlib.Core.Bool.{true, false, true≢false}
 use mathlib.Core.List.{List, [], _∷_}
 use native.Mathlib.Omega.{arith}
 use lib.Dec.{ltb, leb}
 use lib.ListN.{length}
 use borrow.Author.Tests.{leb-true, ltb-true, le-leb, lt-ltb, not-false, eqb-true}
 use Rattle.rules.specs.Basics.{Each, firstOf}
-use Rattle.rules.specs.Load.{Load, Limits, active, counts, IsLine, sound}
-use Rattle.rules.specs.Charge.{Charge, endOf, loadOf, loadsOf, waitingCharges, lateness}
+use Rattle.rules.specs.Load.{Load, sound}
+use Rattle.rules.specs.Charge.{Charge, endOf, loadsOf, waitingCharges, lateness}
 use Rattle.rules.specs.Search.{added}
 use Rattle.rules.specs.Replan.{Proposal, starts, none, latest, Replanned, byLines}
 use Rattle.rules.specs.Judgement.{restarted, judged}
-use Rattle.rules.specs.Calls.{State, limitsOf, Answer, refused, ordered, planned, Result, answering, Call, order, offer, replanLatest, replanLines, lent, refusals, newCharge, orderedAt, ordering, decided, tested, offering, replanningLatest, replanningLines, granted, step}
+use Rattle.rules.specs.Calls.{State, limitsOf, refused, ordered, planned, Result, answering, Call, order, offer, replanLatest, replanLines, lent, refusals, ordering, decided, tested, offering, replanningLatest, replanningLines, granted, step}
 use Rattle.rules.specs.Valid.{ValidCharge, ValidState}
-use Rattle.rules.proofs.Ranges.{and-left, and-right, and-both, below-or-not, IsFirst}
+use Rattle.rules.proofs.Ranges.{and-left, and-right, and-both, below-or-not}
 use Rattle.rules.proofs.Lists.{each-map}
-use Rattle.rules.proofs.Counts.{Sound, sound-from, sound-true}
+use Rattle.rules.proofs.Counts.{sound-from, sound-true}
 use Rattle.rules.proofs.Tables.{firstOf-none, none-firstOf}
 use Rattle.rules.proofs.Searches.{earliest-first}
 use Rattle.rules.proofs.Judgements.{Meets, judged-meets, meets-judged}

@@ -2,7 +2,7 @@
 use mathlib.Core.Path.{_≡_, refl}
 use Prim.Native.Nat.{ℕ, _+_, _≤_, _<_}
 use mathlib.Core.Bool.{Bool, true, false, cond, not}
-use mathlib.Core.List.{List, [], _∷_, _++_, map}
+use mathlib.Core.List.{List, [], _∷_, map}
 use native.Mathlib.Omega.{arith}
 use borrow.Author.Tests.{ltb-false, leb-true, leb-false, lt-leb}
 use Rattle.rules.specs.Basics.{Each, keep}
@@ -73,7 +73,7 @@ unfinished-lastEnd k b (c ∷ cs) h = go (isFinished k c) refl h (unfinished-las
 
 -- New starts for waiting charges
 
-pub restarted-nothing : (k : ℕ) (cs : List Charge) → restarted k cs [] ≡ cs
+restarted-nothing : (k : ℕ) (cs : List Charge) → restarted k cs [] ≡ cs
 restarted-nothing k [] = refl
 restarted-nothing k (c ∷ cs) = refl
 

@@ -6,11 +6,11 @@ use mathlib.Core.List.{List, [], _∷_, _++_, map}
 use native.Mathlib.Omega.{arith}
 use lib.ListN.{length}
 use borrow.Author.Tests.{le-ltb}
-use Rattle.rules.specs.Basics.{Each, Found, at, nothing, keep}
+use Rattle.rules.specs.Basics.{Each, Found, at, nothing}
 use Rattle.rules.specs.Load.{Limits, counts}
-use Rattle.rules.specs.Charge.{Charge, starting, loadsOf, isBegun, isWaiting, begunCharges, waitingCharges}
+use Rattle.rules.specs.Charge.{Charge, starting, loadsOf, isBegun, begunCharges, waitingCharges}
 use Rattle.rules.specs.Search.{Caps, firstUnbalanced}
-use Rattle.rules.specs.Replan.{Proposal, starts, none, Placed, all, stuck, placeAll, startsIn, proposed, soundStart, byLatestStart, latest, cappedStart, lineByLine, largestLine, smallestLine, lowered, placedActive, Outcome, ends, lowers, unbalancedIn, afterRound, round, goOn, roundsFrom, byLines}
+use Rattle.rules.specs.Replan.{Proposal, starts, none, Placed, all, stuck, placeAll, proposed, soundStart, byLatestStart, latest, cappedStart, lineByLine, largestLine, smallestLine, lowered, placedActive, Outcome, ends, lowers, unbalancedIn, afterRound, round, goOn, roundsFrom, byLines}
 use Rattle.rules.specs.Judgement.{restarted}
 use Rattle.rules.proofs.Validity.{Restarted, empty, same, other}
 

@@ -10,7 +10,7 @@ use Rattle.rules.specs.Charge.{loadsOf}
 use Rattle.rules.specs.Search.{added, earliest, earliestUnder, firstUnbalanced}
 use Rattle.rules.specs.Replan.{placeAll, latest, round, roundsFrom, byLines}
 use Rattle.rules.specs.Judgement.{judged}
-use Rattle.rules.specs.Calls.{State, enquire, Answer, refused, ordered, planned, waiting, charging, Call, order, move, offer, replanLatest, replanLines, opening, ordering, moving, offering, replanningLatest, replanningLines, enquiring, step}
+use Rattle.rules.specs.Calls.{State, enquire, refused, ordered, planned, waiting, charging, Call, order, move, offer, replanLatest, replanLines, opening, ordering, moving, replanningLatest, enquiring, step}
 use Rattle.guarantee.specs.DemandOne.{DemandOne}
 use Rattle.guarantee.specs.DemandTwo.{OrderStart, DemandTwo}
 use Rattle.guarantee.specs.DemandThree.{DemandThree}

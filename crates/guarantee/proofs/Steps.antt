@@ -1,28 +1,28 @@
 -- One call after another: each keeps the invariant.
-use mathlib.Core.Path.{_≡_, refl, sym, ap, _∙_}
+use mathlib.Core.Path.{_≡_, refl, _∙_}
 use Prim.Native.Nat.{ℕ, zero, suc, _+_, _-_, _≤_, _<_}
-use mathlib.Core.Bool.{Bool, true, false, not}
+use mathlib.Core.Bool.{not}
 use mathlib.Core.List.{List, [], _∷_, _++_, append-nil}
 use native.Mathlib.Omega.{arith}
 use native.Mathlib.Nat.{le-trans}
 use native.Mathlib.Numerals.{add-one}
 use lib.Dec.{ltb}
-use lib.ListN.{length, length-append, drop}
+use lib.ListN.{length, length-append}
 use borrow.Author.Tests.{ltb-false, lt-leb}
 use Rattle.rules.specs.Basics.{Found, at, nothing, firstOf}
-use Rattle.rules.specs.Load.{Limits, lastUntil, sound}
+use Rattle.rules.specs.Load.{lastUntil, sound}
 use Rattle.rules.specs.Charge.{Charge, starting, loadsOf, isFinished, unfinishedCharges}
 use Rattle.rules.specs.Search.{added, earliest}
 use Rattle.rules.specs.Replan.{Proposal, starts, none, latest, byLines}
 use Rattle.rules.specs.Judgement.{restarted, judged}
-use Rattle.rules.specs.Calls.{State, limitsOf, Answer, refused, Result, answering, Call, order, move, offer, replanLatest, replanLines, enquire, lent, refusals, newCharge, orderedAt, ordering, reported, pairs, moving, decided, tested, offering, replanningLatest, replanningLines, enquiring, granted, step}
+use Rattle.rules.specs.Calls.{State, limitsOf, Answer, refused, Result, answering, Call, order, move, offer, replanLatest, replanLines, enquire, lent, refusals, newCharge, orderedAt, ordering, moving, decided, tested, offering, replanningLatest, replanningLines, enquiring, granted, step}
 use Rattle.rules.proofs.Ranges.{or-left, IsFirst}
 use Rattle.rules.proofs.Lists.{keep-append}
 use Rattle.rules.proofs.Searches.{earliest-first}
 use Rattle.rules.proofs.Tables.{NoneHolds, firstOf-none}
 use Rattle.rules.proofs.Judgements.{judged-meets}
 use Rattle.rules.proofs.Validity.{Restarted, empty, same, other}
-use Rattle.guarantee.specs.Past.{Order, Report, Learnt, nothingNew, learnt, Past, extended, after}
+use Rattle.guarantee.specs.Past.{Order, Report, nothingNew, learnt, Past, extended, after}
 use Rattle.guarantee.proofs.Tables.{ascending-numbered, refusals-ascend}
 use Rattle.guarantee.proofs.History.{orderOf, unfinished-later}
 use Rattle.guarantee.proofs.Invariant.{Invariant, after-order, after-move, after-plan, plan-restarted, plan-held}
@@ -201,7 +201,7 @@ module _
         (λ a. refl)
     granted-next (enquire ticket) q = stays (enquire ticket) _ refl refl
 
-    pub step-next : (c : Call) → Next s k os hs rs c (step (stationOf s k os hs) c)
+    step-next : (c : Call) → Next s k os hs rs c (step (stationOf s k os hs) c)
     step-next c =
         go (firstOf (refusals (stationOf s k os hs) c))
         (λ e.

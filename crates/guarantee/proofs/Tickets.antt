@@ -6,7 +6,7 @@ use mathlib.Core.List.{List, [], _∷_, _++_}
 use native.Mathlib.Omega.{arith}
 use lib.Dec.{eqb}
 use borrow.Author.Tests.{eqb-true, lt-ltb, le-ltb, le-leb, lt-leb, eq-eqb, ne-eqb}
-use Rattle.rules.specs.Basics.{Each, keep, some}
+use Rattle.rules.specs.Basics.{Each, some}
 use Rattle.rules.specs.Charge.{Charge, endOf, isBegun, isFinished, unfinishedCharges}
 use Rattle.rules.specs.Calls.{State, told, refused, waiting, charging, enquire, enquiring, step}
 use Rattle.rules.specs.Valid.{Rising}
@@ -20,7 +20,7 @@ use Rattle.guarantee.proofs.Reports.{Worth, sumReports, sumBegun}
 
 -- Rising tickets
 
-pub rising-from : (i : ℕ) (cs : List Charge) → Rising i cs → Each (λ c. i ≤ c .ticket) cs
+rising-from : (i : ℕ) (cs : List Charge) → Rising i cs → Each (λ c. i ≤ c .ticket) cs
 rising-from i [] r = tt
 rising-from i (c ∷ cs) r = (
   r .0,
@@ -160,7 +160,7 @@ sum-ours t k (c ∷ cs) h = go (eqb (c .ticket) t) h (sum-ours t k cs)
 
 -- What an enquiry answers
 
-pub told-not-held :
+told-not-held :
     (k t : ℕ) (cs : List Charge) → some (λ c. eqb (c .ticket) t) cs ≡ false → told k cs t ≡ refused 15
 told-not-held k t [] e = refl
 told-not-held k t (c ∷ cs) e =

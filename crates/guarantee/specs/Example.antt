@@ -1,7 +1,7 @@
 -- The words of demand 3 tried on a list of calls, with the values worked out by hand.
 use mathlib.Core.Path.{_≡_, refl}
-use Prim.Native.Nat.{ℕ, _+_}
-use mathlib.Core.List.{List, [], _∷_, map}
+use Prim.Native.Nat.{ℕ}
+use mathlib.Core.List.{[], _∷_, map}
 use lib.ListN.{replicate}
 use Rattle.rules.specs.Load.{limited, balanced, sound}
 use Rattle.rules.specs.Search.{earliest}

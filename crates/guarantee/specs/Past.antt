@@ -145,6 +145,7 @@ abbrev pub enquiry : Past → ℕ → Answer
 enquiry h t = step (h .station) (enquire t) .answer
 
 -- "the start of an order is the one reported by the clock move that passed it, and until then the one that an enquiry would give"
+-- (0 where neither gives one; the fields `reported` and `waits` of demand 3 leave no accepted order so)
 abbrev pub startOf : Past → Order → ℕ
 startOf h o = reportedStart (h .reports) (o .ticket) (startIn (enquiry h (o .ticket)))
 

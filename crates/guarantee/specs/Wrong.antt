@@ -8,7 +8,7 @@ use Rattle.rules.specs.Basics.{Found, at, firstOf, keep, sortedBy}
 use Rattle.rules.specs.Charge.{Charge, loadsOf, unfinishedCharges, lastEnd}
 use Rattle.rules.specs.Search.{earliestUnder}
 use Rattle.rules.specs.Judgement.{restarted, causes}
-use Rattle.rules.specs.Calls.{State, limitsOf, holding, refused, moved, Result, answering, Call, order, move, offer, replanLatest, replanLines, enquire, lent, refusals, newCharge, orderedAt, ordering, isPassed, startBefore, reported, pairs, written, moving, kept, decided, offering, replanningLatest, replanningLines, enquiring}
+use Rattle.rules.specs.Calls.{State, limitsOf, holding, refused, moved, Result, answering, Call, order, move, offer, replanLatest, replanLines, enquire, lent, refusals, newCharge, orderedAt, ordering, isPassed, startBefore, pairs, written, moving, kept, decided, offering, replanningLatest, replanningLines, enquiring}
 
 -- what comes of each kind of call, where it is not refused
 pub record Parts : Type 0 where
