@@ -18,12 +18,11 @@ use Rattle.rules.proofs.Ranges.{below-or-not}
 use Rattle.rules.proofs.Lists.{map-append, each-map, each-append}
 use Rattle.rules.proofs.Counts.{Sound, sound-same, sound-from, count-append, draws-before}
 use Rattle.rules.proofs.Judgements.{Meets}
-use Rattle.rules.proofs.Validity.{last-until, Restarted, restarted-is, restarted-each, count-unfinished}
+use Rattle.rules.proofs.Validity.{last-until, rising-append, restarted-rising, Restarted, restarted-is, restarted-each, count-unfinished}
 use Rattle.guarantee.specs.Past.{Order, Report, firstPairs, Numbered, totalTime, lastMinute}
 use Rattle.guarantee.proofs.Each.{each-two}
 use Rattle.guarantee.proofs.History.{orderOf, ordersOf, Fit, lastEnd-keep, unfinished-lastEnd, restarted-unfinished, restarted-orders, restarted-count}
 use Rattle.guarantee.proofs.Reports.{Worth, sumReports, sumBegun, sumReports-append, sumBegun-append, sum-sorted, sum-pairs, sum-passed, sum-restarted}
-use Rattle.guarantee.proofs.Tickets.{rising-append, restarted-rising}
 
 -- y: limit and bound; k: the clock; os: the accepted orders; hs: the history; rs: the reports
 pub record Invariant (y : Limits) (k : ℕ) (os : List Order) (hs : List Charge) (rs : List Report) : Type 0 where
@@ -230,7 +229,7 @@ module _ (y : Limits) (k : ℕ) (os : List Order) (hs : List Charge) (rs : List 
             numbered = inv .numbered;
             last = inv .last;
             orders = restarted-orders plan-restarted ∙ inv .orders;
-            rising = restarted-rising plan-restarted 1 (inv .rising);
+            rising = restarted-rising 1 plan-restarted (inv .rising);
             given = restarted-each (λ c. c .ticket ≤ length os) (λ c s h g. g) plan-restarted (inv .given);
             fit =
                 restarted-each (Fit k)

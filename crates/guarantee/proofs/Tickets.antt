@@ -12,7 +12,6 @@ use Rattle.rules.specs.Calls.{State, told, refused, waiting, charging, enquire,
 use Rattle.rules.specs.Valid.{Rising}
 use Rattle.rules.proofs.Ranges.{or-left, or-right}
 use Rattle.rules.proofs.Lists.{each-map}
-use Rattle.rules.proofs.Validity.{Restarted, empty, same, other}
 use Rattle.guarantee.specs.Past.{Order, Report, timesReported, reportedStart}
 use Rattle.guarantee.proofs.Each.{each-two}
 use Rattle.guarantee.proofs.History.{Fit, ordersOf}
@@ -27,21 +26,6 @@ rising-from i (c ∷ cs) r = (
   each-map (λ d. suc (c .ticket) ≤ d .ticket) (λ d. i ≤ d .ticket) (λ d h. omega (arith, r .0)) cs
       (rising-from (suc (c .ticket)) cs (r .1)),
 )
-
-pub rising-append :
-    (i : ℕ) (cs : List Charge) (d : Charge)
-    → Rising i cs
-    → i ≤ d .ticket
-    → Each (λ c. c .ticket < d .ticket) cs
-    → Rising i (cs ++ (d ∷ []))
-rising-append i [] d r h e = (h, tt)
-rising-append i (c ∷ cs) d r h e = (r .0, rising-append (suc (c .ticket)) cs d (r .1) (omega (arith, e .0)) (e .1))
-
-pub restarted-rising :
-    {k : ℕ} {cs ds : List Charge} → Restarted k cs ds → (i : ℕ) → Rising i cs → Rising i ds
-restarted-rising empty i r = tt
-restarted-rising (same {c = c} p) i r = (r .0, restarted-rising p (suc (c .ticket)) (r .1))
-restarted-rising (other {c = c} h j p) i r = (r .0, restarted-rising p (suc (c .ticket)) (r .1))
 
 -- What is reported of a ticket
 
