@@ -4,3 +4,4 @@ pub mod Restarting
 pub mod Members
 pub mod Sorting
 pub mod Orders
+pub mod Reporting
