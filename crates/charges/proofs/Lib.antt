@@ -5,3 +5,4 @@ pub mod Members
 pub mod Sorting
 pub mod Orders
 pub mod Reporting
+pub mod Holding
