@@ -38,6 +38,11 @@ abbrev pub some : {A : Type 0} → (A → Bool) → List A → Bool
 some f [] = false
 some f (a ∷ l) = f a || some f l
 
+-- P holds of each member of a list
+abbrev pub Each {ℓ} : {A : Type ℓ} → (A → Type 0) → List A → Type 0
+Each P [] = Unit {0}
+Each P (a ∷ l) = P a × Each P l
+
 -- a list sorted by `before`, by insertion
 abbrev pub insertBy : {A : Type 0} → (A → A → Bool) → A → List A → List A
 insertBy before a [] = a ∷ []

@@ -6,7 +6,7 @@ use lib.Dec.{ltb, leb, eqb}
 use lib.ListN.{length, drop}
 use Rattle.rules.specs.Basics.{Found, at, nothing, firstOf, keep, some, sortedBy}
 use Rattle.rules.specs.Load.{Limits, limits}
-use Rattle.rules.specs.Charge.{Charge, endOf, activeFor, starting, loadsOf, isBegun, waitingCharges, unfinishedCharges, lateness}
+use Rattle.rules.specs.Charge.{Charge, endOf, activeFor, starting, loadsOf, isBegun, waitingCharges, unfinishedCharges, thenTicket, lateness}
 use Rattle.rules.specs.Search.{earliest}
 use Rattle.rules.specs.Replan.{Proposal, starts, none, latest, Replanned, byLines}
 use Rattle.rules.specs.Judgement.{restarted, judged}
@@ -177,7 +177,7 @@ isPassed clock target c = leb clock (c .start) && ltb (c .start) target
 
 -- "ordered by start, then ticket"
 abbrev pub startBefore : Charge → Charge → Bool
-startBefore a b = ltb (a .start) (b .start) || (eqb (a .start) (b .start) && ltb (a .ticket) (b .ticket))
+startBefore a b = thenTicket (a .start) (b .start) a b
 
 abbrev pub reported : ℕ → ℕ → List Charge → List Charge
 reported clock target cs = sortedBy startBefore (keep (isPassed clock target) cs)
@@ -205,6 +205,11 @@ moving s target list =
 -- Offer and both replans
 
 -- "Otherwise the station is unchanged. Answer: cause, lateness before and after (equal when kept), rounds used"
+abbrev pub kept : State → ℕ → ℕ → List ℕ → Result
+kept s cause rounds list =
+    record { answer = planned cause (lateness (s .charges)) (lateness (s .charges)) rounds; state = s; list = list }
+
+-- "Cause 0 means taken: the waiting charges get these starts."
 abbrev pub decided : State → ℕ → List ℕ → List ℕ → ℕ → Result
 decided s rounds ss list zero =
     let new : List Charge = restarted (s .clock) (s .charges) ss in
@@ -213,13 +218,12 @@ decided s rounds ss list zero =
       state = holding s (s .clock) new;
       list = list;
     }
-decided s rounds ss list (suc k) =
-    record { answer = planned (suc k) (lateness (s .charges)) (lateness (s .charges)) rounds; state = s; list = list }
+decided s rounds ss list (suc k) = kept s (suc k) rounds list
 
 -- "All three end with the same test."
 abbrev pub tested : State → ℕ → Proposal → List ℕ → Result
 tested s rounds (starts ss) list = decided s rounds ss list (judged (limitsOf s) (s .clock) (s .charges) ss)
-tested s rounds (none cause) list = decided s rounds [] list cause
+tested s rounds (none cause) list = kept s cause rounds list
 
 unfoldable pub offering : State → List ℕ → Result
 offering s ss = tested s 0 (starts ss) ss

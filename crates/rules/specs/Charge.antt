@@ -1,8 +1,8 @@
 -- Charges: what they draw, begun and waiting, finished, last end, lateness (document 01, "The yard and its words").
 use Prim.Native.Nat.{ℕ, _+_, _-_, max}
-use mathlib.Core.Bool.{Bool, not}
+use mathlib.Core.Bool.{Bool, not, _&&_, _||_}
 use mathlib.Core.List.{List, [], _∷_, map}
-use lib.Dec.{ltb, leb}
+use lib.Dec.{ltb, leb, eqb}
 use Rattle.rules.specs.Basics.{keep}
 use Rattle.rules.specs.Load.{Load, loadFrom}
 
@@ -54,6 +54,10 @@ isFinished clock c = leb (endOf c) clock
 
 abbrev pub unfinishedCharges : ℕ → List Charge → List Charge
 unfinishedCharges clock cs = keep (λ c. not (isFinished clock c)) cs
+
+-- An order of charges "by" two numbers of theirs, x and y, "then ticket".
+abbrev pub thenTicket : ℕ → ℕ → Charge → Charge → Bool
+thenTicket x y a b = ltb x y || (eqb x y && ltb (a .ticket) (b .ticket))
 
 -- "the last end of held charges (0 if none)"
 abbrev pub lastEnd : List Charge → ℕ

@@ -1,18 +1,16 @@
 -- Both replanners (document 01, "Replan by latest start" and "Replan by lines").
 use Prim.Native.Nat.{ℕ, zero, suc, _+_, _-_, min}
-use mathlib.Core.Bool.{Bool, true, false, cond, _&&_, _||_}
+use mathlib.Core.Bool.{Bool, cond, _&&_}
 use mathlib.Core.List.{List, [], _∷_, _++_, map}
-use lib.Dec.{ltb, leb, eqb}
+use lib.Dec.{leb, eqb}
 use Rattle.rules.specs.Basics.{Found, at, nothing, keep, some, sortedBy}
 use Rattle.rules.specs.Load.{Load, active, counts, Limits, onLines}
-use Rattle.rules.specs.Charge.{Charge, starting, activeFor, loadOf, loadsOf, begunCharges, waitingCharges}
+use Rattle.rules.specs.Charge.{Charge, starting, activeFor, loadOf, loadsOf, begunCharges, waitingCharges, thenTicket}
 use Rattle.rules.specs.Search.{earliest, Caps, earliestUnder, firstUnbalanced}
 
 -- "by d − p, then ticket". Each side has the other's p added, so that nothing is cut off at zero.
 abbrev pub latestStartBefore : Charge → Charge → Bool
-latestStartBefore a b =
-    ltb (a .due + b .time) (b .due + a .time)
-    || (eqb (a .due + b .time) (b .due + a .time) && ltb (a .ticket) (b .ticket))
+latestStartBefore a b = thenTicket (a .due + b .time) (b .due + a .time) a b
 
 abbrev pub byLatestStart : List Charge → List Charge
 byLatestStart cs = sortedBy latestStartBefore cs

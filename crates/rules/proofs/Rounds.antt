@@ -1,0 +1,212 @@
+-- The rounds of replan by lines: caps, largest and smallest line, and that every charge gets a start.
+use mathlib.Core.Logic.{_⊎_, inl, inr}
+use mathlib.Core.Path.{_≡_, refl, sym, _∙_}
+use Prim.Native.Nat.{ℕ, suc, _+_, min, _≤_, _<_}
+use mathlib.Core.Bool.{Bool, true, false, cond, _&&_, true≢false}
+use mathlib.Core.List.{List, [], _∷_, _++_, map, append-assoc, append-nil}
+use native.Mathlib.Omega.{arith}
+use lib.Dec.{leb, eqb}
+use borrow.Author.Tests.{leb-true, leb-false, le-leb}
+use Rattle.rules.specs.Basics.{Found, at, nothing}
+use Rattle.rules.specs.Load.{IsLine, onLines}
+use Rattle.rules.specs.Charge.{Charge, starting, activeFor, loadsOf, begunCharges, waitingCharges}
+use Rattle.rules.specs.Search.{Caps, earliestUnder}
+use Rattle.rules.specs.Replan.{Placed, all, stuck, placeAll, cappedStart, lineByLine, lowestLine, largestLine, smallestLine, lowered}
+use Rattle.rules.proofs.Ranges.{fails, below-or-not}
+use Rattle.rules.proofs.Lists.{map-append}
+use Rattle.rules.proofs.Counts.{onLines-at, onLines-all}
+use Rattle.rules.proofs.Searches.{under-found}
+
+-- Caps
+
+-- a cap never rises along the minutes
+abbrev pub NeverRises : Caps → Type 0
+NeverRises cap = (l t u : ℕ) → t ≤ u → cap l u ≤ cap l t
+
+-- a cap is never below 1
+abbrev pub AtLeastOne : Caps → Type 0
+AtLeastOne cap = (l t : ℕ) → 1 ≤ cap l t
+
+-- "N at first"
+pub first-never-rises : (n : ℕ) → NeverRises (λ l t. n)
+first-never-rises n l t u h = omega arith
+
+pub lowered-never-rises : (cap : Caps) (i t v : ℕ) → NeverRises cap → NeverRises (lowered cap i t v)
+lowered-never-rises cap i t v c l a b h = go (eqb l i) (leb t a) refl (leb t b) refl
+  where
+    go :
+        (e x : Bool)
+        → leb t a ≡ x
+        → (y : Bool)
+        → leb t b ≡ y
+        → cond (e && y) (min (cap l b) v) (cap l b) ≤ cond (e && x) (min (cap l a) v) (cap l a)
+    go false x p y q = c l a b h
+    go true true p true q = omega (arith, c l a b h)
+    go true true p false q = absurd (omega (arith, leb-true t a p, leb-false t b q))
+    go true false p true q = omega (arith, c l a b h)
+    go true false p false q = c l a b h
+
+pub lowered-at-least-one : (cap : Caps) (i t v : ℕ) → 1 ≤ v → AtLeastOne cap → AtLeastOne (lowered cap i t v)
+lowered-at-least-one cap i t v h c l u = go (eqb l i && leb t u)
+  where
+    go : (b : Bool) → 1 ≤ cond b (min (cap l u) v) (cap l u)
+    go true = omega (arith, c l u)
+    go false = c l u
+
+-- The largest and the smallest line
+
+-- the lowest line at which a test holds
+pub record Lowest (f : ℕ → Bool) (i : ℕ) : Type 0 where
+  pub line : IsLine i
+  pub here : f i ≡ true
+  pub least : (l : ℕ) → 1 ≤ l → l < i → f l ≡ false
+
+lowest-line : (f : ℕ → Bool) → (f 1 ≡ false → f 2 ≡ false → f 3 ≡ true) → Lowest f (lowestLine f)
+lowest-line f h = go (f 1) (f 2) refl refl
+  where
+    go : (x y : Bool) → f 1 ≡ x → f 2 ≡ y → Lowest f (cond x 1 (cond y 2 3))
+    go true y p q = record { line = line-one; here = p; least = λ l a b. absurd (omega arith) }
+      where
+        line-one : IsLine 1
+        line-one = omega arith
+    go false true p q =
+        record { line = line-two; here = q; least = λ l a b. let same : l ≡ 1 = omega arith in rw same p }
+      where
+        line-two : IsLine 2
+        line-two = omega arith
+    go false false p q = record { line = line-three; here = h p q; least = λ l a b. below l a b (below-or-not l 2) }
+      where
+        line-three : IsLine 3
+        line-three = omega arith
+
+        below : (l : ℕ) → 1 ≤ l → l < 3 → (l < 2) ⊎ (2 ≤ l) → f l ≡ false
+        below l a b (inl j) = let same : l ≡ 1 = omega arith in rw same p
+        below l a b (inr j) = let same : l ≡ 2 = omega arith in rw same q
+
+-- r a b: line a stands no higher than line b
+pub record Ranking (r : ℕ → ℕ → Bool) : Type 0 where
+  pub same : (a : ℕ) → r a a ≡ true
+  pub either : (a b : ℕ) → r a b ≡ false → r b a ≡ true
+  pub onwards : (a b c : ℕ) → r a b ≡ true → r b c ≡ true → r a c ≡ true
+
+-- every line stands no higher than i, and each lower line lower
+pub record Top (r : ℕ → ℕ → Bool) (i : ℕ) : Type 0 where
+  pub line : IsLine i
+  pub highest : (l : ℕ) → IsLine l → r l i ≡ true
+  pub lowest : (l : ℕ) → 1 ≤ l → l < i → r i l ≡ false
+
+module _ (r : ℕ → ℕ → Bool) (k : Ranking r) where
+  topTest : ℕ → Bool
+  topTest l = onLines (λ m. r m l)
+
+  -- where neither line 1 nor line 2 is the highest, line 3 is
+  third : topTest 1 ≡ false → topTest 2 ≡ false → topTest 3 ≡ true
+  unfolding topTest
+  third p q = go (r 1 3) (r 2 3) refl refl
+    where
+      first-false : r 3 1 ≡ true → r 2 1 ≡ false
+      first-false e = fails (r 2 1) (λ f. true≢false (rw (k .same 1, f, e) at p))
+
+      second-false : r 3 2 ≡ true → r 1 2 ≡ false
+      second-false e = fails (r 1 2) (λ f. true≢false (rw (f, k .same 2, e) at q))
+
+      go : (x y : Bool) → r 1 3 ≡ x → r 2 3 ≡ y → onLines (λ m. r m 3) ≡ true
+      go true true e f = rw (e, f, k .same 3)
+      go false y e f =
+          let u : r 3 1 ≡ true = k .either 1 3 e in
+          let v : r 1 2 ≡ true = k .either 2 1 (first-false u) in
+          absurd (true≢false (rw v at (second-false (k .onwards 3 1 2 u v))))
+      go true false e f =
+          let u : r 3 2 ≡ true = k .either 2 3 f in
+          let v : r 2 1 ≡ true = k .either 1 2 (second-false u) in
+          absurd (true≢false (rw v at (first-false (k .onwards 3 2 1 u v))))
+
+  pub top-line : Top r (lowestLine (λ l. onLines (λ m. r m l)))
+  unfolding topTest
+  top-line =
+      let w : Lowest topTest (lowestLine topTest) = lowest-line topTest third in
+      let i : ℕ = lowestLine topTest in
+      record {
+        line = w .line;
+        highest = λ l h. onLines-at (λ m. r m i) (w .here) l h;
+        lowest =
+            λ l a b.
+            fails (r i l)
+            (λ e.
+            true≢false
+            (sym
+            (onLines-all (λ m. r m l) (λ m h. k .onwards m i l (onLines-at (λ x. r x i) (w .here) m h) e))
+            ∙ w .least l a b));
+      }
+
+up : (f : ℕ → ℕ) → Ranking (λ a b. leb (f a) (f b))
+up f =
+    record {
+      same = λ a. le-leb (f a) (f a) (omega arith);
+      either = λ a b e. le-leb (f b) (f a) (omega (arith, leb-false (f a) (f b) e));
+      onwards =
+          λ a b c p q. le-leb (f a) (f c) (omega (arith, leb-true (f a) (f b) p, leb-true (f b) (f c) q));
+    }
+
+down : (f : ℕ → ℕ) → Ranking (λ a b. leb (f b) (f a))
+down f =
+    record {
+      same = up f .same;
+      either = λ a b. up f .either b a;
+      onwards = λ a b c p q. up f .onwards c b a q p;
+    }
+
+-- "i is the line with the largest count .., lowest line first among equals"
+pub largest-line : (f : ℕ → ℕ) → Top (λ a b. leb (f a) (f b)) (largestLine f)
+largest-line f = top-line (λ a b. leb (f a) (f b)) (up f)
+
+pub smallest-line : (f : ℕ → ℕ) → Top (λ a b. leb (f b) (f a)) (smallestLine f)
+smallest-line f = top-line (λ a b. leb (f b) (f a)) (down f)
+
+-- Every charge gets a start
+
+abbrev pub tickets : List Charge → List ℕ
+tickets cs = map (λ c. c .ticket) cs
+
+-- the charges are placed, each once and in turn
+pub record AllPlaced (find : List Charge → Charge → Found) (placed cs : List Charge) : Type 0 where
+  pub plan : List Charge
+  pub gives : placeAll find placed cs ≡ all plan
+  pub each : tickets plan ≡ tickets placed ++ tickets cs
+
+-- a search that always finds a start places every charge
+pub all-placed :
+    (find : List Charge → Charge → Found)
+    → ((placed : List Charge) (c : Charge) → (s : ℕ) × (find placed c ≡ at s))
+    → (placed cs : List Charge)
+    → AllPlaced find placed cs
+unfolding placeAll
+all-placed find h placed [] = record { plan = placed; gives = refl; each = sym (append-nil (tickets placed)) }
+all-placed find h placed (c ∷ cs) = go (h placed c) (λ s. all-placed find h (placed ++ (starting c s ∷ [])) cs)
+  where
+    go :
+        (s : ℕ) × (find placed c ≡ at s)
+        → ((s : ℕ) → AllPlaced find (placed ++ (starting c s ∷ [])) cs)
+        → AllPlaced find placed (c ∷ cs)
+    go (s, e) rest =
+        record {
+          plan = rest s .plan;
+          gives = rw (e, placeAll) (rest s .gives);
+          each =
+              rest s .each
+              ∙ rw (
+                map-append (λ (x : Charge). x .ticket) placed (starting c s ∷ []),
+                append-assoc (tickets placed) (c .ticket ∷ []) (tickets cs),
+              );
+        }
+
+-- in a round every charge gets a start
+pub round-places :
+    (cap : Caps) (clock : ℕ) (held : List Charge)
+    → AtLeastOne cap
+    → AllPlaced (cappedStart cap clock (begunCharges clock held)) [] (lineByLine (waitingCharges clock held))
+round-places cap clock held h =
+    all-placed (cappedStart cap clock (begunCharges clock held))
+    (λ placed c. under-found cap clock (loadsOf (begunCharges clock held ++ placed)) (c .line) (activeFor c) (h (c .line)))
+    []
+    (lineByLine (waitingCharges clock held))

@@ -1,0 +1,32 @@
+-- An ordered table of conditions: the first that holds.
+use mathlib.Core.Path.{_≡_, refl}
+use Prim.Native.Nat.{ℕ, _≤_}
+use mathlib.Core.Bool.{Bool, true, false, cond}
+use mathlib.Core.List.{List, [], _∷_}
+use native.Mathlib.Omega.{arith}
+use Rattle.rules.specs.Basics.{Each, firstOf}
+
+-- no condition of the table holds
+abbrev pub NoneHolds : List (Bool × ℕ) → Type 0
+NoneHolds rows = Each (λ (row : Bool × ℕ). row .0 ≡ false) rows
+
+-- each number is above 0
+abbrev pub Numbered : List (Bool × ℕ) → Type 0
+Numbered rows = Each (λ (row : Bool × ℕ). 1 ≤ row .1) rows
+
+pub firstOf-none : (rows : List (Bool × ℕ)) → Numbered rows → firstOf rows ≡ 0 → NoneHolds rows
+firstOf-none [] p e = tt
+firstOf-none (row ∷ rows) p e = go (row .0) refl e (firstOf-none rows (p .1))
+  where
+    go :
+        (b : Bool)
+        → row .0 ≡ b
+        → cond b (row .1) (firstOf rows) ≡ 0
+        → (firstOf rows ≡ 0 → NoneHolds rows)
+        → (row .0 ≡ false) × NoneHolds rows
+    go true q u later = absurd (omega (arith, p .0))
+    go false q u later = (q, later u)
+
+pub none-firstOf : (rows : List (Bool × ℕ)) → NoneHolds rows → firstOf rows ≡ 0
+none-firstOf [] e = refl
+none-firstOf (row ∷ rows) e = rw (e .0, none-firstOf rows (e .1))
