@@ -1,20 +1,20 @@
 -- An enquiry, from the place at which the ticket was found.
-use mathlib.Core.Path.{_≡_, refl, ap, sym, _∙_}
-use Prim.Native.Nat.{ℕ, zero, suc, _+_, _≤_, _<_}
-use mathlib.Core.Bool.{Bool, true, false, cond, not, _||_}
-use mathlib.Core.List.{List, [], _∷_}
+use mathlib.Core.Path.{_≡_, refl, _∙_}
+use Prim.Native.Nat.{ℕ, zero, suc, _≤_, _<_}
+use mathlib.Core.Bool.{Bool, true, false, cond, _||_}
+use mathlib.Core.List.{[]}
 use native.Mathlib.Omega.{arith}
 use lib.Dec.{eqb}
 use borrow.Author.Tests.{lt-ltb, le-ltb}
 use Rattle.rules.specs.Basics.{tabulate, Found, at, nothing, first, firstOf, some}
 use Rattle.rules.specs.Charge.{Charge, endOf, isBegun}
-use Rattle.rules.specs.Calls.{State, Answer, refused, waiting, charging, Result, refusals, told, enquiring, enquire, step}
+use Rattle.rules.specs.Calls.{Answer, refused, waiting, charging, refusals, told, enquiring, enquire, step}
 use Rattle.rules.proofs.Ranges.{first-found}
 use Rattle.charges.specs.Arrays.{chargeAt}
 use Rattle.station.specs.declared.Station.{Station}
 use Rattle.station.specs.View.{view}
 use Rattle.station.specs.Answers.{giving}
-use Rattle.station.proofs.Refusing.{answering-refused, answering-granted}
+use Rattle.station.proofs.Refusing.{answering-granted}
 
 -- what is said of a charge
 abbrev pub toldOf : ℕ → Charge → Answer

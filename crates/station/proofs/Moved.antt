@@ -1,13 +1,13 @@
 -- A clock move: the plan stays sound, the station valid, and the result is that of the rules.
 use mathlib.Core.Path.{_≡_, refl, ap, sym, _∙_}
-use Prim.Native.Nat.{ℕ, zero, suc, _+_, _-_, _*_, _≤_, _<_}
+use Prim.Native.Nat.{ℕ, _+_, _-_, _≤_}
 use mathlib.Core.Bool.{Bool, true, false, cond, not}
 use mathlib.Core.List.{List, [], _∷_, map}
 use native.Mathlib.Omega.{arith}
 use lib.Dec.{ltb}
 use lib.ListN.{length, length-map}
 use borrow.Author.Tests.{ltb-false, leb-true}
-use Rattle.rules.specs.Basics.{firstOf, keep}
+use Rattle.rules.specs.Basics.{firstOf}
 use Rattle.rules.specs.Load.{Limits, count, counts, sound}
 use Rattle.rules.specs.Charge.{Charge, loadOf, loadsOf, isFinished, unfinishedCharges}
 use Rattle.rules.specs.Calls.{moved, refusals, reported, pairs, written, moving, move, step, limitsOf}

@@ -1,5 +1,5 @@
 -- What a station is in the words of the rules, and what every call needs of it and keeps.
-use Prim.Native.Nat.{ℕ, _≤_}
+use Prim.Native.Nat.{_≤_}
 use mathlib.Core.Path.{_≡_}
 use mathlib.Core.Bool.{true}
 use Rattle.rules.specs.Load.{sound}

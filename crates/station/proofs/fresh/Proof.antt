@@ -1,12 +1,8 @@
 use native.Mathlib.Omega.{arith}
 use Rattle.station.proofs.Opened.{product-most, view-fresh, valid-fresh}
-use native.Mathlib.Omega.{arith}
 use borrow.Author.Needs.{needs}
 use Rattle.station.proofs.fresh.Statement.{statement}
 use Rattle.station.proofs.fresh.Tie as tie
-use Rattle.station.proofs.fresh.Reads as reads
-use Rattle.station.proofs.fresh.Lts as lts
-use Rattle.charges.proofs.Charges.none.Reads as none-reads
 
 mul-t3 : tie.Need-mul-t3
 mul-t3 c = omega (arith, product-most _ _ (c .pre .1) (c .pre .2))

@@ -3,8 +3,6 @@ use Rattle.station.proofs.Opened.{product-most}
 use native.Mathlib.Omega.{arith}
 use Rattle.station.proofs.open_refusal.Statement.{statement}
 use Rattle.station.proofs.open_refusal.Tie as tie
-use Rattle.station.proofs.open_refusal.Reads as reads
-use Rattle.station.proofs.open_refusal.Lts as lts
 
 returns : tie.Need-returns
 returns c = simp (lt-ltb _ _ (c .if1 .taken))

@@ -1,7 +1,6 @@
 use mathlib.Core.Path.{_≡_, ap, sym, _∙_}
 use mathlib.Core.List.{[]}
 use Prim.Native.Nat.{ℕ, _<_}
-use Rattle.rules.specs.Basics.{at}
 use Rattle.rules.specs.Calls.{Answer, enquire, step}
 use Rattle.charges.specs.Arrays.{chargeAt, foundAt}
 use Rattle.charges.specs.Held.{Small}
@@ -13,9 +12,6 @@ use native.Mathlib.Omega.{arith}
 use borrow.Author.Needs.{needs}
 use Rattle.station.proofs.Station.enquire.Statement.{statement}
 use Rattle.station.proofs.Station.enquire.Tie as tie
-use Rattle.station.proofs.Station.enquire.Reads as reads
-use Rattle.station.proofs.Station.enquire.Lts as lts
-use Rattle.charges.proofs.Charges.find.Reads as find-reads
 
 find-requires : tie.Need-find-requires
 find-requires c κs = search needs

@@ -7,12 +7,6 @@ use Rattle.rules.specs.Calls.{move}
 use borrow.Author.Needs.{needs}
 use Rattle.station.proofs.Station.move_clock.Statement.{statement}
 use Rattle.station.proofs.Station.move_clock.Tie as tie
-use Rattle.station.proofs.Station.move_clock.Reads as reads
-use Rattle.station.proofs.Station.move_clock.Lts as lts
-use Rattle.charges.proofs.Charges.by_start.Reads as by-start-reads
-use Rattle.charges.proofs.Charges.report.Reads as report-reads
-use Rattle.charges.proofs.Charges.unfinished.Reads as unfinished-reads
-use Rattle.station.proofs.Station.move_refusal.Reads as move-refusal-reads
 
 -- src/lib.rt:139:13
 move-refusal-requires : tie.Need-move-refusal-requires

@@ -1,8 +1,6 @@
 use borrow.Author.Tests.{lt-ltb, le-ltb}
 use Rattle.station.proofs.Station.move_refusal.Statement.{statement}
 use Rattle.station.proofs.Station.move_refusal.Tie as tie
-use Rattle.station.proofs.Station.move_refusal.Reads as reads
-use Rattle.station.proofs.Station.move_refusal.Lts as lts
 
 returns : tie.Need-returns
 returns c = simp (lt-ltb _ _ (c .if1 .taken))

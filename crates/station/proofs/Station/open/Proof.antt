@@ -1,13 +1,9 @@
-use mathlib.Core.Path.{_≡_, sym, _∙_}
+use mathlib.Core.Path.{sym, _∙_}
 use native.Mathlib.Omega.{arith}
 use Rattle.station.proofs.Opened.{open-granted, open-refused, open-opened}
 use borrow.Author.Needs.{needs}
 use Rattle.station.proofs.Station.open.Statement.{statement}
 use Rattle.station.proofs.Station.open.Tie as tie
-use Rattle.station.proofs.Station.open.Reads as reads
-use Rattle.station.proofs.Station.open.Lts as lts
-use Rattle.station.proofs.fresh.Reads as fresh-reads
-use Rattle.station.proofs.open_refusal.Reads as open-refusal-reads
 
 open-refusal-requires : tie.Need-open-refusal-requires
 open-refusal-requires c κs = search needs
