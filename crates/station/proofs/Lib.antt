@@ -1,4 +1,5 @@
 pub mod Refusing
+pub mod Listing
 pub mod Opened
 pub mod Enquiring
 pub mod Moved

@@ -44,22 +44,6 @@ module _ (n c : ℕ) (h : Charges) (none : Holds [] h) where
   pub view-fresh : view (freshStation n c h) ≡ fresh n c
   view-fresh = rw (none .charges)
 
-  pub valid-fresh : 1 ≤ n → n ≤ 60 → c ≤ 100 → 100 ≤ c * n → Valid (freshStation n c h)
-  unfolding sound
-  valid-fresh a b d e =
-      record {
-        limit-some = a;
-        limit-most = b;
-        percent-most = d;
-        bound-is = refl;
-        bound-some = omega arith;
-        clock-most = omega arith;
-        next-some = omega arith;
-        next-most = omega arith;
-        held = list-held h none (held-none 0 1);
-        plan-sound = rw (none .charges);
-      }
-
 -- The result of an opening
 
 module _ (n c k : ℕ) (s : Station) (e : k ≡ firstOf (openRefusals n c)) where

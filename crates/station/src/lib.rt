@@ -4,6 +4,7 @@ ghost use mathlib.Core.List.{[]};
 ghost use Prim.Native.Nat.{_*_, _<_, _≤_};
 ghost use Rattle.rules.specs.Basics.{firstOf};
 ghost use Rattle.rules.specs.Calls.{fresh as freshState, openRefusals, opening, refusals, move as moveCall, enquire as enquireCall, step};
+ghost use Rattle.charges.specs.Arrays.{Columns};
 ghost use Rattle.station.specs.View.{view, Valid};
 ghost use Rattle.station.specs.Answers.{giving, Gives, openAnswer, moveAnswer, enquiryAnswer};
 
@@ -63,7 +64,7 @@ fn open_refusal(limit: u32, percent: u32) -> u32
 
 fn fresh(limit: u32, percent: u32) -> Station
     requires { ⌜ (1 ≤ limit) × (limit ≤ 60) × (percent ≤ 100) × (100 ≤ percent * limit) ⌝ }
-    ensures { λ r. ⌜ (view r ≡ freshState limit percent) × Valid r ⌝ }
+    ensures { λ r. ⌜ (view r ≡ freshState limit percent) × Columns (r .charges) ⌝ }
 {
     Station {
         limit,
