@@ -186,11 +186,13 @@ module _ {p : Profile} {time limit bound line : ℕ} (can : CanStart p time) (so
   -- past the last step one more load is alone
   pub within-rests : Rests rooms (p .steps)
   within-rests =
+      let e : getD rooms (p .steps - 1) 0 ≡ 4294967295 =
       w .filled .each (p .steps - 1) (omega (arith, can .formed .some))
       ∙ ap (λ (b : Bool). cond b 4294967295 0)
       (sound-all (limits limit bound) (λ l. getD (lineOf p l) (p .steps - 1) 0 + share line l)
       (sound-same (limits limit bound) (share line) (λ l. getD (lineOf p l) (p .steps - 1) 0 + share line l) (λ l h. omega (arith, can .empty l h))
-      (sound-few (limits limit bound) (share line) some-limit some-bound (share-most line))))
+      (sound-few (limits limit bound) (share line) some-limit some-bound (share-most line)))) in
+      omega arith
 
   pub within-all : AllOrNone rooms (p .steps)
   within-all i h = go (soundCounts (limits limit bound) (λ l. getD (lineOf p l) i 0 + share line l)) (w .filled .each i h)

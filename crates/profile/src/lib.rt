@@ -1,4 +1,5 @@
 // How many points draw on each line, minute by minute: the changes in rising order, and the searches over them.
+pub mod caps;
 pub mod counts;
 pub mod loads;
 pub mod room;
