@@ -12,7 +12,7 @@ ghost use Prim.Native.Nat.{ℕ, _+_, _-_, _<_, _≤_, max};
 ghost use lib.ListN.{length, getD};
 ghost use Rattle.rules.specs.Load.{IsLine};
 ghost use Rattle.profile.specs.Steps.{Rising};
-ghost use Rattle.profile.specs.Shows.{profileOf, lineOf, CanStart, Earliest};
+ghost use Rattle.profile.specs.Shows.{profileOf, lineOf, soundIn, CanStart, UnsoundIn, Earliest};
 ghost use Rattle.profile.specs.Caps.{capsIn, capsOf, CanCap, CanStartUnder, LeastUnder, EarliestUnder};
 
 // The first start, not below the clock, that reaches the end.
@@ -23,6 +23,37 @@ pub fn reaching(clock: u32, end: u32, time: u32) -> u32
         return larger(clock, end - time);
     }
     clock
+}
+
+// The first and the last minute that is not sound.
+pub enum Unsound {
+    Between { first: u32, last: u32 },
+    Nothing,
+}
+
+// The first and the last minute in which the counts are not within limit and bound.
+pub fn unsound_minutes<'a>(
+    at: &'a [u32; 362],
+    one: &'a [u32; 362],
+    two: &'a [u32; 362],
+    three: &'a [u32; 362],
+    n: usize,
+    limit: u32,
+    bound: u32,
+) -> Unsound
+    requires { ⌜ CanStart (profileOf n (now at) (now one) (now two) (now three)) 0 × (1 ≤ limit) × (1 ≤ bound) ⌝ }
+    ensures { λ r. ⌜ UnsoundIn (soundIn (profileOf n (now (at .entry)) (now (one .entry)) (now (two .entry)) (now (three .entry))) limit bound) (getD (now (at .entry)) 0 0) (getD (now (at .entry)) (n - 1) 0) r ⌝ }
+{
+    let rooms = rooms_within(one, two, three, n, limit, bound, 0);
+    let end = settled(at, &rooms, n);
+    let f = first_failing(at, &rooms, n, 0, at[0], end);
+    let Failing::At { minute, step: _ } = f else {
+        return Unsound::Nothing;
+    };
+    Unsound::Between {
+        first: minute,
+        last: end - 1,
+    }
 }
 
 // The smallest start, not below the clock, with which the loads and one more are sound together. The loads may be
@@ -42,16 +73,14 @@ pub fn earliest<'a>(
     ensures { λ r. ⌜ Earliest (profileOf n (now (at .entry)) (now (one .entry)) (now (two .entry)) (now (three .entry))) limit bound line time r ⌝ }
 {
     let clock = at[0];
-    let held = rooms_within(one, two, three, n, limit, bound, 0);
     let rooms = rooms_within(one, two, three, n, limit, bound, line);
-    let end = settled(at, &held, n);
-    let start = reaching(clock, end, time);
-    let s = search(at, &rooms, n, time, start);
-    let f = first_failing(at, &held, n, 0, clock, end);
-    let Failing::At { minute, step: _ } = f else {
-        return When::Minute(s);
+    let u = unsound_minutes(at, one, two, three, n, limit, bound);
+    let Unsound::Between { first, last } = u else {
+        return When::Minute(search(at, &rooms, n, time, clock));
     };
-    if s <= minute {
+    let start = reaching(clock, last + 1, time);
+    let s = search(at, &rooms, n, time, start);
+    if s <= first {
         When::Minute(s)
     } else {
         When::Never
