@@ -1,4 +1,6 @@
 // A charging station by value, and its calls.
+pub mod order;
+
 ghost use mathlib.Core.Path.{_≡_};
 ghost use mathlib.Core.List.{[]};
 ghost use Prim.Native.Nat.{_*_, _<_, _≤_};
