@@ -8,10 +8,10 @@ use Rattle.station.specs.declared.OpenAnswer.{OpenAnswer}
 use Rattle.station.specs.declared.OpenAnswer.the-variants.{Opened, Refused as OpenRefused}
 use Rattle.station.specs.declared.order.OrderAnswer.{OrderAnswer}
 use Rattle.station.specs.declared.order.OrderAnswer.the-variants.{Ordered, Refused as OrderRefused}
-use Rattle.station.specs.declared.MoveAnswer.{MoveAnswer}
-use Rattle.station.specs.declared.MoveAnswer.the-variants.{Moved, Refused as MoveRefused}
-use Rattle.station.specs.declared.Enquiry.{Enquiry}
-use Rattle.station.specs.declared.Enquiry.the-variants.{Waiting, Charging, Refused as EnquiryRefused}
+use Rattle.station.specs.declared.clock.MoveAnswer.{MoveAnswer}
+use Rattle.station.specs.declared.clock.MoveAnswer.the-variants.{Moved, Refused as MoveRefused}
+use Rattle.station.specs.declared.enquiry.Enquiry.{Enquiry}
+use Rattle.station.specs.declared.enquiry.Enquiry.the-variants.{Waiting, Charging, Refused as EnquiryRefused}
 use Rattle.station.specs.View.{view, Valid}
 
 -- an answer, the station beside it and the lent list, as a result of the rules
