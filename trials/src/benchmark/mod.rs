@@ -22,20 +22,23 @@ mod table;
 use pair::Pair;
 use std::time::Instant;
 
-/// Prints the tables as parts of docs/BENCHMARKS.md.
+/// Prints the tables as the last part of docs/BENCHMARKS.md, which says more about
+/// each of them.
 pub fn run(program: &str, repeat: usize) -> Result<(), String> {
     let begun = Instant::now();
     let pair = Pair::new(program, repeat)?;
+    // A program that is not there, or does not speak the protocol, is told at once.
+    pair.answers(&[b"open 5 20".to_vec()])?;
     print_method(&pair, repeat)?;
-    println!("## Whole days\n");
+    println!("### Whole days\n");
     days::print(&pair)?;
-    println!("## Single calls with 180 charges\n");
+    println!("### Single calls with 180 charges\n");
     single::print(&pair)?;
-    println!("## Growth with the charges held\n");
+    println!("### Growth with the charges held\n");
     single::print_growth(&pair)?;
-    println!("## Deepest stack\n");
+    println!("### Deepest stack\n");
     stack::print(&pair)?;
-    println!("## What the plans are worth\n");
+    println!("### What the plans are worth\n");
     plans::print()?;
     println!("The run took {:.0} s.", begun.elapsed().as_secs_f64());
     Ok(())
@@ -47,13 +50,11 @@ fn print_method(pair: &Pair, repeat: usize) -> Result<(), String> {
         false => "time that passed",
     };
     let cores = std::thread::available_parallelism().map_or(1, usize::from);
+    let noise = days::noise(pair)?;
+    println!("Times are medians of {repeat} repeats ({clock}), ± half the width of the middle");
+    println!("half. Ratios are medians of the ratios of each repeat, with their middle half in");
     println!(
-        "Times are medians of {repeat} repeats ({clock}), ± half the width of the middle half;"
-    );
-    println!("ratios are medians of the repeats' own ratios, with the middle half in brackets.");
-    println!(
-        "{cores} cores. Noise: the Rust program against itself has ratio {}.\n",
-        days::noise(pair)?
+        "brackets. {cores} cores. Noise: the Rust program against itself has ratio {noise}.\n"
     );
     Ok(())
 }

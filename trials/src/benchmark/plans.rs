@@ -48,12 +48,14 @@ fn row(table: &mut Table, title: &str, valued: &[Valued], picks: impl Fn(&Class)
     let [_, latest, lines] = sums;
     let more = latest.lateness as f64 / lines.lateness.max(1) as f64 - 1.0;
     cells.push(format!("{:+.1} %", 100.0 * more));
+    cells.push(format!("{:.1}", lines.rounds as f64 / lines.replans().max(1) as f64));
     table.row(cells);
 }
 
 fn print_lateness(valued: &[Valued]) {
-    let mut table =
-        Table::new(&["days", "no replan", "latest start", "by lines", "latest over lines"]);
+    let titles =
+        ["days", "no replan", "latest start", "by lines", "latest over lines", "rounds a replan"];
+    let mut table = Table::new(&titles);
     for scenario in 1..=3 {
         for (even, lines) in [(true, "even"), (false, "10, 30, 60")] {
             let picks = |class: &Class| class.scenario == scenario && class.even == even;
@@ -73,7 +75,7 @@ fn print_lateness(valued: &[Valued]) {
 
 /// Why replans kept the old plan.
 fn print_causes(valued: &[Valued]) {
-    let titles = ["replans", "taken", "cause 1", "cause 2", "cause 4", "cause 7", "rounds each"];
+    let titles = ["replans", "taken", "cause 1", "cause 2", "cause 4", "cause 7"];
     let mut table = Table::new(&titles);
     let (sums, _) = sum(valued, |_| true);
     for (replan, worth) in REPLANS.iter().zip(sums).skip(1) {
@@ -81,7 +83,6 @@ fn print_causes(valued: &[Valued]) {
         let share = |cause: usize| format!("{:.1} %", 100.0 * worth.causes[cause] as f64 / replans);
         let mut cells = vec![replan.title().to_string()];
         cells.extend([0, 1, 2, 4, 7].map(share));
-        cells.push(format!("{:.1}", worth.rounds as f64 / replans));
         table.row(cells);
     }
     table.print();

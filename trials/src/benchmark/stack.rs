@@ -73,6 +73,10 @@ pub fn print(pair: &Pair) -> Result<(), String> {
         let [bad, good] = cells;
         table.row(vec![title.to_string(), bad, good]);
     }
+    println!(
+        "The smallest stack (`ulimit -s`) with which all answers to {} lines are right:\n",
+        lines.len()
+    );
     table.print();
     Ok(())
 }

@@ -96,7 +96,9 @@ pub fn queue(held: usize) -> Vec<Line> {
 #[cfg(test)]
 mod tests {
     use super::*;
+    use crate::protocol::read_call;
     use crate::script::{reference_answers, show};
+    use std::collections::BTreeSet;
 
     fn last_answer(lines: &[Line]) -> String {
         show(reference_answers(lines).last().expect("an answer"))
@@ -122,6 +124,18 @@ mod tests {
         let (mut lines, _) = dense(150);
         lines.extend(behind_dense(2));
         assert_eq!(last_answer(&lines), "ticket 152 start 2881");
+    }
+
+    #[test]
+    fn changes_of_the_dense_plan_fall_in_minutes_of_their_own() {
+        let (lines, offer) = dense(180);
+        let Ok(Some(Call::Offer { starts })) = read_call(&offer) else { panic!("no offer") };
+        let times = lines.iter().filter_map(|line| match read_call(line) {
+            Ok(Some(Call::Order { time, .. })) => Some(time),
+            _ => None,
+        });
+        let changes = starts.iter().zip(times).flat_map(|(start, time)| [*start, start + time]);
+        assert_eq!(changes.collect::<BTreeSet<u32>>().len(), 2 * 180 - 1);
     }
 
     #[test]
