@@ -14,7 +14,8 @@ trials fast < SCRIPT                         answers of the fast program
 trials generate [--kind KIND] [--seed S] [--scripts K]
 trials compare PROGRAM [--scripts K] [--seed S] [--kind KIND] [--patience SECONDS]
 trials coverage [--scripts K] [--seed S] [--kind KIND]
-trials benchmark PROGRAM [--repeat R]        run times beside those of the fast program
+trials benchmark PROGRAM [--repeat R] [--days D]
+                                             run times beside those of the fast program
 trials demand SCRIPT ANSWERS                 demand 3 from calls and answers alone";
 
 type Outcome = Result<(), String>;
@@ -116,7 +117,7 @@ fn print_coverage(choice: &Choice) -> Outcome {
 
 fn run_benchmark(words: &Words) -> Outcome {
     let command = words.others.get(1).or(words.named.get("program")).ok_or(USAGE)?;
-    benchmark::run(command, words.number("repeat", 5)? as usize)
+    benchmark::run(command, words.number("repeat", 5)? as usize, words.number("days", 5)?)
 }
 
 fn run_comparison(words: &Words) -> Outcome {

@@ -23,8 +23,8 @@ use pair::Pair;
 use std::time::Instant;
 
 /// Prints the tables as the last part of docs/BENCHMARKS.md, which says more about
-/// each of them.
-pub fn run(program: &str, repeat: usize) -> Result<(), String> {
+/// each of them. `days` is how many days of each class are valued; the source has 30.
+pub fn run(program: &str, repeat: usize, days: u64) -> Result<(), String> {
     let begun = Instant::now();
     let pair = Pair::new(program, repeat)?;
     // A program that is not there, or does not speak the protocol, is told at once.
@@ -39,7 +39,7 @@ pub fn run(program: &str, repeat: usize) -> Result<(), String> {
     println!("### Deepest stack\n");
     stack::print(&pair)?;
     println!("### What the plans are worth\n");
-    plans::print()?;
+    plans::print(days.max(1))?;
     println!("The run took {:.0} s.", begun.elapsed().as_secs_f64());
     Ok(())
 }

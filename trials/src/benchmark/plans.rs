@@ -6,26 +6,24 @@ use super::table::Table;
 use crate::fast::Station;
 use crate::script::answers_of;
 
-/// Days of a class. The source has 30.
-const DAYS: u64 = 5;
-
 /// One class: what its days came to without replan, by latest start and by lines.
 struct Valued {
     class: Class,
+    days: u64,
     worths: [Worth; 3],
 }
 
 /// The Rust program gives the answers, for the sake of time. Those of the program
 /// are the same: on the first day of each class they have been compared.
-fn value(class: Class) -> Result<Valued, String> {
+fn value(class: Class, days: u64) -> Result<Valued, String> {
     let mut worths = [Worth::default(); 3];
-    for number in 0..DAYS {
+    for number in 0..days {
         for (replan, sum) in REPLANS.iter().zip(&mut worths) {
             let script = day::script(class, number, *replan);
             sum.add(worth(&script, &answers_of(Station::fresh(1, 100), &script))?);
         }
     }
-    Ok(Valued { class, worths })
+    Ok(Valued { class, days, worths })
 }
 
 /// The sum over the classes that the test picks, and how many days these are.
@@ -33,7 +31,7 @@ fn sum(valued: &[Valued], picks: impl Fn(&Class) -> bool) -> ([Worth; 3], u64) {
     let mut sums = [Worth::default(); 3];
     let mut days = 0;
     for valued in valued.iter().filter(|valued| picks(&valued.class)) {
-        days += DAYS;
+        days += valued.days;
         for (sum, worth) in sums.iter_mut().zip(valued.worths) {
             sum.add(worth);
         }
@@ -88,10 +86,11 @@ fn print_causes(valued: &[Valued]) {
     table.print();
 }
 
-pub fn print() -> Result<(), String> {
+pub fn print(days: u64) -> Result<(), String> {
     let classes = day::classes().into_iter();
-    let valued = classes.map(value).collect::<Result<Vec<Valued>, String>>()?;
-    println!("Minutes of lateness in a day, averages of {DAYS} days of each class:\n");
+    let valued =
+        classes.map(|class| value(class, days)).collect::<Result<Vec<Valued>, String>>()?;
+    println!("Minutes of lateness in a day, averages of {days} days of each class:\n");
     print_lateness(&valued);
     println!("What the replans were answered with:\n");
     print_causes(&valued);

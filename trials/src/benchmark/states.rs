@@ -6,7 +6,7 @@ use crate::random::Random;
 use crate::script::Line;
 
 /// With this seed both replans of `peak` come to the last question of the common
-/// test, whatever the number of cars; with most others an earlier cause ends it.
+/// test at each number of cars measured; with most others some end before it.
 const SEED: u64 = 23;
 /// A due minute that no charge here misses.
 const LOOSE: u32 = 2_000_000;
