@@ -137,7 +137,7 @@ impl Station {
         ensures { λ r. ⌜ Gives (step (view self) (moveCall target (now (report .entry)))) (moveAnswer (r .answer)) (r .station) (now (report .exit)) ⌝ }
     {
         let refusal = self.move_refusal(target, report);
-        if 0 < refusal {
+        if refusal > 0 {
             return Moving {
                 answer: MoveAnswer::Refused(refusal),
                 station: self,

@@ -21,7 +21,7 @@ returns : tie.Need-returns
 returns c =
     let s = c .before .before .before .before in
     record {
-      result = call-refused (s .args .self) (move (s .args .target) (s .args .report .now)) (c .before .move-refusal .result) (c .before .move-refusal .ensures) (c .if1 .taken);
+      result = call-refused (s .args .self) (move (s .args .target) (s .args .report .now)) (c .before .move-refusal .result) (c .before .move-refusal .ensures) (omega arith);
       valid = s .pre;
     }
 
