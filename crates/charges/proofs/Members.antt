@@ -159,6 +159,14 @@ module _ {A : Type 0} (R : A → A → Type 0) (turn : (x y : A) → R x y → R
   two-sorted [] e = tt
   two-sorted (x ∷ xs) e = two-insert x (sortedBy f xs) (every-sorted (R x) f xs (e .0)) (two-sorted xs (e .1))
 
+pub two-append :
+    {A : Type 0} (R : A → A → Type 0) (xs : List A) (y : A)
+    → EveryTwo R xs
+    → Every (λ x. R x y) xs
+    → EveryTwo R (xs ++ (y ∷ []))
+two-append R [] y e d = (tt, tt)
+two-append R (x ∷ xs) y e d = (every-append (R x) xs (y ∷ []) (e .0) (d .0, tt), two-append R xs y (e .1) (d .1))
+
 -- what follows for two members from the property of each
 pub two-imp :
     {A : Type 0} (P : A → Type 0) (R Q : A → A → Type 0)

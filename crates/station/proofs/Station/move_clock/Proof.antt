@@ -8,30 +8,25 @@ use borrow.Author.Needs.{needs}
 use Rattle.station.proofs.Station.move_clock.Statement.{statement}
 use Rattle.station.proofs.Station.move_clock.Tie as tie
 
--- src/lib.rt:139:13
 move-refusal-requires : tie.Need-move-refusal-requires
 move-refusal-requires c κs = search needs
 
--- src/lib.rt:141:13
 same-length : tie.Need-same-length
 same-length c = search needs
 
--- src/lib.rt:141:13
 returns : tie.Need-returns
 returns c =
     let s = c .before .before .before .before in
     record {
-      result = call-refused (s .args .self) (move (s .args .target) (s .args .report .now)) (c .before .move-refusal .result) (c .before .move-refusal .ensures) (c .if1 .taken);
+      result = call-refused (s .args .self) (move (s .args .target) (s .args .report .now)) (c .before .move-refusal .result) (c .before .move-refusal .ensures) (omega arith);
       valid = s .pre;
     }
 
--- src/lib.rt:147:13
 by-start-requires : tie.Need-by-start-requires
 by-start-requires c κs =
     let s = c .before .before .before .before .before in
     valid-listed (s .args .self) (s .pre)
 
--- src/lib.rt:148:9
 report-requires : tie.Need-report-requires
 report-requires c κs =
     let s = c .before .before .before .before .before .before .before in
@@ -41,21 +36,17 @@ report-requires c κs =
       omega (arith, m .room, c .before .by-start .ensures .places .few, s .pre .columns .few),
     )
 
--- src/lib.rt:149:13
 unfinished-requires : tie.Need-unfinished-requires
 unfinished-requires c κs = search needs
 
--- src/lib.rt:151:23
 sub-dropped : tie.Need-sub-dropped
 sub-dropped c =
     let s = c .before .before .before .before .before .before .before .before .before .before .before .before .before in
     left-few (s .args .self) (s .args .target) (c .before .before .unfinished .result) (c .before .before .unfinished .ensures)
 
--- src/lib.rt:135:5
 same-length-2 : tie.Need-same-length-2
 same-length-2 c = search needs
 
--- src/lib.rt:135:5
 returns-2 : tie.Need-returns-2
 returns-2 c =
     let s = c .before .before .before .before .before .before .before .before .before .before .before .before .before in
