@@ -1,0 +1,2 @@
+// Both replans and the test of a plan.
+ghost use mathlib.Core.Path.{_≡_};
