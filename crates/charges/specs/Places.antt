@@ -1,0 +1,2 @@
+-- Places of held charges, in some order.
+use Prim.Native.Nat.{ℕ}
