@@ -1,3 +1,4 @@
 pub mod Distinct
 pub mod Placing
 pub mod Playing
+pub mod Collecting

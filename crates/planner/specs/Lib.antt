@@ -1,1 +1,2 @@
 pub mod Tickets
+pub mod Starts
