@@ -2,3 +2,4 @@ pub mod Distinct
 pub mod Placing
 pub mod Playing
 pub mod Collecting
+pub mod Causes
