@@ -1,0 +1,88 @@
+-- A profile shows loads: in every minute from the clock on, for each line, its level is the count.
+use Prim.Native.Nat.{ℕ, _+_, _*_, _^_, _≤_, _<_, max}
+use mathlib.Core.Path.{_≡_}
+use mathlib.Core.Bool.{cond}
+use mathlib.Core.List.{List}
+use lib.Dec.{eqb}
+use lib.ListN.{length, getD}
+use Rattle.rules.specs.Basics.{tabulate}
+use Rattle.rules.specs.Load.{Load, loadFrom, IsLine, count, lastUntil}
+use Rattle.rules.specs.Search.{added}
+use Rattle.profile.specs.Steps.{levelAt, Rising}
+use Rattle.profile.specs.declared.Profile.{Profile}
+
+-- the one of three that belongs to line l
+abbrev pub ofLines : {A : Type 0} → A → A → A → ℕ → A
+ofLines a b c l = cond (eqb l 1) a (cond (eqb l 2) b c)
+
+-- a profile from its parts
+abbrev pub profileOf : ℕ → List ℕ → List ℕ → List ℕ → List ℕ → Profile
+profileOf n ats one two three = record { steps = n; at = ats; one = one; two = two; three = three }
+
+-- the counts of line l, step by step
+abbrev pub lineOf : Profile → ℕ → List ℕ
+lineOf p l = ofLines (p .one) (p .two) (p .three) l
+
+-- the level of line l in minute t
+abbrev pub levelOf : Profile → ℕ → ℕ → ℕ
+levelOf p l t = levelAt (p .at) (lineOf p l) (p .steps) t
+
+-- the levels of all lines in minute t
+abbrev pub levels : Profile → ℕ → ℕ → ℕ
+levels p t l = levelOf p l t
+
+pub record Formed (p : Profile) : Type 0 where
+  pub at-size : length (p .at) ≡ 362
+  pub line-sizes : (l : ℕ) → IsLine l → length (lineOf p l) ≡ 362
+  pub some : 1 ≤ p .steps
+  pub fits : p .steps ≤ 362
+  pub rises : Rising (p .at) (p .steps)
+
+pub record Shows (p : Profile) (clock : ℕ) (loads : List Load) : Type 0 where
+  pub formed : Formed p
+  pub few : p .steps ≤ 1 + 2 * length loads
+  pub starts : getD (p .at) 0 0 ≡ clock
+  pub ends : (i : ℕ) → i < p .steps → getD (p .at) i 0 ≤ max clock (lastUntil loads)
+  pub counted : (l : ℕ) → IsLine l → (t : ℕ) → clock ≤ t → levelOf p l t ≡ count loads l t
+
+-- no level is large
+abbrev pub Small : Profile → Type 0
+Small p = (l : ℕ) → IsLine l → (t : ℕ) → getD (p .at) 0 0 ≤ t → levelOf p l t ≤ 1000
+
+-- q is p with t the beginning of step k
+pub record Split (p q : Profile) (t k : ℕ) : Type 0 where
+  pub formed : Formed q
+  pub few : q .steps ≤ 1 + p .steps
+  pub more : p .steps ≤ q .steps
+  pub starts : getD (q .at) 0 0 ≡ getD (p .at) 0 0
+  pub ends : (b : ℕ) → ((i : ℕ) → i < p .steps → getD (p .at) i 0 ≤ b) → t ≤ b → (i : ℕ) → i < q .steps → getD (q .at) i 0 ≤ b
+  pub same : (l : ℕ) → IsLine l → (u : ℕ) → getD (p .at) 0 0 ≤ u → levelOf q l u ≡ levelOf p l u
+  pub below : k < q .steps
+  pub begins : getD (q .at) k 0 ≡ t
+  pub earlier : (m : ℕ) → m < p .steps → getD (p .at) m 0 < t → getD (q .at) m 0 ≡ getD (p .at) m 0
+
+-- what splitting in minute t asks
+pub record CanSplit (p : Profile) (t : ℕ) : Type 0 where
+  pub formed : Formed p
+  pub room : p .steps < 362
+  pub low : getD (p .at) 0 0 ≤ t
+
+-- what one more load asks
+pub record CanAdd (p : Profile) (time start : ℕ) : Type 0 where
+  pub formed : Formed p
+  pub small : Small p
+  pub room : p .steps + 2 ≤ 362
+  pub ends-fit : start + time < 2 ^ 32
+
+-- whatever loads p shows, q shows them and one more
+abbrev pub Added : Profile → Profile → ℕ → ℕ → ℕ → Type 0
+Added p q line time start =
+    (clock : ℕ) (loads : List Load) → Shows p clock loads → Shows q clock (added loads line time start)
+
+-- the first n loads of three lists
+abbrev pub loadsIn : List ℕ → List ℕ → List ℕ → ℕ → List Load
+loadsIn lines times starts n = tabulate (λ i. loadFrom (getD lines i 0) (getD times i 0) (getD starts i 0)) n 0
+
+-- each of their ends is a number of 32 bits
+abbrev pub EndsFit : List ℕ → List ℕ → ℕ → Type 0
+EndsFit times starts n = (i : ℕ) → i < n → getD starts i 0 + getD times i 0 < 2 ^ 32

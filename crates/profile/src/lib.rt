@@ -1,0 +1,107 @@
+// How many points draw on each line, minute by minute: the changes in rising order, and the searches over them.
+pub mod counts;
+pub mod loads;
+pub mod steps;
+
+ghost use mathlib.Core.Path.{_≡_};
+ghost use Prim.Native.Nat.{ℕ, _+_, _<_, _≤_};
+ghost use mathlib.Core.List.{[]};
+ghost use Rattle.profile.specs.Shows.{Shows, CanAdd, Added, loadsIn, EndsFit};
+
+// The changes: step i begins in minute at[i] and has the counts one[i], two[i], three[i] from there on. The first step begins at the clock.
+pub struct Profile {
+    pub steps: usize,
+    pub at: [u32; 362],
+    pub one: [u32; 362],
+    pub two: [u32; 362],
+    pub three: [u32; 362],
+}
+
+impl Profile {
+    // No load.
+    pub fn new(clock: u32) -> Profile
+        ensures { λ r. ⌜ Shows r clock [] ⌝ }
+    {
+        let mut at = [0u32; 362];
+        at[0] = clock;
+        let one = [0u32; 362];
+        let two = [0u32; 362];
+        let three = [0u32; 362];
+        Profile {
+            steps: 1,
+            at,
+            one,
+            two,
+            three,
+        }
+    }
+
+    // One more load.
+    pub fn add(self, line: u32, time: u32, start: u32) -> Profile
+        requires { ⌜ CanAdd self time start ⌝ }
+        ensures { λ r. ⌜ Added self r line time start ⌝ }
+    {
+        let n = self.steps;
+        let mut at = self.at;
+        let mut one = self.one;
+        let mut two = self.two;
+        let mut three = self.three;
+        let steps = loads::add(
+            &mut at,
+            &mut one,
+            &mut two,
+            &mut three,
+            n,
+            line,
+            time,
+            start,
+        );
+        Profile {
+            steps,
+            at,
+            one,
+            two,
+            three,
+        }
+    }
+
+    // The profile of the first n loads of three lists.
+    pub fn of<'a>(
+        lines: &'a [u32; 180],
+        times: &'a [u32; 180],
+        starts: &'a [u32; 180],
+        n: usize,
+        clock: u32,
+    ) -> Profile
+        requires { ⌜ (n ≤ 180) × EndsFit (now times) (now starts) n ⌝ }
+        ensures { λ r. ⌜ Shows r clock (loadsIn (now (lines .entry)) (now (times .entry)) (now (starts .entry)) n) ⌝ }
+    {
+        let p = Profile::new(clock);
+        let mut steps = p.steps;
+        let mut at = p.at;
+        let mut one = p.one;
+        let mut two = p.two;
+        let mut three = p.three;
+        let mut i = 0;
+        while i < n {
+            steps = loads::add(
+                &mut at,
+                &mut one,
+                &mut two,
+                &mut three,
+                steps,
+                lines[i],
+                times[i],
+                starts[i],
+            );
+            i += 1;
+        }
+        Profile {
+            steps,
+            at,
+            one,
+            two,
+            three,
+        }
+    }
+}
