@@ -3,3 +3,4 @@ pub mod Placing
 pub mod Playing
 pub mod Collecting
 pub mod Causes
+pub mod Showing

@@ -1,2 +1,4 @@
 pub mod Tickets
 pub mod Starts
+pub mod Ready
+pub mod Placed

@@ -1,7 +1,11 @@
 // Both replans and the test of a plan.
 use charges::Charges;
+use profile::Profile;
 ghost use mathlib.Core.Path.{_≡_};
-ghost use Rattle.charges.specs.Arrays.{Columns};
+ghost use Rattle.rules.specs.Charge.{begunCharges, loadsOf};
+ghost use Rattle.charges.specs.Arrays.{Columns, chargesOf};
+ghost use Rattle.charges.specs.Held.{Listed};
+ghost use Rattle.profile.specs.Shows.{Shows};
 ghost use Rattle.planner.specs.Starts.{WaitingStarts};
 
 // The starts of the waiting charges, in ticket order.
@@ -19,4 +23,19 @@ fn waiting_starts(charges: Charges, clock: u32, starts: [u32; 180]) -> [u32; 180
         }
     }
     listed
+}
+
+// The profile of the begun charges.
+fn begun_profile(charges: Charges, clock: u32) -> Profile
+    requires { ⌜ Listed charges ⌝ }
+    ensures { λ r. ⌜ Shows r clock (loadsOf (begunCharges clock (chargesOf charges))) ⌝ }
+{
+    let n = charges.held;
+    let mut profile = Profile::new(clock);
+    for i in 0..n {
+        if charges.starts[i] < clock {
+            profile = profile.add(charges.lines[i], charges.times[i], charges.starts[i]);
+        }
+    }
+    profile
 }

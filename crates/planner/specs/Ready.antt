@@ -1,0 +1,28 @@
+-- What the planners ask: of the station, and of the places of waiting charges in the order in which they are taken.
+use Prim.Native.Nat.{ℕ, _+_, _-_, _≤_, _<_}
+use mathlib.Core.List.{List}
+use lib.ListN.{length, getD}
+use Rattle.rules.specs.Basics.{tabulate}
+use Rattle.rules.specs.Charge.{Charge, begunCharges}
+use Rattle.charges.specs.declared.Charges.{Charges}
+use Rattle.charges.specs.Arrays.{chargeAt, chargesOf}
+use Rattle.charges.specs.Held.{Listed}
+use Rattle.planner.specs.Tickets.{Distinct}
+
+pub record Ready (clock limit bound : ℕ) (c : Charges) : Type 0 where
+  pub listed : Listed c
+  pub clock-most : clock ≤ 1000000
+  pub some-limit : 1 ≤ limit
+  pub limit-most : limit ≤ 60
+  pub some-bound : 1 ≤ bound
+  pub bound-most : bound ≤ 60
+
+-- the charges at n places, after the first k
+abbrev pub queueFrom : Charges → List ℕ → ℕ → ℕ → List Charge
+queueFrom c places n k = tabulate (λ j. chargeAt c (getD places j 0)) (n - k) k
+
+-- held charges, none of them twice, that leave room for the begun ones
+pub record Queue (clock : ℕ) (c : Charges) (places : List ℕ) (n : ℕ) : Type 0 where
+  pub inside : (j : ℕ) → j < n → getD places j 0 < c .held
+  pub distinct : Distinct (queueFrom c places n 0)
+  pub room : length (begunCharges clock (chargesOf c)) + n ≤ 180
