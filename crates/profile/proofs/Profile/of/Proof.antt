@@ -64,7 +64,7 @@ loop-again c =
 
 returns : tie.Need-returns Inv-loop μ-loop
 returns c =
-    let l = c in
+    let l = c .before in
     let a = c .before .before .before .before .before .before .before .args in
     let e : l .loop .i ≡ a .n = omega arith in
     subst (λ (k : ℕ). Shows (profileOf (l .loop .steps) (l .loop .at) (l .loop .one) (l .loop .two) (l .loop .three)) (a .clock) (loadsIn (a .lines .now) (a .times .now) (a .starts .now) k)) e (l .loop .inv .1)
