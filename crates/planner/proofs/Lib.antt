@@ -4,3 +4,5 @@ pub mod Playing
 pub mod Collecting
 pub mod Causes
 pub mod Showing
+pub mod Queueing
+pub mod Plans

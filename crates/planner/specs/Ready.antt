@@ -17,12 +17,19 @@ pub record Ready (clock limit bound : ℕ) (c : Charges) : Type 0 where
   pub some-bound : 1 ≤ bound
   pub bound-most : bound ≤ 60
 
+abbrev pub begunOf : ℕ → Charges → List Charge
+begunOf clock c = begunCharges clock (chargesOf c)
+
+-- the charge at the k-th of some places
+abbrev pub chargeIn : Charges → List ℕ → ℕ → Charge
+chargeIn c places k = chargeAt c (getD places k 0)
+
 -- the charges at n places, after the first k
 abbrev pub queueFrom : Charges → List ℕ → ℕ → ℕ → List Charge
-queueFrom c places n k = tabulate (λ j. chargeAt c (getD places j 0)) (n - k) k
+queueFrom c places n k = tabulate (chargeIn c places) (n - k) k
 
 -- held charges, none of them twice, that leave room for the begun ones
 pub record Queue (clock : ℕ) (c : Charges) (places : List ℕ) (n : ℕ) : Type 0 where
   pub inside : (j : ℕ) → j < n → getD places j 0 < c .held
   pub distinct : Distinct (queueFrom c places n 0)
-  pub room : length (begunCharges clock (chargesOf c)) + n ≤ 180
+  pub room : length (begunOf clock c) + n ≤ 180

@@ -1,0 +1,159 @@
+-- The waiting charges in the order in which they are taken: none twice, and room in the profile for all.
+use mathlib.Core.Logic.{_⊎_, inl, inr}
+use mathlib.Core.Path.{_≡_, refl, sym, _∙_, ap}
+use Prim.Native.Nat.{ℕ, zero, suc, _+_, _-_, _≤_, _<_}
+use mathlib.Core.Bool.{Bool, true, false, cond}
+use mathlib.Core.List.{List, [], _∷_, _++_, map}
+use native.Mathlib.Omega.{arith}
+use native.Mathlib.Numerals.{add-one}
+use native.Mathlib.Nat.{sub-zero}
+use lib.Dec.{eqb}
+use lib.ListN.{length, getD, length-append}
+use borrow.Author.Tests.{eqb-true}
+use Rattle.rules.specs.Basics.{Each, tabulate}
+use Rattle.rules.specs.Charge.{Charge, isWaiting, begunCharges, waitingCharges}
+use Rattle.rules.specs.Replan.{latestStartBefore, byLatestStart, onLine, lineByLine}
+use Rattle.rules.proofs.Ranges.{below-or-not}
+use Rattle.rules.proofs.Lists.{length-tabulate, map-tabulate}
+use Rattle.rules.proofs.Sorting.{Inserted, here, later, Rearranged, none, more, sorted-rearranged}
+use Rattle.charges.specs.declared.Charges.{Charges}
+use Rattle.charges.specs.Arrays.{chargeAt, chargesOf}
+use Rattle.charges.specs.Held.{Listed}
+use Rattle.planner.specs.Tickets.{Apart, Distinct}
+use Rattle.planner.specs.Ready.{queueFrom, Queue}
+use Rattle.planner.proofs.Distinct.{distinct-keep, distinct-latest-start, distinct-line-by-line}
+use Rattle.planner.proofs.Showing.{begun-and-waiting}
+
+-- Tickets rise
+
+rising-far : (f : ℕ → ℕ) (n : ℕ) → ((i : ℕ) → i + 1 < n → f i < f (i + 1)) → (i k : ℕ) → i + suc k < n → f i < f (i + suc k)
+rising-far f n h i zero l = h i l
+rising-far f n h i (suc k) l =
+    rw (along i k) (step (rising-far f n h i k (omega arith)) (h (i + suc k) (omega arith)))
+  where
+    along : (i k : ℕ) → i + suc (suc k) ≡ i + suc k + 1
+    along i k = omega arith
+
+    step : f i < f (i + suc k) → f (i + suc k) < f (i + suc k + 1) → f i < f (i + suc k + 1)
+    step p q = omega arith
+
+pub tickets-rise : {c : Charges} → Listed c → (i j : ℕ) → i < j → j < c .held → chargeAt c i .ticket < chargeAt c j .ticket
+tickets-rise {c} r i j h l =
+    let e : j ≡ i + suc (j - suc i) = omega arith in
+    rw e (rising-far (λ k. chargeAt c k .ticket) (c .held) (r .rising) i (j - suc i) (omega arith))
+
+-- charges at different places have different tickets
+pub places-apart :
+    {c : Charges} → Listed c → (i j : ℕ) → i < c .held → j < c .held → (i ≡ j → ⊥) → Apart (chargeAt c i) (chargeAt c j)
+places-apart {c} r i j h l ne e = go (below-or-not i j) (below-or-not j i)
+  where
+    go : (i < j) ⊎ (j ≤ i) → (j < i) ⊎ (i ≤ j) → ⊥
+    go (inl p) q = omega (arith, tickets-rise r i j p l)
+    go (inr p) (inl q) = omega (arith, tickets-rise r j i q h)
+    go (inr p) (inr q) = ne (omega arith)
+
+distinct-tabulate :
+    (f : ℕ → Charge) (k a : ℕ) → ((i j : ℕ) → a ≤ i → i < j → j < a + k → Apart (f i) (f j)) → Distinct (tabulate f k a)
+distinct-tabulate f zero a h = tt
+distinct-tabulate f (suc k) a h = (
+  all-later (suc a) k (λ j p q. h a j (omega arith) (omega arith) (omega arith)),
+  distinct-tabulate f k (suc a) (λ i j p q r. h i j (omega arith) q (omega arith)),
+)
+  where
+    all-later : (b m : ℕ) → ((j : ℕ) → b ≤ j → j < b + m → Apart (f a) (f j)) → Each (Apart (f a)) (tabulate f m b)
+    all-later b zero g = tt
+    all-later b (suc m) g = (g b (omega arith) (omega arith), all-later (suc b) m (λ j p q. g j (omega arith) (omega arith)))
+
+pub held-distinct : {c : Charges} → Listed c → Distinct (chargesOf c)
+held-distinct {c} r =
+    distinct-tabulate (chargeAt c) (c .held) 0
+    (λ i j p q l. places-apart r i j (omega arith) (omega arith) (λ e. omega arith))
+
+-- How many
+
+inserted-length : {A : Type 0} {a : A} {l m : List A} → Inserted a l m → length m ≡ suc (length l)
+inserted-length here = refl
+inserted-length (later r) = ap suc (inserted-length r)
+
+rearranged-length : {A : Type 0} {l m : List A} → Rearranged l m → length m ≡ length l
+rearranged-length none = refl
+rearranged-length (more r i) = inserted-length i ∙ ap suc (rearranged-length r)
+
+sorted-length : (cs : List Charge) → length (byLatestStart cs) ≡ length cs
+sorted-length cs = rearranged-length (sorted-rearranged latestStartBefore cs)
+
+-- a charge is on one line at most
+lines-length : (cs : List Charge) → length (onLine 1 cs) + (length (onLine 2 cs) + length (onLine 3 cs)) ≤ length cs
+lines-length [] = omega arith
+lines-length (c ∷ cs) = go (eqb (c .line) 1) refl (eqb (c .line) 2) refl (eqb (c .line) 3) refl (lines-length cs)
+  where
+    go :
+        (x : Bool) → eqb (c .line) 1 ≡ x
+        → (y : Bool) → eqb (c .line) 2 ≡ y
+        → (z : Bool) → eqb (c .line) 3 ≡ z
+        → length (onLine 1 cs) + (length (onLine 2 cs) + length (onLine 3 cs)) ≤ length cs
+        → length (cond x (c ∷ onLine 1 cs) (onLine 1 cs))
+        + (length (cond y (c ∷ onLine 2 cs) (onLine 2 cs)) + length (cond z (c ∷ onLine 3 cs) (onLine 3 cs)))
+        ≤ suc (length cs)
+    go true p true q z r h = absurd (omega (arith, eqb-true (c .line) 1 p, eqb-true (c .line) 2 q))
+    go true p false q true r h = absurd (omega (arith, eqb-true (c .line) 1 p, eqb-true (c .line) 3 r))
+    go true p false q false r h = omega arith
+    go false p true q true r h = absurd (omega (arith, eqb-true (c .line) 2 q, eqb-true (c .line) 3 r))
+    go false p true q false r h = omega arith
+    go false p false q true r h = omega arith
+    go false p false q false r h = omega arith
+
+line-by-line-length : (cs : List Charge) → length (lineByLine cs) ≤ length cs
+line-by-line-length cs =
+    omega (
+      arith,
+      length-append (byLatestStart (onLine 1 cs)) (byLatestStart (onLine 2 cs) ++ byLatestStart (onLine 3 cs)),
+      length-append (byLatestStart (onLine 2 cs)) (byLatestStart (onLine 3 cs)),
+      sorted-length (onLine 1 cs),
+      sorted-length (onLine 2 cs),
+      sorted-length (onLine 3 cs),
+      lines-length cs,
+    )
+
+-- The two queues
+
+-- the charges at these places, taken from the first on
+pub queue-whole :
+    (c : Charges) (places : List ℕ) (n : ℕ)
+    → map (chargeAt c) (tabulate (λ j. getD places j 0) n 0) ≡ queueFrom c places n 0
+queue-whole c places n = map-tabulate (chargeAt c) (λ j. getD places j 0) n 0 ∙ rw sub-zero
+
+module _ {c : Charges} (h : Listed c) (clock : ℕ) (places : List ℕ) (n : ℕ) (inside : (j : ℕ) → j < n → getD places j 0 < c .held) where
+  waiting-distinct : Distinct (waitingCharges clock (chargesOf c))
+  waiting-distinct = distinct-keep (isWaiting clock) (chargesOf c) (held-distinct h)
+
+  -- distinct charges, no more than wait
+  queue-of : (xs : List Charge) → Distinct xs → length xs ≤ length (waitingCharges clock (chargesOf c)) → queueFrom c places n 0 ≡ xs → Queue clock c places n
+  queue-of xs d few e =
+      record {
+        inside = inside;
+        distinct = rw e d;
+        room =
+            omega (
+              arith,
+              begun-and-waiting clock (chargesOf c),
+              length-tabulate (chargeAt c) (c .held) 0,
+              ap length e,
+              length-tabulate (λ j. chargeAt c (getD places j 0)) (n - 0) 0,
+              h .columns .few,
+            );
+      }
+
+  pub queue-latest-start : queueFrom c places n 0 ≡ byLatestStart (waitingCharges clock (chargesOf c)) → Queue clock c places n
+  queue-latest-start e =
+      queue-of (byLatestStart (waitingCharges clock (chargesOf c)))
+      (distinct-latest-start (waitingCharges clock (chargesOf c)) waiting-distinct)
+      (omega (arith, sorted-length (waitingCharges clock (chargesOf c))))
+      e
+
+  pub queue-line-by-line : queueFrom c places n 0 ≡ lineByLine (waitingCharges clock (chargesOf c)) → Queue clock c places n
+  queue-line-by-line e =
+      queue-of (lineByLine (waitingCharges clock (chargesOf c)))
+      (distinct-line-by-line (waitingCharges clock (chargesOf c)) waiting-distinct)
+      (line-by-line-length (waitingCharges clock (chargesOf c)))
+      e
