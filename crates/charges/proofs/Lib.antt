@@ -1,3 +1,6 @@
 pub mod Storing
 pub mod Walking
 pub mod Restarting
+pub mod Members
+pub mod Sorting
+pub mod Orders
