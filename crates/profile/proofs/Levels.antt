@@ -77,6 +77,9 @@ step-of ats (suc (suc m)) t h a =
 pub at-step : (ats : List ℕ) (n i : ℕ) → Rising ats n → i < n → In ats n i (getD ats i 0)
 at-step ats n i r h = record { below = h; begun = omega arith; later = λ j a b. r i j a b }
 
+pub last-step : (ats : List ℕ) (n t : ℕ) → 1 ≤ n → getD ats (n - 1) 0 ≤ t → In ats n (n - 1) t
+last-step ats n t h a = record { below = omega arith; begun = a; later = λ j x y. absurd (omega arith) }
+
 -- one turn of `insert`: place j gets what stands before it
 pub record Moved (a₀ a : List ℕ) (n k j : ℕ) : Type 0 where
   pub low : k ≤ j

@@ -1,3 +1,4 @@
 pub mod Levels
 pub mod Splits
 pub mod Adds
+pub mod Rooms

@@ -1,6 +1,7 @@
 // How many points draw on each line, minute by minute: the changes in rising order, and the searches over them.
 pub mod counts;
 pub mod loads;
+pub mod search;
 pub mod steps;
 
 ghost use mathlib.Core.Path.{_≡_};
