@@ -1,4 +1,3 @@
-pub mod Distinct
 pub mod Placing
 pub mod Playing
 pub mod Collecting

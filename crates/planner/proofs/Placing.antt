@@ -12,7 +12,6 @@ use Rattle.rules.specs.Load.{Load, active, draws, count}
 use Rattle.rules.specs.Charge.{Charge, starting, loadOf, loadsOf}
 use Rattle.rules.specs.Replan.{Placed, all, stuck, placeAll, startIn, placedActive}
 use Rattle.rules.proofs.Lists.{map-append}
-use Rattle.planner.specs.Tickets.{Apart, Distinct}
 
 -- One charge more
 

@@ -23,7 +23,6 @@ use Rattle.charges.proofs.Storing.{zeros}
 use Rattle.profile.specs.declared.Profile.{Profile}
 use Rattle.profile.specs.Shows.{Shows, Added, CanAdd}
 use Rattle.profile.proofs.Adds.{can-add, last-added}
-use Rattle.planner.specs.Tickets.{Apart, Distinct}
 use Rattle.planner.specs.Starts.{Stored}
 use Rattle.planner.specs.Ready.{begunOf, chargeIn, Ready, queueFrom, Queue}
 use Rattle.planner.specs.Placed.{PlanShown, AllPlaced}
@@ -37,17 +36,7 @@ pub record PlacedSoFar (find : List Charge → Charge → Found) (clock : ℕ) (
   pub placed : List Charge
   pub whole : placeAll find [] (queueFrom c places n 0) ≡ placeAll find placed (queueFrom c places n k)
   pub plan : PlanShown clock c placed k p starts
-  pub fresh : Each (λ x. Missing (x .ticket) placed) (queueFrom c places n k)
-  pub distinct : Distinct (queueFrom c places n k)
-
-each-all : {A : Type 0} (P : A → Type 0) → ((a : A) → P a) → (l : List A) → Each P l
-each-all P h [] = tt
-each-all P h (a ∷ l) = (h a, each-all P h l)
-
-each-two :
-    {A : Type 0} (P Q R : A → Type 0) → ((a : A) → P a → Q a → R a) → (l : List A) → Each P l → Each Q l → Each R l
-each-two P Q R h [] d e = tt
-each-two P Q R h (a ∷ l) d e = (h a (d .0) (e .0), each-two P Q R h l (d .1) (e .1))
+  pub fresh : (j : ℕ) → k ≤ j → j < n → Missing (chargeIn c places j .ticket) placed
 
 pub placed-start :
     (find : List Charge → Charge → Found) {clock limit bound : ℕ} {c : Charges} {places : List ℕ} {n : ℕ} {p : Profile}
@@ -69,8 +58,7 @@ placed-start find {clock} {limit} {bound} {c} {places} {n} r q s =
                 rw (append-nil (begunOf clock c))
                 (omega (arith, begun-end-most (r .listed) clock, r .clock-most));
           };
-      fresh = each-all (λ x. Missing (x .ticket) []) (λ x. tt) (queueFrom c places n 0);
-      distinct = q .distinct;
+      fresh = λ j l h. tt;
     }
 
 module _ {find : List Charge → Charge → Found} {clock limit bound : ℕ} {c : Charges} {places : List ℕ} {n k : ℕ} {p : Profile}
@@ -145,7 +133,7 @@ module _ {find : List Charge → Charge → Found} {clock limit bound : ℕ} {c 
               ≡ getD (set starts (getD places k 0) s) i 0
           go true e =
               rw (eqb-true i (getD places k 0) e)
-              (start-last (v .placed) (chargeIn c places k) s ((rw turn at (v .fresh)) .0)
+              (start-last (v .placed) (chargeIn c places k) s (v .fresh k (omega arith) low)
               ∙ sym
               (getD-set-same starts (getD places k 0) s 0
               (omega (arith, v .plan .size, next-inside, r .listed .columns .few))))
@@ -185,12 +173,8 @@ module _ {find : List Charge → Charge → Found} {clock limit bound : ℕ} {c 
                       ));
                 };
             fresh =
-                each-two (Apart (chargeIn c places k)) (λ x. Missing (x .ticket) (v .placed))
-                (λ x. Missing (x .ticket) (v .placed ++ (starting (chargeIn c places k) s ∷ [])))
-                (λ x d m.
-                each-append (λ y. y .ticket ≡ x .ticket → ⊥) (v .placed) (starting (chargeIn c places k) s ∷ []) m (d, tt))
-                (queueFrom c places n (k + 1))
-                ((rw turn at (v .distinct)) .0)
-                ((rw turn at (v .fresh)) .1);
-            distinct = (rw turn at (v .distinct)) .1;
+                λ j l h.
+                each-append (λ y. y .ticket ≡ chargeIn c places j .ticket → ⊥) (v .placed) (starting (chargeIn c places k) s ∷ [])
+                (v .fresh j (omega arith) h)
+                (places-apart (r .listed) (getD places k 0) (getD places j 0) next-inside (q .inside j h) (q .apart k j (omega arith) h), tt);
           }

@@ -1,4 +1,4 @@
--- The waiting charges in the order in which they are taken: none twice, and room in the profile for all.
+-- The waiting charges in the order in which they are taken: tickets are distinct, and the profile has room for all.
 use mathlib.Core.Logic.{_⊎_, inl, inr}
 use mathlib.Core.Path.{_≡_, refl, sym, _∙_, ap}
 use Prim.Native.Nat.{ℕ, zero, suc, _+_, _-_, _≤_, _<_}
@@ -19,9 +19,9 @@ use Rattle.rules.proofs.Sorting.{Inserted, here, later, Rearranged, none, more,
 use Rattle.charges.specs.declared.Charges.{Charges}
 use Rattle.charges.specs.Arrays.{chargeAt, chargesOf}
 use Rattle.charges.specs.Held.{Listed}
-use Rattle.planner.specs.Tickets.{Apart, Distinct}
-use Rattle.planner.specs.Ready.{queueFrom, Queue}
-use Rattle.planner.proofs.Distinct.{distinct-keep, distinct-latest-start, distinct-line-by-line}
+use Rattle.charges.specs.declared.Places.{Places}
+use Rattle.charges.specs.Places.{Ordered}
+use Rattle.planner.specs.Ready.{chargeIn, queueFrom, Queue}
 use Rattle.planner.proofs.Showing.{begun-and-waiting}
 
 -- Tickets rise
@@ -44,30 +44,13 @@ tickets-rise {c} r i j h l =
 
 -- charges at different places have different tickets
 pub places-apart :
-    {c : Charges} → Listed c → (i j : ℕ) → i < c .held → j < c .held → (i ≡ j → ⊥) → Apart (chargeAt c i) (chargeAt c j)
+    {c : Charges} → Listed c → (i j : ℕ) → i < c .held → j < c .held → (i ≡ j → ⊥) → chargeAt c i .ticket ≡ chargeAt c j .ticket → ⊥
 places-apart {c} r i j h l ne e = go (below-or-not i j) (below-or-not j i)
   where
     go : (i < j) ⊎ (j ≤ i) → (j < i) ⊎ (i ≤ j) → ⊥
     go (inl p) q = omega (arith, tickets-rise r i j p l)
     go (inr p) (inl q) = omega (arith, tickets-rise r j i q h)
     go (inr p) (inr q) = ne (omega arith)
-
-distinct-tabulate :
-    (f : ℕ → Charge) (k a : ℕ) → ((i j : ℕ) → a ≤ i → i < j → j < a + k → Apart (f i) (f j)) → Distinct (tabulate f k a)
-distinct-tabulate f zero a h = tt
-distinct-tabulate f (suc k) a h = (
-  all-later (suc a) k (λ j p q. h a j (omega arith) (omega arith) (omega arith)),
-  distinct-tabulate f k (suc a) (λ i j p q r. h i j (omega arith) q (omega arith)),
-)
-  where
-    all-later : (b m : ℕ) → ((j : ℕ) → b ≤ j → j < b + m → Apart (f a) (f j)) → Each (Apart (f a)) (tabulate f m b)
-    all-later b zero g = tt
-    all-later b (suc m) g = (g b (omega arith) (omega arith), all-later (suc b) m (λ j p q. g j (omega arith) (omega arith)))
-
-pub held-distinct : {c : Charges} → Listed c → Distinct (chargesOf c)
-held-distinct {c} r =
-    distinct-tabulate (chargeAt c) (c .held) 0
-    (λ i j p q l. places-apart r i j (omega arith) (omega arith) (λ e. omega arith))
 
 -- How many
 
@@ -123,37 +106,33 @@ pub queue-whole :
     → map (chargeAt c) (tabulate (λ j. getD places j 0) n 0) ≡ queueFrom c places n 0
 queue-whole c places n = map-tabulate (chargeAt c) (λ j. getD places j 0) n 0 ∙ rw sub-zero
 
-module _ {c : Charges} (h : Listed c) (clock : ℕ) (places : List ℕ) (n : ℕ) (inside : (j : ℕ) → j < n → getD places j 0 < c .held) where
-  waiting-distinct : Distinct (waitingCharges clock (chargesOf c))
-  waiting-distinct = distinct-keep (isWaiting clock) (chargesOf c) (held-distinct h)
+-- places of held charges, none of them twice and no more than wait
+queue-of :
+    {clock : ℕ} {c : Charges} {xs : List Charge} {q : Places}
+    → Listed c
+    → Ordered c xs q
+    → length xs ≤ length (waitingCharges clock (chargesOf c))
+    → Queue clock c (q .places) (q .count)
+queue-of {clock} {c} {xs} {q} h o few =
+    record {
+      inside = o .inside;
+      apart = o .apart;
+      room =
+          omega (
+            arith,
+            begun-and-waiting clock (chargesOf c),
+            length-tabulate (chargeAt c) (c .held) 0,
+            ap length (sym (queue-whole c (q .places) (q .count)) ∙ o .charges),
+            length-tabulate (chargeIn c (q .places)) (q .count - 0) 0,
+            h .columns .few,
+          );
+    }
 
-  -- distinct charges, no more than wait
-  queue-of : (xs : List Charge) → Distinct xs → length xs ≤ length (waitingCharges clock (chargesOf c)) → queueFrom c places n 0 ≡ xs → Queue clock c places n
-  queue-of xs d few e =
-      record {
-        inside = inside;
-        distinct = rw e d;
-        room =
-            omega (
-              arith,
-              begun-and-waiting clock (chargesOf c),
-              length-tabulate (chargeAt c) (c .held) 0,
-              ap length e,
-              length-tabulate (λ j. chargeAt c (getD places j 0)) (n - 0) 0,
-              h .columns .few,
-            );
-      }
+module _ {clock : ℕ} {c : Charges} {q : Places} (h : Listed c) where
+  pub queue-latest-start :
+      Ordered c (byLatestStart (waitingCharges clock (chargesOf c))) q → Queue clock c (q .places) (q .count)
+  queue-latest-start o = queue-of h o (omega (arith, sorted-length (waitingCharges clock (chargesOf c))))
 
-  pub queue-latest-start : queueFrom c places n 0 ≡ byLatestStart (waitingCharges clock (chargesOf c)) → Queue clock c places n
-  queue-latest-start e =
-      queue-of (byLatestStart (waitingCharges clock (chargesOf c)))
-      (distinct-latest-start (waitingCharges clock (chargesOf c)) waiting-distinct)
-      (omega (arith, sorted-length (waitingCharges clock (chargesOf c))))
-      e
-
-  pub queue-line-by-line : queueFrom c places n 0 ≡ lineByLine (waitingCharges clock (chargesOf c)) → Queue clock c places n
-  queue-line-by-line e =
-      queue-of (lineByLine (waitingCharges clock (chargesOf c)))
-      (distinct-line-by-line (waitingCharges clock (chargesOf c)) waiting-distinct)
-      (line-by-line-length (waitingCharges clock (chargesOf c)))
-      e
+  pub queue-line-by-line :
+      Ordered c (lineByLine (waitingCharges clock (chargesOf c))) q → Queue clock c (q .places) (q .count)
+  queue-line-by-line o = queue-of h o (line-by-line-length (waitingCharges clock (chargesOf c)))

@@ -1,4 +1,3 @@
-pub mod Tickets
 pub mod Starts
 pub mod Ready
 pub mod Placed

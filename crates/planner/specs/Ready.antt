@@ -1,4 +1,5 @@
 -- What the planners ask: of the station, and of the places of waiting charges in the order in which they are taken.
+use mathlib.Core.Path.{_≡_}
 use Prim.Native.Nat.{ℕ, _+_, _-_, _≤_, _<_}
 use mathlib.Core.List.{List}
 use lib.ListN.{length, getD}
@@ -7,7 +8,6 @@ use Rattle.rules.specs.Charge.{Charge, begunCharges}
 use Rattle.charges.specs.declared.Charges.{Charges}
 use Rattle.charges.specs.Arrays.{chargeAt, chargesOf}
 use Rattle.charges.specs.Held.{Listed}
-use Rattle.planner.specs.Tickets.{Distinct}
 
 pub record Ready (clock limit bound : ℕ) (c : Charges) : Type 0 where
   pub listed : Listed c
@@ -31,5 +31,5 @@ queueFrom c places n k = tabulate (chargeIn c places) (n - k) k
 -- held charges, none of them twice, that leave room for the begun ones
 pub record Queue (clock : ℕ) (c : Charges) (places : List ℕ) (n : ℕ) : Type 0 where
   pub inside : (j : ℕ) → j < n → getD places j 0 < c .held
-  pub distinct : Distinct (queueFrom c places n 0)
+  pub apart : (j k : ℕ) → j < k → k < n → getD places j 0 ≡ getD places k 0 → ⊥
   pub room : length (begunOf clock c) + n ≤ 180
