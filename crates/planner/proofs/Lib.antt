@@ -5,3 +5,4 @@ pub mod Causes
 pub mod Showing
 pub mod Queueing
 pub mod Plans
+pub mod Proposing

@@ -1,3 +1,4 @@
 pub mod Starts
 pub mod Ready
 pub mod Placed
+pub mod Answers

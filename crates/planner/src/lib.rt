@@ -8,6 +8,29 @@ ghost use Rattle.charges.specs.Held.{Listed};
 ghost use Rattle.profile.specs.Shows.{Shows};
 ghost use Rattle.planner.specs.Starts.{WaitingStarts};
 
+// Cause 0 with a start for each waiting charge, in ticket order, or the cause for having none.
+pub struct Proposed {
+    pub cause: u32,
+    pub starts: [u32; 180],
+}
+
+// What came of a round: it ends the replan, or the line's cap has to be lowered from the minute on.
+pub enum Outcome {
+    Ends,
+    Lowers { line: u32, minute: u32, cap: u32 },
+}
+
+pub struct Round {
+    pub outcome: Outcome,
+    pub proposed: Proposed,
+}
+
+// With the rounds made for it.
+pub struct Replanned {
+    pub proposed: Proposed,
+    pub rounds: u32,
+}
+
 // The starts of the waiting charges, in ticket order.
 fn waiting_starts(charges: Charges, clock: u32, starts: [u32; 180]) -> [u32; 180]
     requires { ⌜ Columns charges ⌝ }
