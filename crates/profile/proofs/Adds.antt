@@ -20,14 +20,6 @@ use Rattle.profile.specs.declared.Profile.{Profile}
 use Rattle.profile.proofs.Levels.{level-in, at-step, rising-le}
 use Rattle.profile.proofs.Splits.{split-level, split-rises, split-ends, raise-level}
 
--- what holds of lines 1, 2 and 3 holds of each line
-pub each-line : (P : ℕ → Type 0) → P 1 → P 2 → P 3 → (l : ℕ) → IsLine l → P l
-each-line P a b c zero h = absurd (omega (arith, h .low))
-each-line P a b c (suc zero) h = a
-each-line P a b c (suc (suc zero)) h = b
-each-line P a b c (suc (suc (suc zero))) h = c
-each-line P a b c (suc (suc (suc (suc l)))) h = absurd (omega (arith, h .high))
-
 -- Split
 
 -- t begins a step already

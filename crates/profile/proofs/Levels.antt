@@ -10,7 +10,7 @@ use borrow.Author.Tests.{le-leb, lt-leb, eqb-true, eqb-false}
 use lib.Dec.{leb, eqb}
 use lib.ListN.{length, getD, set, length-set}
 use lib.Seq.{getD-set-same, getD-set-other}
-use Rattle.profile.specs.Steps.{levelAt, In, Rising, Inserted, Raised}
+use Rattle.profile.specs.Steps.{levelAt, In, Rising, Inserted, Raised, Filled}
 use Rattle.rules.proofs.Ranges.{below-or-not}
 
 pub same-or-not : (a b : ℕ) → (a ≡ b) ⊎ (a ≡ b → ⊥)
@@ -127,3 +127,15 @@ raised-on {a₀} {a} {i} {k} {x} h lt r =
 
 pub raised-none : (a : List ℕ) (i x : ℕ) → length a ≡ 362 → Raised a a i i x
 raised-none a i x h = record { size = h; before = λ m b. refl; between = λ m b c. absurd (omega arith); after = λ m b. refl }
+
+-- one place more
+pub filled-more : {g : ℕ → ℕ} {n v : ℕ} {a : List ℕ} → Filled g n a → n < 362 → v ≡ g n → Filled g (n + 1) (set a n v)
+filled-more {g} {n} {v} {a} f h e =
+    record {
+      size = length-set a n v ∙ f .size;
+      each = λ i b.
+          ⊎-elim
+          (λ q. rw q (getD-set-same a n v 0 (omega (arith, f .size)) ∙ e))
+          (λ ne. getD-set-other a n i v 0 ne ∙ f .each i (omega (arith, ne)))
+          (same-or-not i n);
+    }

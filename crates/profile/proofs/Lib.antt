@@ -1,4 +1,6 @@
 pub mod Levels
 pub mod Splits
+pub mod Lines
 pub mod Adds
 pub mod Rooms
+pub mod Starts

@@ -5,9 +5,9 @@ use mathlib.Core.Bool.{Bool, true, false, cond, _||_}
 use mathlib.Core.List.{List}
 use mathlib.Core.Logic.{_⊎_}
 use lib.Dec.{ltb, leb}
-use lib.ListN.{length, getD}
-use Rattle.rules.specs.Load.{share, limits, soundCounts}
-use Rattle.profile.specs.Steps.{levelAt, In, Rising}
+use lib.ListN.{getD}
+use Rattle.rules.specs.Load.{IsLine, share, limits, soundCounts}
+use Rattle.profile.specs.Steps.{levelAt, In, Rising, Filled}
 use Rattle.profile.specs.Shows.{ofLines}
 use Rattle.profile.specs.declared.search.Failing.{Failing}
 use Rattle.profile.specs.declared.search.Failing.the-variants.{At, Nothing}
@@ -21,9 +21,13 @@ abbrev pub roomAt : List ℕ → List ℕ → ℕ → ℕ → Bool
 roomAt ats rooms n t = hasRoom (levelAt ats rooms n t) t
 
 -- step i has room, throughout or not at all, where three counts with one more load on the line are within limit and bound
-abbrev pub RoomsWithin : List ℕ → List ℕ → List ℕ → ℕ → ℕ → ℕ → ℕ → List ℕ → Type 0
-RoomsWithin one two three n limit bound line rooms =
-    (i : ℕ) → i < n → getD rooms i 0 ≡ cond (soundCounts (limits limit bound) (λ l. getD (ofLines one two three l) i 0 + share line l)) 4294967295 0
+pub record RoomsWithin (one two three : List ℕ) (n limit bound line : ℕ) (rooms : List ℕ) : Type 0 where
+  pub filled :
+      Filled (λ i. cond (soundCounts (limits limit bound) (λ l. getD (ofLines one two three l) i 0 + share line l)) 4294967295 0) n rooms
+
+-- no count of the first n steps is large
+abbrev pub SmallSteps : List ℕ → List ℕ → List ℕ → ℕ → Type 0
+SmallSteps one two three n = (l : ℕ) → IsLine l → (m : ℕ) → m < n → getD (ofLines one two three l) m 0 ≤ 1000
 
 -- where a step, or what is looked at, ends
 pub record End (ats : List ℕ) (n i until r : ℕ) : Type 0 where

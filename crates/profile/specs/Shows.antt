@@ -1,15 +1,17 @@
 -- A profile shows loads: in every minute from the clock on, for each line, its level is the count.
-use Prim.Native.Nat.{ℕ, _+_, _*_, _^_, _≤_, _<_, max}
+use Prim.Native.Nat.{ℕ, _+_, _-_, _*_, _^_, _≤_, _<_, max}
 use mathlib.Core.Path.{_≡_}
 use mathlib.Core.Bool.{cond}
 use mathlib.Core.List.{List}
 use lib.Dec.{eqb}
 use lib.ListN.{length, getD}
-use Rattle.rules.specs.Basics.{tabulate}
-use Rattle.rules.specs.Load.{Load, loadFrom, IsLine, count, lastUntil}
-use Rattle.rules.specs.Search.{added}
+use Rattle.rules.specs.Basics.{tabulate, Found, at, nothing}
+use Rattle.rules.specs.Load.{Load, loadFrom, IsLine, share, count, lastUntil, limits}
+use Rattle.rules.specs.Search.{added, earliest}
 use Rattle.profile.specs.Steps.{levelAt, Rising}
 use Rattle.profile.specs.declared.Profile.{Profile}
+use Rattle.profile.specs.declared.When.{When}
+use Rattle.profile.specs.declared.When.the-variants.{Minute, Never}
 
 -- the one of three that belongs to line l
 abbrev pub ofLines : {A : Type 0} → A → A → A → ℕ → A
@@ -86,3 +88,24 @@ loadsIn lines times starts n = tabulate (λ i. loadFrom (getD lines i 0) (getD t
 -- each of their ends is a number of 32 bits
 abbrev pub EndsFit : List ℕ → List ℕ → ℕ → Type 0
 EndsFit times starts n = (i : ℕ) → i < n → getD starts i 0 + getD times i 0 < 2 ^ 32
+
+-- the counts in minute t with one more load on a line
+abbrev pub raised : List Load → ℕ → ℕ → ℕ → ℕ
+raised loads line t l = count loads l t + share line l
+
+-- an answer of the code as what a search of the rules finds
+abbrev pub foundAt : When → Found
+foundAt (Minute t) = at t
+foundAt Never = nothing
+
+-- what a search for a start asks: past the last step nothing is drawn, and no end is too large
+pub record CanStart (p : Profile) (time : ℕ) : Type 0 where
+  pub formed : Formed p
+  pub small : Small p
+  pub empty : (l : ℕ) → IsLine l → getD (lineOf p l) (p .steps - 1) 0 ≡ 0
+  pub ends-fit : getD (p .at) (p .steps - 1) 0 + time < 2 ^ 32
+
+-- whatever loads p shows, the answer is the rules' earliest start
+abbrev pub Earliest : Profile → ℕ → ℕ → ℕ → ℕ → When → Type 0
+Earliest p limit bound line time r =
+    (clock : ℕ) (loads : List Load) → Shows p clock loads → earliest (limits limit bound) clock loads line time ≡ foundAt r

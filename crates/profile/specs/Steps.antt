@@ -33,3 +33,8 @@ pub record Raised (a b : List ℕ) (i j x : ℕ) : Type 0 where
   pub before : (m : ℕ) → m < i → getD b m 0 ≡ getD a m 0
   pub between : (m : ℕ) → i ≤ m → m < j → getD b m 0 ≡ getD a m 0 + x
   pub after : (m : ℕ) → j ≤ m → getD b m 0 ≡ getD a m 0
+
+-- the first n places of a are given by g
+pub record Filled (g : ℕ → ℕ) (n : ℕ) (a : List ℕ) : Type 0 where
+  pub size : length a ≡ 362
+  pub each : (i : ℕ) → i < n → getD a i 0 ≡ g i

@@ -1,13 +1,15 @@
 // How many points draw on each line, minute by minute: the changes in rising order, and the searches over them.
 pub mod counts;
 pub mod loads;
+pub mod room;
 pub mod search;
+pub mod start;
 pub mod steps;
 
 ghost use mathlib.Core.Path.{_≡_};
 ghost use Prim.Native.Nat.{ℕ, _+_, _<_, _≤_};
 ghost use mathlib.Core.List.{[]};
-ghost use Rattle.profile.specs.Shows.{Shows, CanAdd, Added, loadsIn, EndsFit};
+ghost use Rattle.profile.specs.Shows.{Shows, CanAdd, Added, loadsIn, EndsFit, CanStart, Earliest};
 
 // The changes: step i begins in minute at[i] and has the counts one[i], two[i], three[i] from there on. The first step begins at the clock.
 pub struct Profile {
@@ -16,6 +18,12 @@ pub struct Profile {
     pub one: [u32; 362],
     pub two: [u32; 362],
     pub three: [u32; 362],
+}
+
+// A minute, or none.
+pub enum When {
+    Minute(u32),
+    Never,
 }
 
 impl Profile {
@@ -104,5 +112,24 @@ impl Profile {
             two,
             three,
         }
+    }
+
+    // The smallest start, not below the clock, with which the loads and one more are sound together.
+    pub fn earliest(self, limit: u32, bound: u32, line: u32, time: u32) -> When
+        requires { ⌜ CanStart self time × (1 ≤ limit) × (1 ≤ bound) ⌝ }
+        ensures { λ r. ⌜ Earliest self limit bound line time r ⌝ }
+    {
+        let n = self.steps;
+        start::earliest(
+            &self.at,
+            &self.one,
+            &self.two,
+            &self.three,
+            n,
+            limit,
+            bound,
+            line,
+            time,
+        )
     }
 }

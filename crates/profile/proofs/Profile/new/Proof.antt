@@ -2,7 +2,8 @@
 use borrow.Author.Needs.{needs}
 use mathlib.Core.Path.{_≡_, refl}
 use native.Mathlib.Omega.{arith}
-use Rattle.profile.proofs.Adds.{each-line, shows-none}
+use Rattle.profile.proofs.Lines.{each-line, line-one, line-two, line-three}
+use Rattle.profile.proofs.Adds.{shows-none}
 use Rattle.profile.proofs.Profile.new.Statement.{statement}
 use Rattle.profile.proofs.Profile.new.Tie as tie
 use Rattle.profile.proofs.Profile.new.Reads as reads

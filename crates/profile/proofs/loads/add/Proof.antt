@@ -3,7 +3,8 @@ use borrow.Author.Needs.{needs}
 use mathlib.Core.Path.{_≡_, refl, subst}
 use native.Mathlib.Omega.{arith}
 use Rattle.profile.specs.Steps.{Raised}
-use Rattle.profile.proofs.Adds.{each-line, add-none, raise-can, add-shown}
+use Rattle.profile.proofs.Lines.{each-line, line-one, line-two, line-three}
+use Rattle.profile.proofs.Adds.{add-none, raise-can, add-shown}
 use Rattle.profile.proofs.loads.add.Statement.{statement}
 use Rattle.profile.proofs.loads.add.Tie as tie
 use Rattle.profile.proofs.loads.add.Reads as reads
@@ -35,19 +36,19 @@ share-of-requires : tie.Need-share-of-requires
 share-of-requires c κs = search needs
 
 raise-requires : tie.Need-raise-requires
-raise-requires c κs = raise-can (c .before .before .before .before .before .before .before .before .before .before .before .before .before .before .before .pre) (c .before .before .before .before .before .before .before .before .before .before .before .before .before .larger .ensures) (c .before .before .before .before .before .before .before .before .before .before .before .before .if1 .left) (c .before .before .before .before .before .before .before .split .ensures) (c .before .before .split2 .ensures) 1 (record { low = omega arith; high = omega arith }) _ (c .share-of .ensures .1)
+raise-requires c κs = raise-can (c .before .before .before .before .before .before .before .before .before .before .before .before .before .before .before .pre) (c .before .before .before .before .before .before .before .before .before .before .before .before .before .larger .ensures) (c .before .before .before .before .before .before .before .before .before .before .before .before .if1 .left) (c .before .before .before .before .before .before .before .split .ensures) (c .before .before .split2 .ensures) 1 line-one _ (c .share-of .ensures .1)
 
 share-of-requires-2 : tie.Need-share-of-requires-2
 share-of-requires-2 c κs = search needs
 
 raise-requires-2 : tie.Need-raise-requires-2
-raise-requires-2 c κs = raise-can (c .before .before .before .before .before .before .before .before .before .before .before .before .before .before .before .before .before .before .pre) (c .before .before .before .before .before .before .before .before .before .before .before .before .before .before .before .before .larger .ensures) (c .before .before .before .before .before .before .before .before .before .before .before .before .before .before .before .if1 .left) (c .before .before .before .before .before .before .before .before .before .before .split .ensures) (c .before .before .before .before .before .split2 .ensures) 2 (record { low = omega arith; high = omega arith }) _ (c .share-of2 .ensures .1)
+raise-requires-2 c κs = raise-can (c .before .before .before .before .before .before .before .before .before .before .before .before .before .before .before .before .before .before .pre) (c .before .before .before .before .before .before .before .before .before .before .before .before .before .before .before .before .larger .ensures) (c .before .before .before .before .before .before .before .before .before .before .before .before .before .before .before .if1 .left) (c .before .before .before .before .before .before .before .before .before .before .split .ensures) (c .before .before .before .before .before .split2 .ensures) 2 line-two _ (c .share-of2 .ensures .1)
 
 share-of-requires-3 : tie.Need-share-of-requires-3
 share-of-requires-3 c κs = search needs
 
 raise-requires-3 : tie.Need-raise-requires-3
-raise-requires-3 c κs = raise-can (c .before .before .before .before .before .before .before .before .before .before .before .before .before .before .before .before .before .before .before .before .before .pre) (c .before .before .before .before .before .before .before .before .before .before .before .before .before .before .before .before .before .before .before .larger .ensures) (c .before .before .before .before .before .before .before .before .before .before .before .before .before .before .before .before .before .before .if1 .left) (c .before .before .before .before .before .before .before .before .before .before .before .before .before .split .ensures) (c .before .before .before .before .before .before .before .before .split2 .ensures) 3 (record { low = omega arith; high = omega arith }) _ (c .share-of3 .ensures .1)
+raise-requires-3 c κs = raise-can (c .before .before .before .before .before .before .before .before .before .before .before .before .before .before .before .before .before .before .before .before .before .pre) (c .before .before .before .before .before .before .before .before .before .before .before .before .before .before .before .before .before .before .before .larger .ensures) (c .before .before .before .before .before .before .before .before .before .before .before .before .before .before .before .before .before .before .if1 .left) (c .before .before .before .before .before .before .before .before .before .before .before .before .before .split .ensures) (c .before .before .before .before .before .before .before .before .split2 .ensures) 3 line-three _ (c .share-of3 .ensures .1)
 
 returns-2 : tie.Need-returns-2
 returns-2 c =

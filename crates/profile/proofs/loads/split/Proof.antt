@@ -2,7 +2,8 @@
 use borrow.Author.Needs.{needs}
 use mathlib.Core.Path.{_≡_, refl}
 use native.Mathlib.Omega.{arith}
-use Rattle.profile.proofs.Adds.{each-line, split-none, split-some}
+use Rattle.profile.proofs.Lines.{each-line, line-one, line-two, line-three}
+use Rattle.profile.proofs.Adds.{split-none, split-some}
 use Rattle.profile.proofs.loads.split.Statement.{statement}
 use Rattle.profile.proofs.loads.split.Tie as tie
 use Rattle.profile.proofs.loads.split.Reads as reads
@@ -47,13 +48,13 @@ insert-requires : tie.Need-insert-requires
 insert-requires c κs = search needs
 
 insert-requires-2 : tie.Need-insert-requires-2
-insert-requires-2 c κs = (c .before .before .before .before .before .before .before .before .before .before .pre .formed .line-sizes 1 (record { low = omega arith; high = omega arith }), omega arith, omega arith)
+insert-requires-2 c κs = (c .before .before .before .before .before .before .before .before .before .before .pre .formed .line-sizes 1 line-one, omega arith, omega arith)
 
 insert-requires-3 : tie.Need-insert-requires-3
-insert-requires-3 c κs = (c .before .before .before .before .before .before .before .before .before .before .before .before .pre .formed .line-sizes 2 (record { low = omega arith; high = omega arith }), omega arith, omega arith)
+insert-requires-3 c κs = (c .before .before .before .before .before .before .before .before .before .before .before .before .pre .formed .line-sizes 2 line-two, omega arith, omega arith)
 
 insert-requires-4 : tie.Need-insert-requires-4
-insert-requires-4 c κs = (c .before .before .before .before .before .before .before .before .before .before .before .before .before .before .pre .formed .line-sizes 3 (record { low = omega arith; high = omega arith }), omega arith, omega arith)
+insert-requires-4 c κs = (c .before .before .before .before .before .before .before .before .before .before .before .before .before .before .pre .formed .line-sizes 3 line-three, omega arith, omega arith)
 
 add-t13 : tie.Need-add-t13
 add-t13 c = search needs
