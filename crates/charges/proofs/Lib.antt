@@ -4,3 +4,5 @@ pub mod Restarting
 pub mod Members
 pub mod Sorting
 pub mod Orders
+pub mod Reporting
+pub mod Holding

@@ -57,10 +57,13 @@ isPassedAt clock target c i = isPassed clock target (chargeAt c i)
 abbrev pub passedPlaces : ℕ → ℕ → Charges → List ℕ
 passedPlaces clock target c = keep (isPassedAt clock target c) (tabulate (λ i. i) (c .held) 0)
 
+-- places of held charges, no place twice
+pub record PlacesIn (c : Charges) (p : Places) : Type 0 where
+  pub few : p .count ≤ c .held
+  pub inside : (j : ℕ) → j < p .count → placeAt p j < c .held
+  pub apart : (j k : ℕ) → j < k → k < p .count → placeAt p j ≡ placeAt p k → ⊥
+
 -- these places of held charges give exactly these charges
 pub record Ordered (c : Charges) (xs : List Charge) (p : Places) : Type 0 where
   pub charges : map (chargeAt c) (placesOf p) ≡ xs
-  pub few : p .count ≤ c .held
-  pub inside : (j : ℕ) → j < p .count → placeAt p j < c .held
-  -- no place stands twice
-  pub apart : (j k : ℕ) → j < k → k < p .count → placeAt p j ≡ placeAt p k → ⊥
+  pub places : PlacesIn c p
