@@ -20,27 +20,10 @@ use Rattle.charges.specs.declared.Charges.{Charges}
 use Rattle.charges.specs.Arrays.{chargeAt, chargesOf}
 use Rattle.charges.specs.Held.{Listed}
 use Rattle.charges.specs.declared.Places.{Places}
-use Rattle.charges.specs.Places.{Ordered}
+use Rattle.charges.specs.Places.{placeAt, Ordered}
+use Rattle.charges.proofs.Orders.{rising-all}
 use Rattle.planner.specs.Ready.{chargeIn, queueFrom, Queue}
 use Rattle.planner.proofs.Showing.{begun-and-waiting}
-
--- Tickets rise
-
-rising-far : (f : ℕ → ℕ) (n : ℕ) → ((i : ℕ) → i + 1 < n → f i < f (i + 1)) → (i k : ℕ) → i + suc k < n → f i < f (i + suc k)
-rising-far f n h i zero l = h i l
-rising-far f n h i (suc k) l =
-    rw (along i k) (step (rising-far f n h i k (omega arith)) (h (i + suc k) (omega arith)))
-  where
-    along : (i k : ℕ) → i + suc (suc k) ≡ i + suc k + 1
-    along i k = omega arith
-
-    step : f i < f (i + suc k) → f (i + suc k) < f (i + suc k + 1) → f i < f (i + suc k + 1)
-    step p q = omega arith
-
-pub tickets-rise : {c : Charges} → Listed c → (i j : ℕ) → i < j → j < c .held → chargeAt c i .ticket < chargeAt c j .ticket
-tickets-rise {c} r i j h l =
-    let e : j ≡ i + suc (j - suc i) = omega arith in
-    rw e (rising-far (λ k. chargeAt c k .ticket) (c .held) (r .rising) i (j - suc i) (omega arith))
 
 -- charges at different places have different tickets
 pub places-apart :
@@ -48,8 +31,8 @@ pub places-apart :
 places-apart {c} r i j h l ne e = go (below-or-not i j) (below-or-not j i)
   where
     go : (i < j) ⊎ (j ≤ i) → (j < i) ⊎ (i ≤ j) → ⊥
-    go (inl p) q = omega (arith, tickets-rise r i j p l)
-    go (inr p) (inl q) = omega (arith, tickets-rise r j i q h)
+    go (inl p) q = omega (arith, rising-all c (r .rising) i j p l)
+    go (inr p) (inl q) = omega (arith, rising-all c (r .rising) j i q h)
     go (inr p) (inr q) = ne (omega arith)
 
 -- How many
@@ -100,39 +83,33 @@ line-by-line-length cs =
 
 -- The two queues
 
--- the charges at these places, taken from the first on
-pub queue-whole :
-    (c : Charges) (places : List ℕ) (n : ℕ)
-    → map (chargeAt c) (tabulate (λ j. getD places j 0) n 0) ≡ queueFrom c places n 0
-queue-whole c places n = map-tabulate (chargeAt c) (λ j. getD places j 0) n 0 ∙ rw sub-zero
+pub queue-whole : {c : Charges} {xs : List Charge} {q : Places} → Ordered c xs q → queueFrom c q 0 ≡ xs
+queue-whole {c} {xs} {q} o = rw sub-zero (sym (map-tabulate (chargeAt c) (placeAt q) (q .count) 0) ∙ o .charges)
 
--- places of held charges, none of them twice and no more than wait
+-- no more charges than wait
 queue-of :
     {clock : ℕ} {c : Charges} {xs : List Charge} {q : Places}
     → Listed c
     → Ordered c xs q
     → length xs ≤ length (waitingCharges clock (chargesOf c))
-    → Queue clock c (q .places) (q .count)
+    → Queue clock c q
 queue-of {clock} {c} {xs} {q} h o few =
     record {
-      inside = o .inside;
-      apart = o .apart;
+      places = o .places;
       room =
           omega (
             arith,
             begun-and-waiting clock (chargesOf c),
             length-tabulate (chargeAt c) (c .held) 0,
-            ap length (sym (queue-whole c (q .places) (q .count)) ∙ o .charges),
-            length-tabulate (chargeIn c (q .places)) (q .count - 0) 0,
+            ap length (queue-whole o),
+            length-tabulate (chargeIn c q) (q .count - 0) 0,
             h .columns .few,
           );
     }
 
 module _ {clock : ℕ} {c : Charges} {q : Places} (h : Listed c) where
-  pub queue-latest-start :
-      Ordered c (byLatestStart (waitingCharges clock (chargesOf c))) q → Queue clock c (q .places) (q .count)
+  pub queue-latest-start : Ordered c (byLatestStart (waitingCharges clock (chargesOf c))) q → Queue clock c q
   queue-latest-start o = queue-of h o (omega (arith, sorted-length (waitingCharges clock (chargesOf c))))
 
-  pub queue-line-by-line :
-      Ordered c (lineByLine (waitingCharges clock (chargesOf c))) q → Queue clock c (q .places) (q .count)
+  pub queue-line-by-line : Ordered c (lineByLine (waitingCharges clock (chargesOf c))) q → Queue clock c q
   queue-line-by-line o = queue-of h o (line-by-line-length (waitingCharges clock (chargesOf c)))

@@ -1,15 +1,20 @@
 -- The waiting charges placed one after another: the profile and the starts that they leave.
 use mathlib.Core.Path.{_≡_}
 use Prim.Native.Nat.{ℕ, _*_, max, _+_, _≤_}
+use mathlib.Core.Bool.{Bool, true, false}
 use mathlib.Core.List.{List, [], _++_}
 use lib.ListN.{length}
 use Rattle.rules.specs.Basics.{Found}
-use Rattle.rules.specs.Load.{lastUntil}
-use Rattle.rules.specs.Charge.{Charge, loadsOf}
-use Rattle.rules.specs.Replan.{all, placeAll}
+use Rattle.rules.specs.Load.{Load, lastUntil, limits}
+use Rattle.rules.specs.Charge.{Charge, activeFor, loadsOf}
+use Rattle.rules.specs.Search.{earliest}
+use Rattle.rules.specs.Replan.{all, stuck, placeAll}
 use Rattle.charges.specs.declared.Charges.{Charges}
 use Rattle.profile.specs.declared.Profile.{Profile}
-use Rattle.profile.specs.Shows.{Shows}
+use Rattle.profile.specs.declared.When.{When}
+use Rattle.profile.specs.Shows.{Shows, foundAt}
+use Rattle.planner.specs.declared.Rule.{Rule}
+use Rattle.planner.specs.declared.Placement.{Placement}
 use Rattle.planner.specs.Starts.{Stored}
 use Rattle.planner.specs.Ready.{begunOf}
 
@@ -22,8 +27,28 @@ pub record PlanShown (clock : ℕ) (c : Charges) (placed : List Charge) (k : ℕ
   pub ends : max clock (lastUntil (loadsOf (begunOf clock c ++ placed))) ≤ 100001440 + 1440 * k
 
 -- every charge of the queue is placed
-pub record AllPlaced (find : List Charge → Charge → Found) (clock : ℕ) (c : Charges) (queue : List Charge) (n : ℕ) (p : Profile)
-    (starts : List ℕ) : Type 0 where
+pub record AllPlaced (find : List Charge → Charge → Found) (clock : ℕ) (c : Charges) (queue : List Charge) (n : ℕ)
+    (p : Profile) (starts : List ℕ) : Type 0 where
   pub placed : List Charge
   pub gives : placeAll find [] queue ≡ all placed
   pub plan : PlanShown clock c placed n p starts
+
+-- every charge is placed, or one has no start
+abbrev pub PlacedIf : Bool → (List Charge → Charge → Found) → ℕ → Charges → List Charge → ℕ → Profile → List ℕ → Type 0
+PlacedIf true find clock c queue n p starts = AllPlaced find clock c queue n p starts
+PlacedIf false find clock c queue n p starts = placeAll find [] queue ≡ stuck
+
+-- the search that a rule asks for
+abbrev pub searchIn : Rule → ℕ → List Load → ℕ → ℕ → Found
+searchIn rule clock loads line time = earliest (limits (rule .limit) (rule .bound)) clock loads line time
+
+abbrev pub searchOf : Rule → ℕ → List Charge → List Charge → Charge → Found
+searchOf rule clock begun placed x = searchIn rule clock (loadsOf (begun ++ placed)) (x .line) (activeFor x)
+
+-- whatever loads the profile shows, the answer is what the search finds
+pub record Starts (p : Profile) (rule : Rule) (line time : ℕ) (w : When) : Type 0 where
+  pub finds : (clock : ℕ) (loads : List Load) → Shows p clock loads → searchIn rule clock loads line time ≡ foundAt w
+
+abbrev pub PlacedBy : Rule → ℕ → Charges → List Charge → ℕ → Placement → Type 0
+PlacedBy rule clock c queue n r =
+    PlacedIf (r .complete) (searchOf rule clock (begunOf clock c)) clock c queue n (r .profile) (r .starts)

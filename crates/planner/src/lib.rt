@@ -1,16 +1,34 @@
 // Both replans and the test of a plan.
 use charges::Charges;
+use charges::Places;
 use profile::Profile;
+use profile::When;
 ghost use mathlib.Core.Path.{_≡_};
 ghost use Rattle.rules.specs.Charge.{begunCharges, loadsOf};
 ghost use Rattle.charges.specs.Arrays.{Columns, chargesOf};
 ghost use Rattle.charges.specs.Held.{Listed};
-ghost use Rattle.profile.specs.Shows.{Shows};
+ghost use Prim.Native.Nat.{_≤_};
+ghost use Rattle.profile.specs.Shows.{Shows, CanStart};
 ghost use Rattle.planner.specs.Starts.{WaitingStarts};
+ghost use Rattle.planner.specs.Ready.{begunOf, Ready, queueFrom, Queue};
+ghost use Rattle.planner.specs.Placed.{Starts, PlacedBy};
 
 // Cause 0 with a start for each waiting charge, in ticket order, or the cause for having none.
 pub struct Proposed {
     pub cause: u32,
+    pub starts: [u32; 180],
+}
+
+// How a start is looked for.
+pub struct Rule {
+    pub limit: u32,
+    pub bound: u32,
+}
+
+// The waiting charges placed one after another: whether each has a start, the profile, and the start of each at its place.
+pub struct Placement {
+    pub complete: bool,
+    pub profile: Profile,
     pub starts: [u32; 180],
 }
 
@@ -61,4 +79,42 @@ fn begun_profile(charges: Charges, clock: u32) -> Profile
         }
     }
     profile
+}
+
+// The smallest start that the rule allows.
+fn smallest_start(profile: Profile, rule: Rule, line: u32, time: u32) -> When
+    requires { ⌜ CanStart profile time × (1 ≤ rule .limit) × (1 ≤ rule .bound) ⌝ }
+    ensures { λ r. ⌜ Starts profile rule line time r ⌝ }
+{
+    profile.earliest(rule.limit, rule.bound, line, time)
+}
+
+// Places the charges of the queue, each at the smallest start that the rule allows.
+fn place_all(charges: Charges, clock: u32, rule: Rule, queue: Places, begun: Profile) -> Placement
+    requires { ⌜ Ready clock (rule .limit) (rule .bound) charges × Queue clock charges queue × Shows begun clock (loadsOf (begunOf clock charges)) ⌝ }
+    ensures { λ r. ⌜ PlacedBy rule clock charges (queueFrom charges queue 0) (queue .count) r ⌝ }
+{
+    let n = queue.count;
+    let mut profile = begun;
+    let mut starts = [0; 180];
+    for k in 0..n {
+        let i = queue.places[k];
+        let line = charges.lines[i];
+        let time = charges.times[i];
+        let found = smallest_start(profile, rule, line, time);
+        let When::Minute(s) = found else {
+            return Placement {
+                complete: false,
+                profile,
+                starts,
+            };
+        };
+        profile = profile.add(line, time, s);
+        starts[i] = s;
+    }
+    Placement {
+        complete: true,
+        profile,
+        starts,
+    }
 }
