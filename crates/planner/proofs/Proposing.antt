@@ -1,47 +1,101 @@
 -- What the replans propose once the waiting charges are placed.
 use mathlib.Core.Path.{_≡_, refl, sym, _∙_, ap}
 use Prim.Native.Nat.{ℕ, zero, suc, _+_, _≤_, _<_}
-use mathlib.Core.Bool.{Bool, true, false, cond}
+use mathlib.Core.Bool.{Bool, true, false, cond, false≢true, true≢false}
 use mathlib.Core.List.{List, [], _∷_, _++_}
 use native.Mathlib.Omega.{arith}
 use lib.Dec.{ltb}
 use lib.ListN.{length, getD, take, replicate}
 use borrow.Author.Tests.{lt-ltb, le-ltb}
 use Rattle.rules.specs.Basics.{Found, at, nothing}
-use Rattle.rules.specs.Load.{Load, count, counts, Limits}
+use Rattle.rules.specs.Load.{Load, count, counts, Limits, limits}
 use Rattle.rules.specs.Charge.{Charge, loadsOf, waitingCharges}
 use Rattle.rules.specs.Search.{Caps, firstUnbalanced}
 use Rattle.rules.specs.Replan.{Proposal, starts, none, all, stuck, placeAll, soundStart, cappedStart, byLatestStart, lineByLine, latest, largestLine, smallestLine, placedActive, ends, lowers, afterRound, round}
 use Rattle.rules.proofs.Counts.{count-append}
 use Rattle.charges.specs.declared.Charges.{Charges}
 use Rattle.charges.specs.Arrays.{chargesOf, Filled}
+use Rattle.charges.specs.declared.Places.{Places}
+use Rattle.charges.specs.Places.{Ordered}
 use Rattle.charges.proofs.Storing.{zeros}
 use Rattle.profile.specs.declared.Profile.{Profile}
 use Rattle.planner.specs.Starts.{waitingCount, WaitingStarts}
-use Rattle.planner.specs.Ready.{begunOf}
-use Rattle.planner.specs.Placed.{PlanShown, AllPlaced}
+use Rattle.planner.specs.declared.Proposed.{Proposed}
+use Rattle.planner.specs.Answers.{Proposes}
+use Rattle.planner.specs.Ready.{begunOf, queueFrom}
+use Rattle.planner.specs.Placed.{PlanShown, AllPlaced, PlacedIf, searchOf, PlacedBy}
+use Rattle.planner.specs.declared.Rule.{Rule}
+use Rattle.planner.specs.declared.Placement.{Placement}
 use Rattle.planner.proofs.Placing.{placed-active}
 use Rattle.planner.proofs.Showing.{loads-append}
+use Rattle.planner.proofs.Queueing.{queue-whole}
 
 -- no place is used
 pub filled-none : Filled 0 (replicate 180 0)
 filled-none = record { full = refl; clear = λ i h. zeros 180 i }
 
+-- An answer with starts, and one without
+
+module _ {clock : ℕ} {c : Charges} {p : Proposal} where
+  pub proposes-starts :
+      {listed : List ℕ}
+      → p ≡ starts (take (waitingCount clock c) listed)
+      → Filled (waitingCount clock c) listed
+      → Proposes clock c p (record { cause = 0; starts = listed })
+  proposes-starts e f = record { same = e; filled = f }
+
+  pub proposes-none : {r : Proposed} (k : ℕ) → p ≡ none (suc k) → r .cause ≡ suc k → Filled 0 (r .starts) → Proposes clock c p r
+  proposes-none k e q f = record { same = rw q e; filled = rw q f }
+
+-- Every charge placed, or one without a start
+
+module _ {rule : Rule} {clock : ℕ} {c : Charges} {q : Places} {r : Placement} (h : PlacedBy rule clock c q r) where
+  pub all-placed :
+      r .complete ≡ true
+      → AllPlaced (searchOf rule clock (begunOf clock c)) clock c (queueFrom c q 0) (q .count) (r .profile) (r .starts)
+  all-placed e = go (r .complete) e (h .result)
+    where
+      go :
+          (b : Bool)
+          → b ≡ true
+          → PlacedIf b (searchOf rule clock (begunOf clock c)) clock c (queueFrom c q 0) (q .count) (r .profile) (r .starts)
+          → AllPlaced (searchOf rule clock (begunOf clock c)) clock c (queueFrom c q 0) (q .count) (r .profile) (r .starts)
+      go true p x = x
+      go false p x = absurd (false≢true p)
+
+  pub none-placed : r .complete ≡ false → placeAll (searchOf rule clock (begunOf clock c)) [] (queueFrom c q 0) ≡ stuck
+  none-placed e = go (r .complete) e (h .result)
+    where
+      go :
+          (b : Bool)
+          → b ≡ false
+          → PlacedIf b (searchOf rule clock (begunOf clock c)) clock c (queueFrom c q 0) (q .count) (r .profile) (r .starts)
+          → placeAll (searchOf rule clock (begunOf clock c)) [] (queueFrom c q 0) ≡ stuck
+      go true p x = absurd (true≢false p)
+      go false p x = x
+
 -- Replan by latest start
 
-module _ (y : Limits) (clock : ℕ) (c : Charges) (queue : List Charge)
-    (order : queue ≡ byLatestStart (waitingCharges clock (chargesOf c))) where
-  pub latest-stuck : placeAll (soundStart y clock (begunOf clock c)) [] queue ≡ stuck → latest y clock (chargesOf c) ≡ none 1
+module _ {rule : Rule} {clock : ℕ} {c : Charges} {q : Places} {r : Placement}
+    (order : Ordered c (byLatestStart (waitingCharges clock (chargesOf c))) q) (h : PlacedBy rule clock c q r) where
+  pub latest-none :
+      {a : Proposed}
+      → r .complete ≡ false
+      → a .cause ≡ 1
+      → Filled 0 (a .starts)
+      → Proposes clock c (latest (limits (rule .limit) (rule .bound)) clock (chargesOf c)) a
   unfolding latest
-  latest-stuck e = rw (← order, e)
+  latest-none e = proposes-none 0 (rw (← (queue-whole order), none-placed h e))
 
-  pub latest-placed :
-      {n : ℕ} {p : Profile} {given listed : List ℕ}
-      → AllPlaced (soundStart y clock (begunOf clock c)) clock c queue n p given
-      → WaitingStarts clock c given listed
-      → latest y clock (chargesOf c) ≡ starts (take (waitingCount clock c) listed)
+  pub latest-starts :
+      {listed : List ℕ}
+      → r .complete ≡ true
+      → WaitingStarts clock c (r .starts) listed
+      → Proposes clock c (latest (limits (rule .limit) (rule .bound)) clock (chargesOf c)) (record { cause = 0; starts = listed })
   unfolding latest
-  latest-placed a w = rw (← order, a .gives, w .gives (a .placed) (a .plan .stored))
+  latest-starts {listed} e w =
+      let a = all-placed h e in
+      proposes-starts (rw (← (queue-whole order), a .gives, w .gives (a .placed) (a .plan .stored))) (w .filled)
 
 -- One round
 

@@ -10,13 +10,14 @@ use Rattle.rules.specs.Charge.{Charge, activeFor, loadsOf}
 use Rattle.rules.specs.Search.{earliest}
 use Rattle.rules.specs.Replan.{all, stuck, placeAll}
 use Rattle.charges.specs.declared.Charges.{Charges}
+use Rattle.charges.specs.declared.Places.{Places}
 use Rattle.profile.specs.declared.Profile.{Profile}
 use Rattle.profile.specs.declared.When.{When}
 use Rattle.profile.specs.Shows.{Shows, foundAt}
 use Rattle.planner.specs.declared.Rule.{Rule}
 use Rattle.planner.specs.declared.Placement.{Placement}
 use Rattle.planner.specs.Starts.{Stored}
-use Rattle.planner.specs.Ready.{begunOf}
+use Rattle.planner.specs.Ready.{begunOf, queueFrom}
 
 -- the plan of the begun charges and those placed so far
 pub record PlanShown (clock : ℕ) (c : Charges) (placed : List Charge) (k : ℕ) (p : Profile) (starts : List ℕ) : Type 0 where
@@ -49,6 +50,7 @@ searchOf rule clock begun placed x = searchIn rule clock (loadsOf (begun ++ plac
 pub record Starts (p : Profile) (rule : Rule) (line time : ℕ) (w : When) : Type 0 where
   pub finds : (clock : ℕ) (loads : List Load) → Shows p clock loads → searchIn rule clock loads line time ≡ foundAt w
 
-abbrev pub PlacedBy : Rule → ℕ → Charges → List Charge → ℕ → Placement → Type 0
-PlacedBy rule clock c queue n r =
-    PlacedIf (r .complete) (searchOf rule clock (begunOf clock c)) clock c queue n (r .profile) (r .starts)
+-- the charges of the queue, placed by a rule
+pub record PlacedBy (rule : Rule) (clock : ℕ) (c : Charges) (q : Places) (r : Placement) : Type 0 where
+  pub result :
+      PlacedIf (r .complete) (searchOf rule clock (begunOf clock c)) clock c (queueFrom c q 0) (q .count) (r .profile) (r .starts)

@@ -5,18 +5,31 @@ use profile::Profile;
 use profile::When;
 ghost use mathlib.Core.Path.{_≡_};
 ghost use Rattle.rules.specs.Charge.{begunCharges, loadsOf};
-ghost use Rattle.charges.specs.Arrays.{Columns, chargesOf};
+ghost use Rattle.rules.specs.Load.{limits};
+ghost use Rattle.rules.specs.Replan.{latest as latestOf};
+ghost use Rattle.charges.specs.Arrays.{Columns, Filled, chargesOf};
 ghost use Rattle.charges.specs.Held.{Listed};
 ghost use Prim.Native.Nat.{_≤_};
 ghost use Rattle.profile.specs.Shows.{Shows, CanStart};
 ghost use Rattle.planner.specs.Starts.{WaitingStarts};
-ghost use Rattle.planner.specs.Ready.{begunOf, Ready, queueFrom, Queue};
+ghost use Rattle.planner.specs.Ready.{begunOf, Ready, Queue};
+ghost use Rattle.planner.specs.Answers.{Proposes};
 ghost use Rattle.planner.specs.Placed.{Starts, PlacedBy};
 
 // Cause 0 with a start for each waiting charge, in ticket order, or the cause for having none.
 pub struct Proposed {
     pub cause: u32,
     pub starts: [u32; 180],
+}
+
+impl Proposed {
+    // No starts.
+    fn none(cause: u32) -> Proposed
+        ensures { λ r. ⌜ (r .cause ≡ cause) × Filled 0 (r .starts) ⌝ }
+    {
+        let starts = [0; 180];
+        Proposed { cause, starts }
+    }
 }
 
 // How a start is looked for.
@@ -92,7 +105,7 @@ fn smallest_start(profile: Profile, rule: Rule, line: u32, time: u32) -> When
 // Places the charges of the queue, each at the smallest start that the rule allows.
 fn place_all(charges: Charges, clock: u32, rule: Rule, queue: Places, begun: Profile) -> Placement
     requires { ⌜ Ready clock (rule .limit) (rule .bound) charges × Queue clock charges queue × Shows begun clock (loadsOf (begunOf clock charges)) ⌝ }
-    ensures { λ r. ⌜ PlacedBy rule clock charges (queueFrom charges queue 0) (queue .count) r ⌝ }
+    ensures { λ r. ⌜ PlacedBy rule clock charges queue r ⌝ }
 {
     let n = queue.count;
     let mut profile = begun;
@@ -117,4 +130,21 @@ fn place_all(charges: Charges, clock: u32, rule: Rule, queue: Places, begun: Pro
         profile,
         starts,
     }
+}
+
+// Replan by latest start.
+pub fn latest(charges: Charges, clock: u32, limit: u32, bound: u32) -> Proposed
+    requires { ⌜ Ready clock limit bound charges ⌝ }
+    ensures { λ r. ⌜ Proposes clock charges (latestOf (limits limit bound) clock (chargesOf charges)) r ⌝ }
+{
+    let queue = charges.by_latest_start(clock);
+    let begun = begun_profile(charges, clock);
+    let rule = Rule { limit, bound };
+    let placement = place_all(charges, clock, rule, queue, begun);
+    if !placement.complete {
+        return Proposed::none(1);
+    }
+    let placed = placement.starts;
+    let starts = waiting_starts(charges, clock, placed);
+    Proposed { cause: 0, starts }
 }

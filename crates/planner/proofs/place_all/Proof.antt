@@ -61,8 +61,11 @@ enum-told c = search needs
 returns : tie.Need-returns Inv-loop μ-loop
 returns c =
     let l = c .before .before .before .before .before .before .before in
-    next-stuck (l .before .args .rule) (l .before .pre .0) (l .before .pre .1) (l .loop .inv .1) (c .before .before .before .before .before .before .loop-test .taken)
-    (c .before .before .smallest-start .ensures) (c .enum-told .given .1)
+    record {
+      result =
+          next-stuck (l .before .args .rule) (l .before .pre .0) (l .before .pre .1) (l .loop .inv .1) (c .before .before .before .before .before .before .loop-test .taken)
+          (c .before .before .smallest-start .ensures) (c .enum-told .given .1);
+    }
 
 add-requires : tie.Need-add-requires Inv-loop μ-loop
 add-requires c κs =
@@ -95,7 +98,7 @@ loop-again c =
     )
 
 returns-2 : tie.Need-returns-2 Inv-loop μ-loop
-returns-2 c = placed-end (c .before .before .pre .0) (c .before .before .pre .1) (c .before .loop .inv .1) (omega arith)
+returns-2 c = record { result = placed-end (c .before .before .pre .0) (c .before .before .pre .1) (c .before .loop .inv .1) (omega arith) }
 
 pub place-all-spec : {M : Type 1} → statement M
 place-all-spec =
