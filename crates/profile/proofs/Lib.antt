@@ -4,3 +4,4 @@ pub mod Lines
 pub mod Adds
 pub mod Rooms
 pub mod Starts
+pub mod Lowerings

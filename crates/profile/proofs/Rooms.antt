@@ -126,7 +126,7 @@ module _ {ats rooms : List ℕ} {n time start i s m k : ℕ} (c : CanSearch ats 
       last : n ≤ k + 1 → ⊥
       last a =
           let e : k ≡ n - 1 = omega (arith, h .inside .below) in
-          let full : getD rooms k 0 ≡ 4294967295 = ap (λ (x : ℕ). getD rooms x 0) e ∙ c .rests in
+          let full : 4294967295 ≤ getD rooms k 0 = omega (arith, c .rests, ap (λ (x : ℕ). getD rooms x 0) e) in
           let x : true ≡ false = sym (room-always (getD rooms k 0) m (omega arith)) ∙ sym (room-in rooms (h .inside)) ∙ h .fails m (omega arith) (h .inside) in
           let z : _≡_ {A = ℕ} 0 1 = cc in
           omega arith

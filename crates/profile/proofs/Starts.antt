@@ -13,9 +13,11 @@ use Rattle.rules.proofs.Ranges.{fails, below-or-not, IsFirst, first-is, first-n
 use Rattle.rules.proofs.Counts.{draws-before, draws-after, draws-in, share-most, count-past, Sound, sound-at, sound-all, sound-same, sound-few, sound-from, sound-true}
 use Rattle.rules.proofs.Searches.{count-added}
 use Rattle.profile.specs.Steps.{levelAt, In, Rising, Filled}
-use Rattle.profile.specs.Shows.{ofLines, lineOf, levelOf, Formed, Shows, Small, raised, foundAt, CanStart, Earliest}
+use Rattle.profile.specs.Shows.{ofLines, lineOf, levelOf, levels, soundIn, FailsBetween, UnsoundIn, Formed, Shows, Small, raised, foundAt, CanStart, Earliest}
 use Rattle.profile.specs.Rooms.{hasRoom, roomAt, RoomsWithin, SmallSteps, FailsAt, Misses, Least, Settled, Rests, AllOrNone, CanSearch}
 use Rattle.profile.specs.declared.Profile.{Profile}
+use Rattle.profile.specs.declared.start.Unsound.{Unsound}
+use Rattle.profile.specs.declared.start.Unsound.the-variants.{Between, Nothing}
 use Rattle.profile.specs.declared.When.the-variants.{Minute, Never}
 use Rattle.profile.proofs.Levels.{filled-more, level-in, Place, step-of, at-step, last-step, rising-le}
 use Rattle.profile.proofs.Lines.{each-line, share-none, sound-tests}
@@ -126,26 +128,30 @@ within-more {one} {two} {three} {rooms} {n} {limit} {bound} {line} {a} {b} {c} w
 
 -- What a profile shows
 
+-- the room of its steps is that of its levels
+pub within-levels :
+    {p : Profile} {limit bound line : ℕ} {rooms : List ℕ} → Formed p → RoomsWithin (p .one) (p .two) (p .three) (p .steps) limit bound line rooms →
+    (t : ℕ) → getD (p .at) 0 0 ≤ t → roomAt (p .at) rooms (p .steps) t ≡ soundCounts (limits limit bound) (λ l. levelOf p l t + share line l)
+within-levels {p} {limit} {bound} {line} {rooms} f w t a = go (step-of (p .at) (p .steps) t (f .some) a)
+  where
+    go : Place (p .at) (p .steps) t → roomAt (p .at) rooms (p .steps) t ≡ soundCounts (limits limit bound) (λ l. levelOf p l t + share line l)
+    go i =
+        room-in rooms (i .inside)
+        ∙ ap (λ (x : ℕ). hasRoom x t) (w .filled .each (i .step) (i .inside .below))
+        ∙ room-cond (soundCounts (limits limit bound) (λ l. getD (lineOf p l) (i .step) 0 + share line l)) t
+        ∙ sound-tests (limits limit bound) (λ l. getD (lineOf p l) (i .step) 0 + share line l) (λ l. levelOf p l t + share line l)
+        (λ l h. omega (arith, level-in (p .at) (lineOf p l) (p .steps) (i .step) t (i .inside)))
+
 module _ {p : Profile} {clock : ℕ} {xs : List Load} (s : Shows p clock xs) where
-  -- the room of its steps is that of the loads
   pub within-shown :
       {limit bound line : ℕ} {rooms : List ℕ} → RoomsWithin (p .one) (p .two) (p .three) (p .steps) limit bound line rooms →
       (t : ℕ) → clock ≤ t → roomAt (p .at) rooms (p .steps) t ≡ soundCounts (limits limit bound) (raised xs line t)
-  within-shown {limit} {bound} {line} {rooms} w t a = go (step-of (p .at) (p .steps) t (s .formed .some) (omega (arith, s .starts)))
-    where
-      go : Place (p .at) (p .steps) t → roomAt (p .at) rooms (p .steps) t ≡ soundCounts (limits limit bound) (raised xs line t)
-      go i =
-          room-in rooms (i .inside)
-          ∙ ap (λ (x : ℕ). hasRoom x t) (w .filled .each (i .step) (i .inside .below))
-          ∙ room-cond (soundCounts (limits limit bound) (λ l. getD (lineOf p l) (i .step) 0 + share line l)) t
-          ∙ sound-tests (limits limit bound) (λ l. getD (lineOf p l) (i .step) 0 + share line l) (raised xs line t)
-          (λ l h. omega (arith, level-in (p .at) (lineOf p l) (p .steps) (i .step) t (i .inside), s .counted l h t a))
+  within-shown {limit} {bound} {line} w t a =
+      within-levels (s .formed) w t (omega (arith, s .starts))
+      ∙ sound-tests (limits limit bound) (λ l. levelOf p l t + share line l) (raised xs line t) (λ l h. omega (arith, s .counted l h t a))
 
-  pub held-shown :
-      {limit bound : ℕ} {rooms : List ℕ} → RoomsWithin (p .one) (p .two) (p .three) (p .steps) limit bound 0 rooms →
-      (t : ℕ) → clock ≤ t → roomAt (p .at) rooms (p .steps) t ≡ soundAt (limits limit bound) xs t
-  held-shown {limit} {bound} w t a =
-      within-shown w t a ∙ sound-tests (limits limit bound) (raised xs 0 t) (counts xs t) (λ l h. omega (arith, share-none l h))
+  pub sound-shown : (limit bound t : ℕ) → clock ≤ t → soundIn p limit bound t ≡ soundAt (limits limit bound) xs t
+  sound-shown limit bound t a = sound-tests (limits limit bound) (levels p t) (counts xs t) (λ l h. s .counted l h t a)
 
   -- a profile of loads meets what a search for a start asks
   pub can-start : (time : ℕ) → length xs ≤ 1000 → max clock (lastUntil xs) + time < 2 ^ 32 → CanStart p time
@@ -186,11 +192,13 @@ module _ {p : Profile} {time limit bound line : ℕ} (can : CanStart p time) (so
   -- past the last step one more load is alone
   pub within-rests : Rests rooms (p .steps)
   within-rests =
+      let e : getD rooms (p .steps - 1) 0 ≡ 4294967295 =
       w .filled .each (p .steps - 1) (omega (arith, can .formed .some))
       ∙ ap (λ (b : Bool). cond b 4294967295 0)
       (sound-all (limits limit bound) (λ l. getD (lineOf p l) (p .steps - 1) 0 + share line l)
       (sound-same (limits limit bound) (share line) (λ l. getD (lineOf p l) (p .steps - 1) 0 + share line l) (λ l h. omega (arith, can .empty l h))
-      (sound-few (limits limit bound) (share line) some-limit some-bound (share-most line))))
+      (sound-few (limits limit bound) (share line) some-limit some-bound (share-most line)))) in
+      omega arith
 
   pub within-all : AllOrNone rooms (p .steps)
   within-all i h = go (soundCounts (limits limit bound) (λ l. getD (lineOf p l) i 0 + share line l)) (w .filled .each i h)
@@ -201,6 +209,9 @@ module _ {p : Profile} {time limit bound line : ℕ} (can : CanStart p time) (so
 
 pub start-small : {p : Profile} {time : ℕ} → CanStart p time → SmallSteps (p .one) (p .two) (p .three) (p .steps)
 start-small {p} c = small-step p (c .formed) (c .small)
+
+pub start-any : {p : Profile} {time : ℕ} → CanStart p time → CanStart p 0
+start-any c = record { formed = c .formed; small = c .small; empty = c .empty; ends-fit = omega (arith, c .ends-fit) }
 
 pub start-search :
     {p : Profile} {time start : ℕ} (rooms : List ℕ) → CanStart p time → Rests rooms (p .steps) → getD (p .at) 0 0 ≤ start → start ≤ getD (p .at) (p .steps - 1) 0 →
@@ -219,17 +230,61 @@ start-search rooms c r low high =
 pub first-last : {p : Profile} {time : ℕ} → CanStart p time → getD (p .at) 0 0 ≤ getD (p .at) (p .steps - 1) 0
 first-last {p} c = rising-le (p .at) (p .steps) (c .formed .rises) 0 (p .steps - 1) (omega arith) (omega (arith, c .formed .some))
 
--- held: the room for no more load; e: from when on the loads are sound
-module _ {p : Profile} {time limit bound line e start r : ℕ} {held rooms : List ℕ} (can : CanStart p time)
-    (h : RoomsWithin (p .one) (p .two) (p .three) (p .steps) limit bound 0 held)
+-- The first and the last unsound minute
+
+module _ {p : Profile} {limit bound e : ℕ} {rooms : List ℕ} (f : Formed p) (w : RoomsWithin (p .one) (p .two) (p .three) (p .steps) limit bound 0 rooms)
+    (q : Settled (roomAt (p .at) rooms (p .steps)) (getD (p .at) 0 0) e) where
+  held : (t : ℕ) → getD (p .at) 0 0 ≤ t → roomAt (p .at) rooms (p .steps) t ≡ soundIn p limit bound t
+  held t a =
+      within-levels f w t a
+      ∙ sound-tests (limits limit bound) (λ l. levelOf p l t + share 0 l) (levels p t) (λ l h. omega (arith, share-none l h))
+
+  pub unsound-none : ((t : ℕ) → getD (p .at) 0 0 ≤ t → t < e → roomAt (p .at) rooms (p .steps) t ≡ true) → (t : ℕ) → getD (p .at) 0 0 ≤ t → soundIn p limit bound t ≡ true
+  unsound-none h t a = sym (held t a) ∙ ⊎-elim (λ lt. h t a lt) (λ ge. q .calm t ge) (below-or-not t e)
+
+  pub unsound-some :
+      {m i : ℕ} (until : ℕ) → FailsAt (p .at) rooms (p .steps) (getD (p .at) 0 0) e m i → e ≤ until →
+      FailsBetween (soundIn p limit bound) (getD (p .at) 0 0) until m (e - 1)
+  unsound-some {m} until h b =
+      record {
+        low = h .low;
+        high = omega (arith, h .high);
+        before = λ t a lt. sym (held t a) ∙ h .passed t a lt;
+        first-fails = sym (held m (h .low)) ∙ h .fails m (omega arith) (h .inside);
+        last-fails = sym (held (e - 1) (omega (arith, h .low, h .high))) ∙ q .edge (omega (arith, h .low, h .high));
+        after = λ t a. sym (held t (omega (arith, h .low, h .high))) ∙ q .calm t (omega (arith, h .high));
+      }
+
+-- what the answer says
+pub told-between :
+    (f : ℕ → Bool) (from until : ℕ) (r : Unsound) (first last : ℕ) → UnsoundIn f from until r → r ≡ Between first last → FailsBetween f from until first last
+told-between f from until r first last h e = subst (λ (r : Unsound). UnsoundIn f from until r) e h
+
+pub told-none : (f : ℕ → Bool) (from until : ℕ) (r : Unsound) → UnsoundIn f from until r → r ≡ Nothing → Settled f from from
+told-none f from until r h e =
+    record { low = omega arith; calm = subst (λ (r : Unsound). UnsoundIn f from until r) e h; edge = λ a. absurd (omega arith) }
+
+pub between-settled : {f : ℕ → Bool} {from until first last : ℕ} → FailsBetween f from until first last → from ≤ last → Settled f from (last + 1)
+between-settled {f} {from} {until} {first} {last} h a =
+    record { low = omega arith; calm = λ t b. h .after t (omega arith); edge = λ b. ap f (back last) ∙ h .last-fails }
+  where
+    back : (n : ℕ) → n + 1 - 1 ≡ n
+    back n = omega arith
+
+pub between-order : {f : ℕ → Bool} {from until first last : ℕ} → FailsBetween f from until first last → first ≤ last
+between-order {f} {from} {until} {first} {last} h =
+    ⊎-elim (λ a. absurd (true≢false (sym (h .after first a) ∙ h .first-fails))) (λ a. a) (below-or-not last first)
+
+-- The parts of `earliest`: e is the minute from which on the loads are sound
+module _ {p : Profile} {time limit bound line e start r : ℕ} {rooms : List ℕ}
     (w : RoomsWithin (p .one) (p .two) (p .three) (p .steps) limit bound line rooms)
-    (q : Settled (roomAt (p .at) held (p .steps)) (getD (p .at) 0 0) e) (b : start ≡ max (getD (p .at) 0 0) (e - time))
+    (q : Settled (soundIn p limit bound) (getD (p .at) 0 0) e) (b : start ≡ max (getD (p .at) 0 0) (e - time))
     (m : Least (roomAt (p .at) rooms (p .steps)) time start r) (near : r ≤ getD (p .at) (p .steps - 1) 0) where
   module _ {clock : ℕ} {xs : List Load} (s : Shows p clock xs) where
     calm : Settled (soundAt (limits limit bound) xs) clock e
     calm =
-        settled-same (λ t a. held-shown s h t a)
-        (subst (λ (x : ℕ). Settled (roomAt (p .at) held (p .steps)) x e) (s .starts) q)
+        settled-same (λ t a. sound-shown s limit bound t a)
+        (subst (λ (x : ℕ). Settled (soundIn p limit bound) x e) (s .starts) q)
 
     least : Least (λ t. soundCounts (limits limit bound) (raised xs line t)) time (max clock (e - time)) r
     least =
@@ -240,17 +295,13 @@ module _ {p : Profile} {time limit bound line e start r : ℕ} {held rooms : Lis
     close = omega (arith, s .ends (p .steps - 1) (omega (arith, s .formed .some)))
 
   -- the loads are sound before r
-  pub start-at : ((t : ℕ) → getD (p .at) 0 0 ≤ t → t < r → t < e → roomAt (p .at) held (p .steps) t ≡ true) → Earliest p limit bound line time (Minute r)
+  pub start-at : ((t : ℕ) → getD (p .at) 0 0 ≤ t → t < r → soundIn p limit bound t ≡ true) → Earliest p limit bound line time (Minute r)
   start-at before clock xs s =
       earliest-at (limits limit bound) clock xs line time e r (calm s) (least s) (close s)
-      (λ t a lt.
-      ⊎-elim
-      (λ x. sym (held-shown s h t a) ∙ before t (omega (arith, s .starts)) lt x)
-      (λ x. calm s .calm t x)
-      (below-or-not t e))
+      (λ t a lt. sym (sound-shown s limit bound t a) ∙ before t (omega (arith, s .starts)) lt)
 
   -- they are not
-  pub start-never : {u i : ℕ} → FailsAt (p .at) held (p .steps) (getD (p .at) 0 0) e u i → u < r → Earliest p limit bound line time Never
-  start-never {u} f lt clock xs s =
-      earliest-nothing (limits limit bound) clock xs line time e r (calm s) (least s) (close s) u (omega (arith, s .starts, f .low)) lt
-      (sym (held-shown s h u (omega (arith, s .starts, f .low))) ∙ f .fails u (omega arith) (f .inside))
+  pub start-never : (u : ℕ) → getD (p .at) 0 0 ≤ u → u < r → soundIn p limit bound u ≡ false → Earliest p limit bound line time Never
+  start-never u a lt bad clock xs s =
+      earliest-nothing (limits limit bound) clock xs line time e r (calm s) (least s) (close s) u (omega (arith, s .starts)) lt
+      (sym (sound-shown s limit bound u (omega (arith, s .starts))) ∙ bad)

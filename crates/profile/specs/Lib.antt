@@ -1,3 +1,4 @@
 pub mod Steps
 pub mod Shows
 pub mod Rooms
+pub mod Caps

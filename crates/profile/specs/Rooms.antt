@@ -68,7 +68,7 @@ pub record Settled (f : ℕ → Bool) (first r : ℕ) : Type 0 where
 
 -- the last step has room for ever
 abbrev pub Rests : List ℕ → ℕ → Type 0
-Rests rooms n = getD rooms (n - 1) 0 ≡ 4294967295
+Rests rooms n = 4294967295 ≤ getD rooms (n - 1) 0
 
 -- each step has room throughout, or not at all
 abbrev pub AllOrNone : List ℕ → ℕ → Type 0

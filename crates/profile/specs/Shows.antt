@@ -1,15 +1,17 @@
 -- A profile shows loads: in every minute from the clock on, for each line, its level is the count.
 use Prim.Native.Nat.{ℕ, _+_, _-_, _*_, _^_, _≤_, _<_, max}
 use mathlib.Core.Path.{_≡_}
-use mathlib.Core.Bool.{cond}
+use mathlib.Core.Bool.{Bool, true, false, cond}
 use mathlib.Core.List.{List}
 use lib.Dec.{eqb}
 use lib.ListN.{length, getD}
 use Rattle.rules.specs.Basics.{tabulate, Found, at, nothing}
-use Rattle.rules.specs.Load.{Load, loadFrom, IsLine, share, count, lastUntil, limits}
+use Rattle.rules.specs.Load.{Load, loadFrom, IsLine, share, count, lastUntil, limits, soundCounts}
 use Rattle.rules.specs.Search.{added, earliest}
 use Rattle.profile.specs.Steps.{levelAt, Rising}
 use Rattle.profile.specs.declared.Profile.{Profile}
+use Rattle.profile.specs.declared.start.Unsound.{Unsound}
+use Rattle.profile.specs.declared.start.Unsound.the-variants.{Between, Nothing}
 use Rattle.profile.specs.declared.When.{When}
 use Rattle.profile.specs.declared.When.the-variants.{Minute, Never}
 
@@ -104,6 +106,23 @@ pub record CanStart (p : Profile) (time : ℕ) : Type 0 where
   pub small : Small p
   pub empty : (l : ℕ) → IsLine l → getD (lineOf p l) (p .steps - 1) 0 ≡ 0
   pub ends-fit : getD (p .at) (p .steps - 1) 0 + time < 2 ^ 32
+
+-- the levels in minute t are within limit and bound
+abbrev pub soundIn : Profile → ℕ → ℕ → ℕ → Bool
+soundIn p limit bound t = soundCounts (limits limit bound) (levels p t)
+
+-- `first` and `last` are the first and the last minute, from..until, that fail the test
+pub record FailsBetween (f : ℕ → Bool) (from until first last : ℕ) : Type 0 where
+  pub low : from ≤ first
+  pub high : last < until
+  pub before : (t : ℕ) → from ≤ t → t < first → f t ≡ true
+  pub first-fails : f first ≡ false
+  pub last-fails : f last ≡ false
+  pub after : (t : ℕ) → last < t → f t ≡ true
+
+abbrev pub UnsoundIn : (ℕ → Bool) → ℕ → ℕ → Unsound → Type 0
+UnsoundIn f from until (Between first last) = FailsBetween f from until first last
+UnsoundIn f from until Nothing = (t : ℕ) → from ≤ t → f t ≡ true
 
 -- whatever loads p shows, the answer is the rules' earliest start
 abbrev pub Earliest : Profile → ℕ → ℕ → ℕ → ℕ → When → Type 0

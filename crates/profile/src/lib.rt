@@ -1,4 +1,5 @@
 // How many points draw on each line, minute by minute: the changes in rising order, and the searches over them.
+pub mod caps;
 pub mod counts;
 pub mod loads;
 pub mod room;
@@ -6,9 +7,12 @@ pub mod search;
 pub mod start;
 pub mod steps;
 
+use caps::LineCaps;
 ghost use mathlib.Core.Path.{_≡_};
 ghost use Prim.Native.Nat.{ℕ, _+_, _<_, _≤_};
 ghost use mathlib.Core.List.{[]};
+ghost use Rattle.rules.specs.Load.{IsLine};
+ghost use Rattle.profile.specs.Caps.{capsOf, CanCap, EarliestUnder};
 ghost use Rattle.profile.specs.Shows.{Shows, CanAdd, Added, loadsIn, EndsFit, CanStart, Earliest};
 
 // The changes: step i begins in minute at[i] and has the counts one[i], two[i], three[i] from there on. The first step begins at the clock.
@@ -128,6 +132,26 @@ impl Profile {
             n,
             limit,
             bound,
+            line,
+            time,
+        )
+    }
+
+    // The smallest start, not below the clock, with the line's count, itself included, at or below the cap in all its minutes.
+    pub fn earliest_under(self, caps: LineCaps, line: u32, time: u32) -> u32
+        requires { ⌜ CanStart self time × IsLine line × CanCap (capsOf caps line) ⌝ }
+        ensures { λ r. ⌜ EarliestUnder self caps line time r ⌝ }
+    {
+        let n = self.steps;
+        start::earliest_under(
+            &self.at,
+            &self.one,
+            &self.two,
+            &self.three,
+            n,
+            &caps.one,
+            &caps.two,
+            &caps.three,
             line,
             time,
         )

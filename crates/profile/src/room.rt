@@ -6,7 +6,9 @@ ghost use mathlib.Core.Bool.{cond};
 ghost use Prim.Native.Nat.{ℕ, _+_, _<_, _≤_};
 ghost use Rattle.rules.specs.Load.{limits, soundCounts};
 ghost use Rattle.profile.specs.Shows.{ofLines};
+ghost use lib.ListN.{length, getD};
 ghost use Rattle.profile.specs.Rooms.{RoomsWithin, SmallSteps};
+ghost use Rattle.profile.specs.Caps.{RoomsUnder};
 
 // Up to which minute three counts are within limit and bound: for ever, or not at all.
 pub fn within(limit: u32, bound: u32, a: u32, b: u32, c: u32) -> u32
@@ -38,6 +40,32 @@ pub fn rooms_within<'a>(
     let mut i = 0;
     while i < n {
         rooms[i] = within(limit, bound, one[i] + a, two[i] + b, three[i] + c);
+        i += 1;
+    }
+    rooms
+}
+
+// Up to which minute a count has room for one more load under a cap.
+pub fn under<'a>(caps: &'a [u32; 61], count: u32) -> u32
+    requires { ⌜ length (now caps) ≡ 61 ⌝ }
+    ensures { λ r. ⌜ r ≡ getD (now (caps .entry)) count 0 ⌝ }
+{
+    let k = count as usize;
+    if k < 61 {
+        return caps[k];
+    }
+    0
+}
+
+// The room under a cap for one more load on its line.
+pub fn rooms_under<'a>(counts: &'a [u32; 362], caps: &'a [u32; 61], n: usize) -> [u32; 362]
+    requires { ⌜ (n ≤ 362) × (length (now caps) ≡ 61) ⌝ }
+    ensures { λ r. ⌜ RoomsUnder (now (counts .entry)) (now (caps .entry)) n r ⌝ }
+{
+    let mut rooms = [0u32; 362];
+    let mut i = 0;
+    while i < n {
+        rooms[i] = under(caps, counts[i]);
         i += 1;
     }
     rooms
