@@ -1,23 +1,22 @@
 -- What holds of held charges, over their list: it passes from one list to the next. And the list determines the arrays.
 use mathlib.Core.Logic.{_⊎_, inl, inr}
-use mathlib.Core.Path.{_≡_, refl, ap, sym, _∙_}
-use Prim.Native.Nat.{ℕ, zero, suc, _+_, _-_, _*_, _≤_, _<_}
-use mathlib.Core.Bool.{Bool, true, false, not}
-use mathlib.Core.List.{List, [], _∷_, _++_}
+use mathlib.Core.Path.{_≡_, ap, sym, _∙_}
+use Prim.Native.Nat.{ℕ, _+_, _≤_, _<_}
+use mathlib.Core.Bool.{true, not}
+use mathlib.Core.List.{List, []}
 use native.Mathlib.Omega.{arith}
 use lib.ListN.{length, getD}
 use lib.Seq.{ext-getD}
 use borrow.Author.Tests.{leb-false, not-true}
-use Rattle.rules.specs.Basics.{tabulate, keep}
 use Rattle.rules.specs.Charge.{Charge, endOf, isFinished, unfinishedCharges}
 use Rattle.rules.proofs.Ranges.{below-or-not}
 use Rattle.rules.proofs.Lists.{length-tabulate, getD-tabulate}
 use Rattle.charges.specs.declared.Charges.{Charges}
 use Rattle.charges.specs.Arrays.{Column, tickets, lines, orderMinutes, times, dues, starts, columnOf, valueOf, charge, chargeAt, chargesOf, Columns, Holds}
-use Rattle.charges.specs.Held.{Fair, Rising, Held, Small, Listed}
+use Rattle.charges.specs.Held.{Fair, Held, Small, Listed}
 use Rattle.charges.specs.Places.{Every}
 use Rattle.charges.proofs.Storing.{value-at}
-use Rattle.charges.proofs.Members.{EveryTwo, every-tabulate, every-place, every-imp, every-append, every-both, every-keep, every-kept, two-tabulate, two-places, two-keep}
+use Rattle.charges.proofs.Members.{EveryTwo, every-tabulate, every-place, every-imp, every-both, every-keep, every-kept, two-tabulate, two-places, two-keep}
 use Rattle.charges.proofs.Orders.{rising-all}
 
 -- Held charges as a list

@@ -1,11 +1,10 @@
 -- No charge, and one charge more: what the six arrays hold then.
 use mathlib.Core.Path.{_≡_, refl, ap, sym, _∙_}
-use Prim.Native.Nat.{ℕ, zero, suc, _+_, _≤_, _<_}
+use Prim.Native.Nat.{ℕ, zero, suc, _+_, _<_}
 use mathlib.Core.List.{List, [], _∷_, _++_}
 use native.Mathlib.Omega.{arith}
 use lib.ListN.{length, getD, set, replicate, length-set}
 use lib.Seq.{getD-set-same, getD-set-other}
-use Rattle.rules.specs.Basics.{tabulate}
 use Rattle.rules.specs.Charge.{Charge}
 use Rattle.rules.proofs.Lists.{length-tabulate, tabulate-same, tabulate-next}
 use Rattle.charges.specs.declared.Charges.{Charges}

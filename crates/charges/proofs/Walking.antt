@@ -1,13 +1,13 @@
 -- Walks along the places from 0 on: what one turn adds to a search, to the members that pass a test, and to the totals.
-use mathlib.Core.Path.{_≡_, refl, ap, sym, _∙_}
-use Prim.Native.Nat.{ℕ, zero, suc, _+_, _-_, max, _≤_, _<_}
+use mathlib.Core.Path.{_≡_, ap, _∙_}
+use Prim.Native.Nat.{ℕ, suc, _+_, _-_, max, _≤_, _<_}
 use mathlib.Core.Bool.{Bool, true, false, cond, not}
 use mathlib.Core.List.{List, [], _∷_, _++_, append-nil}
 use native.Mathlib.Omega.{arith}
 use native.Mathlib.Numerals.{add-one}
 use lib.ListN.{length, length-append}
 use borrow.Author.Tests.{lt-ltb, le-ltb, le-leb, lt-leb}
-use Rattle.rules.specs.Basics.{tabulate, Found, at, nothing, first, keep}
+use Rattle.rules.specs.Basics.{tabulate, at, nothing, first, keep}
 use Rattle.rules.specs.Charge.{Charge, endOf, isFinished, isWaiting, lastEnd, lateOf, lateness}
 use Rattle.rules.proofs.Lists.{length-tabulate, tabulate-next, keep-append}
 use Rattle.charges.specs.declared.Charges.{Charges}

@@ -1,0 +1,130 @@
+-- A clock move: the plan stays sound, the station valid, and the result is that of the rules.
+use mathlib.Core.Path.{_≡_, refl, ap, sym, _∙_}
+use Prim.Native.Nat.{ℕ, _+_, _-_, _≤_}
+use mathlib.Core.Bool.{Bool, true, false, cond, not}
+use mathlib.Core.List.{List, [], _∷_, map}
+use native.Mathlib.Omega.{arith}
+use lib.Dec.{ltb}
+use lib.ListN.{length, length-map}
+use borrow.Author.Tests.{ltb-false, leb-true}
+use Rattle.rules.specs.Basics.{firstOf}
+use Rattle.rules.specs.Load.{Limits, count, counts, sound}
+use Rattle.rules.specs.Charge.{Charge, loadOf, loadsOf, isFinished, unfinishedCharges}
+use Rattle.rules.specs.Calls.{moved, refusals, reported, pairs, written, moving, move, step, limitsOf}
+use Rattle.rules.proofs.Counts.{draws-after, sound-same, sound-from, sound-true}
+use Rattle.rules.proofs.Lists.{length-tabulate}
+use Rattle.charges.specs.declared.Charges.{Charges}
+use Rattle.charges.specs.declared.Places.{Places}
+use Rattle.charges.specs.Arrays.{chargeAt, chargesOf, Holds}
+use Rattle.charges.specs.Places.{placeAt, placesOf, Ordered}
+use Rattle.charges.proofs.Storing.{holds-length}
+use Rattle.charges.proofs.Walking.{keep-length, isUnfinished}
+use Rattle.charges.proofs.Holding.{held-list, list-held, held-unfinished}
+use Rattle.station.specs.declared.Station.{Station}
+use Rattle.station.specs.View.{view, Valid}
+use Rattle.station.specs.Answers.{giving}
+use Rattle.station.proofs.Refusing.{none-refuses, call-granted}
+
+-- what neither refusal 8, 9 nor 12 turns away
+pub record Movable (s : Station) (target : ℕ) (list : List ℕ) : Type 0 where
+  pub target-most : target ≤ 1000000
+  pub room : 360 ≤ length list
+  pub not-back : s .clock ≤ target
+
+pub move-granted : (s : Station) (target : ℕ) (list : List ℕ) → firstOf (refusals (view s) (move target list)) ≡ 0 → Movable s target list
+move-granted s target list e =
+    let one = none-refuses (ltb 1000000 target) 8 (firstOf ((ltb (length list) 360, 9) ∷ (ltb target (s .clock), 12) ∷ [])) (omega arith) e in
+    let two = none-refuses (ltb (length list) 360) 9 (firstOf ((ltb target (s .clock), 12) ∷ [])) (omega arith) (one .1) in
+    let three = none-refuses (ltb target (s .clock)) 12 0 (omega arith) (two .1) in
+    record {
+      target-most = ltb-false 1000000 target (one .0);
+      room = ltb-false (length list) 360 (two .0);
+      not-back = ltb-false target (s .clock) (three .0);
+    }
+
+-- finished charges draw nothing from the target on
+count-unfinished :
+    (target : ℕ) (xs : List Charge) (l t : ℕ)
+    → target ≤ t
+    → count (loadsOf (unfinishedCharges target xs)) l t ≡ count (loadsOf xs) l t
+count-unfinished target [] l t h = refl
+count-unfinished target (x ∷ xs) l t h = go (isFinished target x) refl (count-unfinished target xs l t h)
+  where
+    go :
+        (b : Bool)
+        → isFinished target x ≡ b
+        → count (loadsOf (unfinishedCharges target xs)) l t ≡ count (loadsOf xs) l t
+        → count (loadsOf (cond (not b) (x ∷ unfinishedCharges target xs) (unfinishedCharges target xs))) l t
+        ≡ count (loadsOf (x ∷ xs)) l t
+    go true e ih = rw (ih, draws-after (loadOf x) l t (omega (arith, leb-true (x .start + x .time) target e))) (omega arith)
+    go false e ih = rw ih
+
+sound-moved :
+    (y : Limits) (clock target : ℕ) (xs : List Charge)
+    → clock ≤ target
+    → sound y clock (loadsOf xs) ≡ true
+    → sound y target (loadsOf (unfinishedCharges target xs)) ≡ true
+sound-moved y clock target xs h e =
+    sound-true y target (loadsOf (unfinishedCharges target xs))
+    (λ t j.
+    sound-same y (counts (loadsOf xs) t) (counts (loadsOf (unfinishedCharges target xs)) t)
+    (λ l i. count-unfinished target xs l t j)
+    (sound-from y clock (loadsOf xs) e t (omega arith)))
+
+abbrev pub movedStation : Station → ℕ → Charges → Station
+movedStation s target left =
+    record {
+      limit = s .limit;
+      percent = s .percent;
+      bound = s .bound;
+      clock = target;
+      next = s .next;
+      charges = left;
+    }
+
+module _ (s : Station) (target : ℕ) (left : Charges) (h : Holds (unfinishedCharges target (chargesOf (s .charges))) left) where
+  pub valid-moved : Valid s → target ≤ 1000000 → s .clock ≤ target → Valid (movedStation s target left)
+  valid-moved v a b =
+      record {
+        limit-some = v .limit-some;
+        limit-most = v .limit-most;
+        percent-most = v .percent-most;
+        bound-is = v .bound-is;
+        bound-some = v .bound-some;
+        clock-most = a;
+        next-some = v .next-some;
+        next-most = v .next-most;
+        held = list-held left h (held-unfinished target b (held-list (s .charges) (v .held)));
+        plan-sound =
+            rw (h .charges) (sound-moved (limitsOf (view s)) (s .clock) target (chargesOf (s .charges)) b (v .plan-sound));
+      }
+
+  pub left-few : left .held ≤ s .charges .held
+  left-few =
+      omega (arith, holds-length h, keep-length (isUnfinished target) (chargesOf (s .charges)), length-tabulate (chargeAt (s .charges)) (s .charges .held) 0)
+
+  pub call-moved :
+      (k : ℕ) (list after : List ℕ) (p : Places)
+      → k ≡ firstOf (refusals (view s) (move target list))
+      → k ≡ 0
+      → Ordered (s .charges) (reported (s .clock) target (chargesOf (s .charges))) p
+      → after ≡ written (pairs (map (chargeAt (s .charges)) (placesOf p))) list
+      → giving (moved (p .count) (s .charges .held - left .held)) (movedStation s target left) after ≡ step (view s) (move target list)
+  unfolding moving
+  call-moved k list after p e z o w =
+      rw (w, o .charges, h .charges, reported-count, dropped-count)
+      (sym (call-granted s (move target list) k e z))
+    where
+      report : List Charge
+      report = reported (s .clock) target (chargesOf (s .charges))
+
+      reported-count : p .count ≡ length report
+      reported-count =
+          sym (length-tabulate (placeAt p) (p .count) 0)
+          ∙ sym (length-map (placesOf p) (chargeAt (s .charges)))
+          ∙ ap length (o .charges)
+
+      dropped-count :
+          s .charges .held - left .held ≡ length (chargesOf (s .charges)) - length (unfinishedCharges target (chargesOf (s .charges)))
+      dropped-count =
+          omega (arith, holds-length h, length-tabulate (chargeAt (s .charges)) (s .charges .held) 0)

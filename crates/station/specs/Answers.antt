@@ -1,0 +1,35 @@
+-- The answers of the calls: the number and the values that each case stands for.
+use Prim.Native.Nat.{ℕ}
+use mathlib.Core.Path.{_≡_}
+use mathlib.Core.List.{List}
+use Rattle.rules.specs.Calls.{Answer, refused, opened, moved, waiting, charging, Result}
+use Rattle.station.specs.declared.Station.{Station}
+use Rattle.station.specs.declared.OpenAnswer.{OpenAnswer}
+use Rattle.station.specs.declared.OpenAnswer.the-variants.{Opened, Refused as OpenRefused}
+use Rattle.station.specs.declared.MoveAnswer.{MoveAnswer}
+use Rattle.station.specs.declared.MoveAnswer.the-variants.{Moved, Refused as MoveRefused}
+use Rattle.station.specs.declared.Enquiry.{Enquiry}
+use Rattle.station.specs.declared.Enquiry.the-variants.{Waiting, Charging, Refused as EnquiryRefused}
+use Rattle.station.specs.View.{view, Valid}
+
+-- an answer, the station beside it and the lent list, as a result of the rules
+abbrev pub giving : Answer → Station → List ℕ → Result
+giving answer s list = record { answer = answer; state = view s; list = list }
+
+-- A call gives exactly this result, and a station that is valid again.
+pub record Gives (r : Result) (answer : Answer) (s : Station) (list : List ℕ) : Type 0 where
+  pub result : giving answer s list ≡ r
+  pub valid : Valid s
+
+abbrev pub openAnswer : OpenAnswer → Answer
+openAnswer (Opened bound) = opened bound
+openAnswer (OpenRefused number) = refused number
+
+abbrev pub moveAnswer : MoveAnswer → Answer
+moveAnswer (Moved reported dropped) = moved reported dropped
+moveAnswer (MoveRefused number) = refused number
+
+abbrev pub enquiryAnswer : Enquiry → Answer
+enquiryAnswer (Waiting start) = waiting start
+enquiryAnswer (Charging start end) = charging start end
+enquiryAnswer (EnquiryRefused number) = refused number
