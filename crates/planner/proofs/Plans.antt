@@ -2,7 +2,7 @@
 use mathlib.Core.Logic.{_⊎_, inl, inr}
 use mathlib.Core.Path.{_≡_, refl, sym, _∙_, ap}
 use Prim.Native.Nat.{ℕ, zero, suc, _+_, _-_, _*_, _^_, max, _≤_, _<_}
-use mathlib.Core.Bool.{Bool, true, false}
+use mathlib.Core.Bool.{Bool, true, false, cond}
 use mathlib.Core.List.{List, [], _∷_, _++_, append-nil, append-assoc}
 use native.Mathlib.Omega.{arith}
 use native.Mathlib.Numerals.{add-one}
@@ -13,9 +13,9 @@ use borrow.Author.Tests.{eqb-true, eqb-false}
 use Rattle.rules.specs.Basics.{Found, at, nothing, Each}
 use Rattle.rules.specs.Load.{Load, lastUntil, limits}
 use Rattle.rules.specs.Charge.{Charge, starting, loadsOf}
-use Rattle.rules.specs.Search.{added}
+use Rattle.rules.specs.Search.{added, earliest, Caps, earliestUnder}
 use Rattle.rules.specs.Replan.{all, stuck, placeAll, startIn}
-use Rattle.rules.proofs.Searches.{earliest-first}
+use Rattle.rules.proofs.Searches.{earliest-first, under-first}
 use Rattle.rules.proofs.Lists.{each-map, each-append}
 use Rattle.charges.specs.declared.Charges.{Charges}
 use Rattle.charges.specs.Arrays.{chargeAt, chargesOf}
@@ -26,7 +26,8 @@ use Rattle.charges.proofs.Storing.{zeros}
 use Rattle.profile.specs.declared.Profile.{Profile}
 use Rattle.profile.specs.declared.When.{When}
 use Rattle.profile.specs.declared.When.the-variants.{Minute, Never}
-use Rattle.profile.specs.Shows.{Shows, Added, CanAdd, CanStart, foundAt}
+use Rattle.profile.specs.Shows.{Shows, Added, CanAdd, CanStart, foundAt, Earliest}
+use Rattle.profile.specs.Caps.{CapsShown, EarliestUnder}
 use Rattle.profile.proofs.Adds.{can-add, last-added}
 use Rattle.profile.proofs.Starts.{can-start}
 use Rattle.planner.specs.Starts.{Stored}
@@ -188,16 +189,30 @@ module _ {find : List Charge → Charge → Found} {clock limit bound : ℕ} {c 
 
 -- With the search that a rule asks for
 
-pub search-high :
-    (rule : Rule) (clock : ℕ) (loads : List Load) (line time s : ℕ)
-    → searchIn rule clock loads line time ≡ at s
-    → s ≤ max clock (lastUntil loads)
-search-high rule clock loads line time s e =
-    omega (arith, earliest-first (limits (rule .limit) (rule .bound)) clock loads line time s e .high)
+module _ {p : Profile} {rule : Rule} {line time : ℕ} where
+  pub starts-under : {s : ℕ} → rule .capped ≡ true → EarliestUnder p (rule .caps) line time s → Starts p rule line time (Minute s)
+  starts-under e h = record { finds = λ clock loads cap s shown. rw e (h clock loads cap s shown) }
 
-module _ (rule : Rule) {clock limit bound : ℕ} {c : Charges} {q : Places} {k : ℕ} {p : Profile} {starts : List ℕ}
-    (r : Ready clock limit bound c) (u : Queue clock c q)
-    (v : PlacedSoFar (searchOf rule clock (begunOf clock c)) clock c q k p starts) (low : k < q .count) where
+  pub starts-sound :
+      {w : When} → rule .capped ≡ false → Earliest p (rule .limit) (rule .bound) line time w → Starts p rule line time w
+  starts-sound e h = record { finds = λ clock loads cap s shown. rw e (h clock loads s) }
+
+search-high :
+    (rule : Rule) (cap : Caps) (clock : ℕ) (loads : List Load) (line time s : ℕ)
+    → searchIn rule cap clock loads line time ≡ at s
+    → s ≤ max clock (lastUntil loads)
+search-high rule cap clock loads line time s e = go (rule .capped) e
+  where
+    go :
+        (b : Bool)
+        → cond b (earliestUnder cap clock loads line time) (earliest (limits (rule .limit) (rule .bound)) clock loads line time) ≡ at s
+        → s ≤ max clock (lastUntil loads)
+    go true f = omega (arith, under-first cap clock loads line time s f .high)
+    go false f = omega (arith, earliest-first (limits (rule .limit) (rule .bound)) clock loads line time s f .high)
+
+module _ (rule : Rule) (cap : Caps) (shown : CapsShown (rule .caps) cap) {clock limit bound : ℕ} {c : Charges} {q : Places} {k : ℕ}
+    {p : Profile} {starts : List ℕ} (r : Ready clock limit bound c) (u : Queue clock c q)
+    (v : PlacedSoFar (searchOf rule cap clock (begunOf clock c)) clock c q k p starts) (low : k < q .count) where
   pub next-can-start : CanStart p (chargeIn c q k .time)
   next-can-start =
       can-start (v .plan .shows) (chargeIn c q k .time)
@@ -205,15 +220,17 @@ module _ (rule : Rule) {clock limit bound : ℕ} {c : Charges} {q : Places} {k :
       (omega (arith, v .plan .ends, u .room, r .listed .small (placeAt q k) (next-inside r u v low) .time-most))
 
   module _ {w : When} (f : Starts p rule (chargeIn c q k .line) (chargeIn c q k .time) w) where
-    found : searchOf rule clock (begunOf clock c) (v .placed) (chargeIn c q k) ≡ foundAt w
-    found = f .finds clock (loadsOf (begunOf clock c ++ v .placed)) (v .plan .shows)
+    found : searchOf rule cap clock (begunOf clock c) (v .placed) (chargeIn c q k) ≡ foundAt w
+    found = f .finds clock (loadsOf (begunOf clock c ++ v .placed)) cap (v .plan .shows) shown
 
-    pub next-stuck : w ≡ Never → placeAll (searchOf rule clock (begunOf clock c)) [] (queueFrom c q 0) ≡ stuck
+    pub next-stuck : w ≡ Never → placeAll (searchOf rule cap clock (begunOf clock c)) [] (queueFrom c q 0) ≡ stuck
     next-stuck e = placed-stuck r u v low (found ∙ ap foundAt e)
 
     module _ {s : ℕ} (e : w ≡ Minute s) where
       high : s ≤ max clock (lastUntil (loadsOf (begunOf clock c ++ v .placed)))
-      high = search-high rule clock (loadsOf (begunOf clock c ++ v .placed)) (chargeIn c q k .line) (chargeIn c q k .time) s (found ∙ ap foundAt e)
+      high =
+          search-high rule cap clock (loadsOf (begunOf clock c ++ v .placed)) (chargeIn c q k .line) (chargeIn c q k .time) s
+          (found ∙ ap foundAt e)
 
       pub next-can-add : CanAdd p (chargeIn c q k .time) s
       next-can-add = placed-can-add r u v low s (found ∙ ap foundAt e) high
@@ -221,5 +238,5 @@ module _ (rule : Rule) {clock limit bound : ℕ} {c : Charges} {q : Places} {k :
       pub next-placed :
           {p′ : Profile}
           → Added p p′ (chargeIn c q k .line) (chargeIn c q k .time) s
-          → PlacedSoFar (searchOf rule clock (begunOf clock c)) clock c q (k + 1) p′ (set starts (placeAt q k) s)
+          → PlacedSoFar (searchOf rule cap clock (begunOf clock c)) clock c q (k + 1) p′ (set starts (placeAt q k) s)
       next-placed {p′} a = placed-on r u v low s (found ∙ ap foundAt e) high p′ a

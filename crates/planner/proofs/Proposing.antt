@@ -19,11 +19,13 @@ use Rattle.charges.specs.declared.Places.{Places}
 use Rattle.charges.specs.Places.{Ordered}
 use Rattle.charges.proofs.Storing.{zeros}
 use Rattle.profile.specs.declared.Profile.{Profile}
+use Rattle.profile.specs.declared.caps.LineCaps.{LineCaps}
+use Rattle.profile.specs.Caps.{CapsShown}
 use Rattle.planner.specs.Starts.{waitingCount, WaitingStarts}
 use Rattle.planner.specs.declared.Proposed.{Proposed}
 use Rattle.planner.specs.Answers.{Proposes}
 use Rattle.planner.specs.Ready.{begunOf, queueFrom}
-use Rattle.planner.specs.Placed.{PlanShown, AllPlaced, PlacedIf, searchOf, PlacedBy}
+use Rattle.planner.specs.Placed.{PlanShown, AllPlaced, PlacedIf, soundRule, cappedRule, searchOf, PlacedBy}
 use Rattle.planner.specs.declared.Rule.{Rule}
 use Rattle.planner.specs.declared.Placement.{Placement}
 use Rattle.planner.proofs.Placing.{placed-active}
@@ -49,52 +51,55 @@ module _ {clock : ℕ} {c : Charges} {p : Proposal} where
 
 -- Every charge placed, or one without a start
 
-module _ {rule : Rule} {clock : ℕ} {c : Charges} {q : Places} {r : Placement} (h : PlacedBy rule clock c q r) where
+module _ {rule : Rule} {clock : ℕ} {c : Charges} {q : Places} {r : Placement} (h : PlacedBy rule clock c q r)
+    (cap : Caps) (shown : CapsShown (rule .caps) cap) where
   pub all-placed :
       r .complete ≡ true
-      → AllPlaced (searchOf rule clock (begunOf clock c)) clock c (queueFrom c q 0) (q .count) (r .profile) (r .starts)
-  all-placed e = go (r .complete) e (h .result)
+      → AllPlaced (searchOf rule cap clock (begunOf clock c)) clock c (queueFrom c q 0) (q .count) (r .profile) (r .starts)
+  all-placed e = go (r .complete) e (h .result cap shown)
     where
       go :
           (b : Bool)
           → b ≡ true
-          → PlacedIf b (searchOf rule clock (begunOf clock c)) clock c (queueFrom c q 0) (q .count) (r .profile) (r .starts)
-          → AllPlaced (searchOf rule clock (begunOf clock c)) clock c (queueFrom c q 0) (q .count) (r .profile) (r .starts)
+          → PlacedIf b (searchOf rule cap clock (begunOf clock c)) clock c (queueFrom c q 0) (q .count) (r .profile) (r .starts)
+          → AllPlaced (searchOf rule cap clock (begunOf clock c)) clock c (queueFrom c q 0) (q .count) (r .profile) (r .starts)
       go true p x = x
       go false p x = absurd (false≢true p)
 
-  pub none-placed : r .complete ≡ false → placeAll (searchOf rule clock (begunOf clock c)) [] (queueFrom c q 0) ≡ stuck
-  none-placed e = go (r .complete) e (h .result)
+  pub none-placed : r .complete ≡ false → placeAll (searchOf rule cap clock (begunOf clock c)) [] (queueFrom c q 0) ≡ stuck
+  none-placed e = go (r .complete) e (h .result cap shown)
     where
       go :
           (b : Bool)
           → b ≡ false
-          → PlacedIf b (searchOf rule clock (begunOf clock c)) clock c (queueFrom c q 0) (q .count) (r .profile) (r .starts)
-          → placeAll (searchOf rule clock (begunOf clock c)) [] (queueFrom c q 0) ≡ stuck
+          → PlacedIf b (searchOf rule cap clock (begunOf clock c)) clock c (queueFrom c q 0) (q .count) (r .profile) (r .starts)
+          → placeAll (searchOf rule cap clock (begunOf clock c)) [] (queueFrom c q 0) ≡ stuck
       go true p x = absurd (true≢false p)
       go false p x = x
 
 -- Replan by latest start
 
-module _ {rule : Rule} {clock : ℕ} {c : Charges} {q : Places} {r : Placement}
-    (order : Ordered c (byLatestStart (waitingCharges clock (chargesOf c))) q) (h : PlacedBy rule clock c q r) where
+module _ {limit bound : ℕ} {caps : LineCaps} {clock : ℕ} {c : Charges} {q : Places} {r : Placement}
+    (order : Ordered c (byLatestStart (waitingCharges clock (chargesOf c))) q)
+    (h : PlacedBy (soundRule limit bound caps) clock c q r)
+    {cap : Caps} (shown : CapsShown caps cap) where
   pub latest-none :
       {a : Proposed}
       → r .complete ≡ false
       → a .cause ≡ 1
       → Filled 0 (a .starts)
-      → Proposes clock c (latest (limits (rule .limit) (rule .bound)) clock (chargesOf c)) a
+      → Proposes clock c (latest (limits limit bound) clock (chargesOf c)) a
   unfolding latest
-  latest-none e = proposes-none 0 (rw (← (queue-whole order), none-placed h e))
+  latest-none e = proposes-none 0 (rw (← (queue-whole order), none-placed h cap shown e))
 
   pub latest-starts :
       {listed : List ℕ}
       → r .complete ≡ true
       → WaitingStarts clock c (r .starts) listed
-      → Proposes clock c (latest (limits (rule .limit) (rule .bound)) clock (chargesOf c)) (record { cause = 0; starts = listed })
+      → Proposes clock c (latest (limits limit bound) clock (chargesOf c)) (record { cause = 0; starts = listed })
   unfolding latest
   latest-starts {listed} e w =
-      let a = all-placed h e in
+      let a = all-placed h cap shown e in
       proposes-starts (rw (← (queue-whole order), a .gives, w .gives (a .placed) (a .plan .stored))) (w .filled)
 
 -- One round

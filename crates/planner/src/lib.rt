@@ -3,18 +3,20 @@ use charges::Charges;
 use charges::Places;
 use profile::Profile;
 use profile::When;
+use profile::caps::LineCaps;
 ghost use mathlib.Core.Path.{_≡_};
 ghost use Rattle.rules.specs.Charge.{begunCharges, loadsOf};
-ghost use Rattle.rules.specs.Load.{limits};
+ghost use Rattle.rules.specs.Load.{IsLine, limits};
 ghost use Rattle.rules.specs.Replan.{latest as latestOf};
 ghost use Rattle.charges.specs.Arrays.{Columns, Filled, chargesOf};
 ghost use Rattle.charges.specs.Held.{Listed};
 ghost use Prim.Native.Nat.{_≤_};
 ghost use Rattle.profile.specs.Shows.{Shows, CanStart};
+ghost use Rattle.profile.specs.Caps.{capsOf, CanCap};
 ghost use Rattle.planner.specs.Starts.{WaitingStarts};
 ghost use Rattle.planner.specs.Ready.{begunOf, Ready, Queue};
 ghost use Rattle.planner.specs.Answers.{Proposes};
-ghost use Rattle.planner.specs.Placed.{Starts, PlacedBy};
+ghost use Rattle.planner.specs.Placed.{Capped, Starts, PlacedBy};
 
 // Cause 0 with a start for each waiting charge, in ticket order, or the cause for having none.
 pub struct Proposed {
@@ -32,10 +34,12 @@ impl Proposed {
     }
 }
 
-// How a start is looked for.
+// How a start is looked for: with the line's count at or below its cap, or so that the plan is sound.
 pub struct Rule {
+    pub capped: bool,
     pub limit: u32,
     pub bound: u32,
+    pub caps: LineCaps,
 }
 
 // The waiting charges placed one after another: whether each has a start, the profile, and the start of each at its place.
@@ -96,15 +100,19 @@ fn begun_profile(charges: Charges, clock: u32) -> Profile
 
 // The smallest start that the rule allows.
 fn smallest_start(profile: Profile, rule: Rule, line: u32, time: u32) -> When
-    requires { ⌜ CanStart profile time × (1 ≤ rule .limit) × (1 ≤ rule .bound) ⌝ }
+    requires { ⌜ CanStart profile time × (1 ≤ rule .limit) × (1 ≤ rule .bound) × IsLine line × CanCap (capsOf (rule .caps) line) ⌝ }
     ensures { λ r. ⌜ Starts profile rule line time r ⌝ }
 {
+    if rule.capped {
+        let caps = rule.caps;
+        return When::Minute(profile.earliest_under(caps, line, time));
+    }
     profile.earliest(rule.limit, rule.bound, line, time)
 }
 
 // Places the charges of the queue, each at the smallest start that the rule allows.
 fn place_all(charges: Charges, clock: u32, rule: Rule, queue: Places, begun: Profile) -> Placement
-    requires { ⌜ Ready clock (rule .limit) (rule .bound) charges × Queue clock charges queue × Shows begun clock (loadsOf (begunOf clock charges)) ⌝ }
+    requires { ⌜ Ready clock (rule .limit) (rule .bound) charges × Queue clock charges queue × Shows begun clock (loadsOf (begunOf clock charges)) × Capped (rule .caps) ⌝ }
     ensures { λ r. ⌜ PlacedBy rule clock charges queue r ⌝ }
 {
     let n = queue.count;
@@ -139,7 +147,13 @@ pub fn latest(charges: Charges, clock: u32, limit: u32, bound: u32) -> Proposed
 {
     let queue = charges.by_latest_start(clock);
     let begun = begun_profile(charges, clock);
-    let rule = Rule { limit, bound };
+    let caps = LineCaps::new(limit);
+    let rule = Rule {
+        capped: false,
+        limit,
+        bound,
+        caps,
+    };
     let placement = place_all(charges, clock, rule, queue, begun);
     if !placement.complete {
         return Proposed::none(1);
