@@ -5,3 +5,4 @@ pub mod Adds
 pub mod Rooms
 pub mod Starts
 pub mod Lowerings
+pub mod Balances

@@ -1,4 +1,5 @@
 // How many points draw on each line, minute by minute: the changes in rising order, and the searches over them.
+pub mod balance;
 pub mod caps;
 pub mod counts;
 pub mod loads;
@@ -12,8 +13,10 @@ ghost use mathlib.Core.Path.{_≡_};
 ghost use Prim.Native.Nat.{ℕ, _+_, _<_, _≤_};
 ghost use mathlib.Core.List.{[]};
 ghost use Rattle.rules.specs.Load.{IsLine};
+ghost use lib.ListN.{getD};
+ghost use Rattle.profile.specs.Balance.{Unbalanced, WithinLimit};
 ghost use Rattle.profile.specs.Caps.{capsOf, CanCap, EarliestUnder};
-ghost use Rattle.profile.specs.Shows.{Shows, CanAdd, Added, loadsIn, EndsFit, CanStart, Earliest};
+ghost use Rattle.profile.specs.Shows.{levelOf, Formed, Shows, CanAdd, Added, loadsIn, EndsFit, CanStart, Earliest};
 
 // The changes: step i begins in minute at[i] and has the counts one[i], two[i], three[i] from there on. The first step begins at the clock.
 pub struct Profile {
@@ -155,5 +158,32 @@ impl Profile {
             line,
             time,
         )
+    }
+
+    // The count of a line in a minute.
+    pub fn level(self, line: u32, t: u32) -> u32
+        requires { ⌜ Formed self × (getD (self .at) 0 0 ≤ t) ⌝ }
+        ensures { λ r. ⌜ r ≡ levelOf self line t ⌝ }
+    {
+        let n = self.steps;
+        balance::level(&self.at, &self.one, &self.two, &self.three, n, line, t)
+    }
+
+    // The first minute in which two counts differ by more than the bound.
+    pub fn first_unbalanced(self, bound: u32) -> When
+        requires { ⌜ Formed self ⌝ }
+        ensures { λ r. ⌜ Unbalanced self bound r ⌝ }
+    {
+        let n = self.steps;
+        balance::first_unbalanced(&self.at, &self.one, &self.two, &self.three, n, bound)
+    }
+
+    // Whether no count is above the limit.
+    pub fn within_limit(self, limit: u32) -> bool
+        requires { ⌜ Formed self ⌝ }
+        ensures { λ r. ⌜ WithinLimit self limit r ⌝ }
+    {
+        let n = self.steps;
+        balance::within_limit(&self.at, &self.one, &self.two, &self.three, n, limit)
     }
 }
