@@ -1,8 +1,9 @@
 pub mod Placing
-pub mod Playing
+pub mod Counting
 pub mod Collecting
 pub mod Causes
 pub mod Showing
 pub mod Queueing
 pub mod Plans
 pub mod Proposing
+pub mod Playing

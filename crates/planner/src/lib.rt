@@ -3,19 +3,22 @@ use charges::Charges;
 use charges::Places;
 use profile::Profile;
 use profile::When;
+use profile::balance::largest_line;
+use profile::balance::smallest_line;
 use profile::caps::LineCaps;
 ghost use mathlib.Core.Path.{_≡_};
-ghost use Rattle.rules.specs.Charge.{begunCharges, loadsOf};
+ghost use Rattle.rules.specs.Charge.{begunCharges, waitingCharges, loadsOf};
 ghost use Rattle.rules.specs.Load.{IsLine, limits};
-ghost use Rattle.rules.specs.Replan.{latest as latestOf};
+ghost use Rattle.rules.specs.Replan.{latest as latestOf, lineByLine};
 ghost use Rattle.charges.specs.Arrays.{Columns, Filled, chargesOf};
 ghost use Rattle.charges.specs.Held.{Listed};
+ghost use Rattle.charges.specs.Places.{Ordered};
 ghost use Prim.Native.Nat.{_≤_};
 ghost use Rattle.profile.specs.Shows.{Shows, CanStart};
 ghost use Rattle.profile.specs.Caps.{capsOf, CanCap};
 ghost use Rattle.planner.specs.Starts.{WaitingStarts};
 ghost use Rattle.planner.specs.Ready.{begunOf, Ready, Queue};
-ghost use Rattle.planner.specs.Answers.{Proposes};
+ghost use Rattle.planner.specs.Answers.{Plays, Proposes};
 ghost use Rattle.planner.specs.Placed.{Capped, Starts, PlacedBy};
 
 // Cause 0 with a start for each waiting charge, in ticket order, or the cause for having none.
@@ -49,12 +52,13 @@ pub struct Placement {
     pub starts: [u32; 180],
 }
 
-// What came of a round: it ends the replan, or the line's cap has to be lowered from the minute on.
+// What comes of a round: it ends the replan, or the line's cap has to be lowered from the minute on.
 pub enum Outcome {
     Ends,
     Lowers { line: u32, minute: u32, cap: u32 },
 }
 
+// With what is proposed if no round follows.
 pub struct Round {
     pub outcome: Outcome,
     pub proposed: Proposed,
@@ -161,4 +165,55 @@ pub fn latest(charges: Charges, clock: u32, limit: u32, bound: u32) -> Proposed
     let placed = placement.starts;
     let starts = waiting_starts(charges, clock, placed);
     Proposed { cause: 0, starts }
+}
+
+// One round: every waiting charge placed under the caps, and what the first unbalanced minute asks for.
+fn play(
+    charges: Charges,
+    clock: u32,
+    limit: u32,
+    bound: u32,
+    queue: Places,
+    begun: Profile,
+    caps: LineCaps,
+) -> Round
+    requires { ⌜ Ready clock limit bound charges × Ordered charges (lineByLine (waitingCharges clock (chargesOf charges))) queue × Shows begun clock (loadsOf (begunOf clock charges)) × Capped caps ⌝ }
+    ensures { λ r. ⌜ Plays limit bound clock charges caps r ⌝ }
+{
+    let rule = Rule {
+        capped: true,
+        limit,
+        bound,
+        caps,
+    };
+    let placement = place_all(charges, clock, rule, queue, begun);
+    let profile = placement.profile;
+    let unbalanced = profile.first_unbalanced(bound);
+    let When::Minute(minute) = unbalanced else {
+        let placed = placement.starts;
+        let starts = waiting_starts(charges, clock, placed);
+        let proposed = Proposed { cause: 0, starts };
+        return Round {
+            outcome: Outcome::Ends,
+            proposed,
+        };
+    };
+    let one = profile.level(1, minute);
+    let two = profile.level(2, minute);
+    let three = profile.level(3, minute);
+    let line = largest_line(one, two, three);
+    if profile.level(line, minute) == begun.level(line, minute) {
+        let proposed = Proposed::none(1);
+        return Round {
+            outcome: Outcome::Ends,
+            proposed,
+        };
+    }
+    let low = smallest_line(one, two, three);
+    let cap = profile.level(low, minute) + bound;
+    let proposed = Proposed::none(2);
+    Round {
+        outcome: Outcome::Lowers { line, minute, cap },
+        proposed,
+    }
 }
