@@ -9,7 +9,7 @@ use profile::caps::LineCaps;
 ghost use mathlib.Core.Path.{_≡_};
 ghost use Rattle.rules.specs.Charge.{begunCharges, waitingCharges, loadsOf};
 ghost use Rattle.rules.specs.Load.{IsLine, limits};
-ghost use Rattle.rules.specs.Replan.{latest as latestOf, lineByLine};
+ghost use Rattle.rules.specs.Replan.{byLines, latest as latestOf, lineByLine};
 ghost use Rattle.charges.specs.Arrays.{Columns, Filled, chargesOf};
 ghost use Rattle.charges.specs.Held.{Listed};
 ghost use Rattle.charges.specs.Places.{Ordered};
@@ -18,7 +18,7 @@ ghost use Rattle.profile.specs.Shows.{Shows, CanStart};
 ghost use Rattle.profile.specs.Caps.{capsOf, CanCap};
 ghost use Rattle.planner.specs.Starts.{WaitingStarts};
 ghost use Rattle.planner.specs.Ready.{begunOf, Ready, Queue};
-ghost use Rattle.planner.specs.Answers.{Plays, Proposes};
+ghost use Rattle.planner.specs.Answers.{Plays, Proposes, Replans};
 ghost use Rattle.planner.specs.Placed.{Capped, Starts, PlacedBy};
 
 // Cause 0 with a start for each waiting charge, in ticket order, or the cause for having none.
@@ -215,5 +215,29 @@ fn play(
     Round {
         outcome: Outcome::Lowers { line, minute, cap },
         proposed,
+    }
+}
+
+// Replan by lines. An allowance of 0 counts as 1.
+pub fn by_lines(charges: Charges, clock: u32, limit: u32, bound: u32, allowance: u32) -> Replanned
+    requires { ⌜ Ready clock limit bound charges ⌝ }
+    ensures { λ r. ⌜ Replans clock charges (byLines (limits limit bound) clock allowance (chargesOf charges)) r ⌝ }
+{
+    let queue = charges.line_by_line(clock);
+    let begun = begun_profile(charges, clock);
+    let mut caps = LineCaps::new(limit);
+    let mut rounds = 1;
+    loop {
+        let round = play(charges, clock, limit, bound, queue, begun, caps);
+        let proposed = round.proposed;
+        let outcome = round.outcome;
+        let Outcome::Lowers { line, minute, cap } = outcome else {
+            return Replanned { proposed, rounds };
+        };
+        if allowance <= rounds {
+            return Replanned { proposed, rounds };
+        }
+        caps = caps.lower(line, minute, cap);
+        rounds += 1;
     }
 }
