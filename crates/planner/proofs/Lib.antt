@@ -7,3 +7,4 @@ pub mod Queueing
 pub mod Plans
 pub mod Proposing
 pub mod Playing
+pub mod Judging

@@ -2,3 +2,4 @@ pub mod Starts
 pub mod Ready
 pub mod Placed
 pub mod Answers
+pub mod Judged

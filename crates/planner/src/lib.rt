@@ -1,6 +1,7 @@
 // Both replans and the test of a plan.
 use charges::Charges;
 use charges::Places;
+use charges::start_below;
 use profile::Profile;
 use profile::When;
 use profile::balance::largest_line;
@@ -10,21 +11,32 @@ ghost use mathlib.Core.Path.{_≡_};
 ghost use Rattle.rules.specs.Charge.{begunCharges, waitingCharges, loadsOf};
 ghost use Rattle.rules.specs.Load.{IsLine, limits};
 ghost use Rattle.rules.specs.Replan.{byLines, latest as latestOf, lineByLine};
-ghost use Rattle.charges.specs.Arrays.{Columns, Filled, chargesOf};
+ghost use lib.ListN.{length, take};
+ghost use Rattle.rules.specs.Judgement.{restarted};
+ghost use Rattle.charges.specs.Arrays.{Columns, Filled, Holds, chargesOf};
 ghost use Rattle.charges.specs.Held.{Listed};
 ghost use Rattle.charges.specs.Places.{Ordered};
 ghost use Prim.Native.Nat.{_≤_};
 ghost use Rattle.profile.specs.Shows.{Shows, CanStart};
 ghost use Rattle.profile.specs.Caps.{capsOf, CanCap};
-ghost use Rattle.planner.specs.Starts.{WaitingStarts};
+ghost use Rattle.planner.specs.Starts.{WaitingStarts, waitingCount};
 ghost use Rattle.planner.specs.Ready.{begunOf, Ready, Queue};
 ghost use Rattle.planner.specs.Answers.{Plays, Proposes, Replans};
+ghost use Rattle.planner.specs.Judged.{CauseOf, Judges};
 ghost use Rattle.planner.specs.Placed.{Capped, Starts, PlacedBy};
 
 // Cause 0 with a start for each waiting charge, in ticket order, or the cause for having none.
 pub struct Proposed {
     pub cause: u32,
     pub starts: [u32; 180],
+}
+
+// The test of a plan: the cause, the lateness before and after, and the charges that are held then.
+pub struct Judgement {
+    pub cause: u32,
+    pub before: u64,
+    pub after: u64,
+    pub charges: Charges,
 }
 
 impl Proposed {
@@ -239,5 +251,71 @@ pub fn by_lines(charges: Charges, clock: u32, limit: u32, bound: u32, allowance:
         }
         caps = caps.lower(line, minute, cap);
         rounds += 1;
+    }
+}
+
+// The cause for keeping the held charges against the next ones, which have the given starts.
+fn cause_of(
+    charges: Charges,
+    next: Charges,
+    clock: u32,
+    limit: u32,
+    bound: u32,
+    starts: &[u32],
+    count: usize,
+) -> u32
+    requires { ⌜ Listed charges × Holds (restarted clock (chargesOf charges) (take count (now starts))) next × (count ≤ length (now starts)) ⌝ }
+    ensures { λ r. ⌜ CauseOf limit bound clock charges (take count (now (starts .entry))) r ⌝ }
+{
+    if start_below(starts, count, clock) {
+        return 3;
+    }
+    if charges.last_end() < next.last_end() {
+        return 4;
+    }
+    let n = next.held;
+    let profile = Profile::of(&next.lines, &next.times, &next.starts, n, clock);
+    if !profile.within_limit(limit) {
+        return 5;
+    }
+    let unbalanced = profile.first_unbalanced(bound);
+    if let When::Minute(_) = unbalanced {
+        return 6;
+    }
+    if charges.lateness() <= next.lateness() {
+        return 7;
+    }
+    0
+}
+
+// The test that an offer and both replans end with: the waiting charges get the first `count` starts, or all stays.
+pub fn judged(
+    charges: Charges,
+    clock: u32,
+    limit: u32,
+    bound: u32,
+    starts: &[u32],
+    count: usize,
+) -> Judgement
+    requires { ⌜ Listed charges × (count ≤ length (now starts)) × (count ≡ waitingCount clock charges) ⌝ }
+    ensures { λ r. ⌜ Judges limit bound clock charges (take count (now (starts .entry))) r ⌝ }
+{
+    let next = charges.restarted(clock, starts, count);
+    let cause = cause_of(charges, next, clock, limit, bound, starts, count);
+    let before = charges.lateness();
+    if cause != 0 {
+        return Judgement {
+            cause,
+            before,
+            after: before,
+            charges,
+        };
+    }
+    let after = next.lateness();
+    Judgement {
+        cause,
+        before,
+        after,
+        charges: next,
     }
 }
