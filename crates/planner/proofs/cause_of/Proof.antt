@@ -32,8 +32,7 @@ returns-2 c = judges-four (c .before .before .before .before .before .before .pr
 
 of-requires : tie.Need-of-requires
 of-requires c κs =
-    let s = c .before .before .before .before .before .before .before .before .before .before in
-    (
+    let s = c .before .before .before .before .before .before .before .before .before .before in (
       s .pre .1 .columns .few,
       ends-fit (s .args .t2) (s .pre .0) (c .before .before .before .before .before .before .last-end .ensures) (c .before .before .before .before .before .last-end2 .ensures) (c .before .before .before .before .if2 .left),
     )
