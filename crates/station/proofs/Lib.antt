@@ -4,5 +4,6 @@ pub mod Opened
 pub mod Enquiring
 pub mod Ordered
 pub mod Planned
+pub mod Applying
 pub mod Moved
 pub mod Determined

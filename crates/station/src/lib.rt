@@ -1,4 +1,5 @@
 // A charging station by value, and its calls.
+pub mod calls;
 pub mod clock;
 pub mod enquiry;
 pub mod order;
