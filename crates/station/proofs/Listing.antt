@@ -1,19 +1,19 @@
 -- The arrays of a valid station hold numbers in range, in ticket order.
 use mathlib.Core.Logic.{_⊎_, inl, inr}
 use mathlib.Core.Path.{_≡_}
-use Prim.Native.Nat.{ℕ, zero, suc, _+_, _-_, _*_, _≤_, _<_}
+use Prim.Native.Nat.{ℕ, zero, suc, _+_, _≤_, _<_}
 use mathlib.Core.List.{List, [], _∷_}
 use native.Mathlib.Omega.{arith}
 use Rattle.rules.specs.Basics.{Each, tabulate}
 use Rattle.rules.specs.Charge.{Charge, endOf, lastEnd}
-use Rattle.rules.specs.Valid.{ValidCharge, Rising, ValidState}
+use Rattle.rules.specs.Valid.{ValidCharge, Rising}
 use Rattle.rules.proofs.Ranges.{below-or-not}
 use Rattle.rules.proofs.Lists.{each-map, tabulate-each}
 use Rattle.rules.proofs.Validity.{each-lastEnd}
 use Rattle.charges.specs.Arrays.{chargeAt, chargesOf}
 use Rattle.charges.specs.Held.{Small, Listed}
 use Rattle.station.specs.declared.Station.{Station}
-use Rattle.station.specs.View.{view, Valid}
+use Rattle.station.specs.View.{Valid}
 
 rising-from : (i : ℕ) (cs : List Charge) → Rising i cs → Each (λ c. i ≤ c .ticket) cs
 rising-from i [] r = tt

@@ -1,17 +1,15 @@
 -- A clock move: the result is that of the rules.
-use mathlib.Core.Path.{_≡_, refl, ap, sym, _∙_}
-use Prim.Native.Nat.{ℕ, _+_, _-_, _≤_}
-use mathlib.Core.Bool.{Bool, true, false, cond, not}
+use mathlib.Core.Path.{_≡_, ap, sym, _∙_}
+use Prim.Native.Nat.{ℕ, _-_, _≤_}
 use mathlib.Core.List.{List, [], _∷_, map}
 use native.Mathlib.Omega.{arith}
 use lib.Dec.{ltb}
 use lib.ListN.{length, length-map}
-use borrow.Author.Tests.{ltb-false, leb-true}
+use borrow.Author.Tests.{ltb-false}
 use Rattle.rules.specs.Basics.{firstOf}
-use Rattle.rules.specs.Load.{Limits, count, counts, sound}
-use Rattle.rules.specs.Charge.{Charge, loadOf, loadsOf, isFinished, unfinishedCharges}
-use Rattle.rules.specs.Calls.{moved, refusals, reported, pairs, written, moving, move, step, limitsOf}
-use Rattle.rules.proofs.Counts.{draws-after, sound-same, sound-from, sound-true}
+use Rattle.rules.specs.Load.{count}
+use Rattle.rules.specs.Charge.{Charge, unfinishedCharges}
+use Rattle.rules.specs.Calls.{moved, refusals, reported, pairs, written, moving, move, step}
 use Rattle.rules.proofs.Lists.{length-tabulate}
 use Rattle.charges.specs.declared.Charges.{Charges}
 use Rattle.charges.specs.declared.Places.{Places}
@@ -19,9 +17,8 @@ use Rattle.charges.specs.Arrays.{chargeAt, chargesOf, Holds}
 use Rattle.charges.specs.Places.{placeAt, placesOf, Ordered}
 use Rattle.charges.proofs.Storing.{holds-length}
 use Rattle.charges.proofs.Walking.{keep-length, isUnfinished}
-use Rattle.charges.proofs.Holding.{held-list, list-held, held-unfinished}
 use Rattle.station.specs.declared.Station.{Station}
-use Rattle.station.specs.View.{view, Valid}
+use Rattle.station.specs.View.{view}
 use Rattle.station.specs.Answers.{giving}
 use Rattle.station.proofs.Refusing.{none-refuses, call-granted}
 

@@ -1,5 +1,5 @@
 -- The fresh station is valid, and what an opening that is not refused has been given.
-use mathlib.Core.Path.{_≡_, refl, ap, sym, _∙_}
+use mathlib.Core.Path.{_≡_, ap, sym, _∙_}
 use Prim.Native.Nat.{ℕ, _*_, _/_, _≤_, _<_}
 use mathlib.Core.Bool.{_||_}
 use mathlib.Core.List.{[], _∷_}
@@ -8,14 +8,12 @@ use native.Mathlib.Nat.{mul-le-mul}
 use lib.Dec.{ltb}
 use borrow.Author.Tests.{ltb-false}
 use Rattle.rules.specs.Basics.{firstOf}
-use Rattle.rules.specs.Load.{sound}
 use Rattle.rules.specs.Calls.{State, refused, opened, boundOf, fresh, openRefusals, opening}
 use Rattle.rules.proofs.Ranges.{or-left, or-right}
 use Rattle.charges.specs.declared.Charges.{Charges}
 use Rattle.charges.specs.Arrays.{Holds}
-use Rattle.charges.proofs.Holding.{list-held, held-none}
 use Rattle.station.specs.declared.Station.{Station}
-use Rattle.station.specs.View.{view, Valid}
+use Rattle.station.specs.View.{view}
 use Rattle.station.specs.Answers.{giving}
 use Rattle.station.proofs.Refusing.{answering-refused, answering-granted, none-refuses}
 

@@ -1,18 +1,17 @@
 -- An order: what is known of one that is not refused, and that its result is that of the rules.
-use mathlib.Core.Path.{_≡_, refl, ap, sym, _∙_}
-use Prim.Native.Nat.{ℕ, suc, _+_, _-_, _*_, _^_, max, _≤_, _<_}
-use mathlib.Core.Bool.{_||_}
+use mathlib.Core.Path.{_≡_, ap, sym, _∙_}
+use Prim.Native.Nat.{ℕ, _+_, _≤_, _<_}
 use mathlib.Core.List.{List, [], _∷_, _++_}
 use native.Mathlib.Omega.{arith}
 use native.Mathlib.Numerals.{add-one}
 use lib.Dec.{ltb}
-use lib.ListN.{length, length-map}
+use lib.ListN.{length}
 use borrow.Author.Tests.{ltb-false, leb-false}
 use Rattle.rules.specs.Basics.{at, nothing, firstOf}
 use Rattle.rules.specs.Load.{Load, lastUntil, limits}
-use Rattle.rules.specs.Charge.{Charge, loadOf, loadsOf, lastEnd}
+use Rattle.rules.specs.Charge.{loadOf, loadsOf}
 use Rattle.rules.specs.Search.{earliest}
-use Rattle.rules.specs.Calls.{refused, ordered, Result, limitsOf, refusals, newCharge, orderedAt, ordering, order, step}
+use Rattle.rules.specs.Calls.{refused, ordered, limitsOf, refusals, newCharge, orderedAt, ordering, order, step}
 use Rattle.rules.proofs.Ranges.{or-right}
 use Rattle.rules.proofs.Lists.{length-tabulate, map-tabulate}
 use Rattle.rules.proofs.Tables.{NoneHolds, firstOf-none}
