@@ -1,0 +1,5 @@
+pub mod Values
+pub mod Splitting
+pub mod Reading
+pub mod Printing
+pub mod Blocks
