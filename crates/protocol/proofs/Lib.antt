@@ -3,3 +3,4 @@ pub mod Splitting
 pub mod Reading
 pub mod Printing
 pub mod Blocks
+pub mod Lending

@@ -64,11 +64,15 @@ module _ (n i to : ℕ) (line : List ℕ) (h : i < to) (k : to ≤ length line) 
       let q : 48 ≤ getD line i 0 = omega arith in
       rw (slice-cons i to line 0 h k, le-leb 48 (getD line i 0) q, lt-leb (getD line i 0) 57 p)
 
-pub no-digit-left :
-    (n i to : ℕ) (line : List ℕ) → i ≤ to → to ≤ i
-    → valueFrom n (slice i to line) ≡ cond (ltb n 4294967296) (Value n) (Wrong NumberTooLarge)
-unfolding valueFrom
-no-digit-left n i to line h k = rw (le-antisymm h k, slice-empty to line)
+-- no digit is left
+module _ (n i to : ℕ) (line : List ℕ) (h : i ≤ to) (k : to ≤ i) where
+  pub value-left : n ≤ 4294967295 → valueFrom n (slice i to line) ≡ Value n
+  unfolding valueFrom
+  value-left l = rw (le-antisymm h k, slice-empty to line, lt-ltb n 4294967296 (omega arith))
+
+  pub too-large-left : 4294967295 < n → valueFrom n (slice i to line) ≡ Wrong NumberTooLarge
+  unfolding valueFrom
+  too-large-left l = rw (le-antisymm h k, slice-empty to line, le-ltb n 4294967296 (omega arith))
 
 -- The digits of a number
 

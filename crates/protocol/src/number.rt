@@ -57,9 +57,9 @@ pub fn read_number(line: &[u8], from: usize, to: usize) -> Number
         value = with_digit(value, digit as u64);
         i += 1;
     }
-    if value < 4294967296 {
-        Number::Value(value as u32)
-    } else {
-        Number::Wrong(Reason::NumberTooLarge)
+    if value > 4294967295 {
+        return Number::Wrong(Reason::NumberTooLarge);
     }
+    let small = value as u32;
+    Number::Value(small)
 }

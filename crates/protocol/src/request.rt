@@ -1,7 +1,8 @@
 // What a line asks for.
 ghost use mathlib.Core.Path.{_≡_};
 ghost use Prim.Native.Nat.{_≤_, min};
-ghost use lib.ListN.{length};
+ghost use mathlib.Core.List.{_++_};
+ghost use lib.ListN.{length, drop, replicate};
 ghost use Rattle.protocol.specs.Words.{partsAfter};
 ghost use Rattle.protocol.specs.Lines.{
   known,
@@ -187,4 +188,16 @@ pub fn places_lent(places: u32) -> usize
     ensures { λ r. ⌜ (r ≡ min places 4096) × (r ≤ 4096) ⌝ }
 {
     if places < 4096 { places as usize } else { 4096 }
+}
+
+// Fills that many places of a list that is lent to a move.
+pub fn fill_lent(list: &mut [u32], places: usize)
+    requires { ⌜ places ≤ length (now list) ⌝ }
+    ensures { λ _. ⌜ now (list .exit) ≡ replicate places 4294967295 ++ drop places (now (list .entry)) ⌝ }
+{
+    let mut i = 0;
+    while i < places {
+        list[i] = 4294967295;
+        i += 1;
+    }
 }

@@ -2,11 +2,10 @@
 use mathlib.Core.Path.{_≡_, sym, _∙_}
 use Prim.Native.Nat.{_+_, _-_, _≤_}
 use native.Mathlib.Omega.{arith}
-use borrow.Author.Tests.{lt-ltb, le-ltb}
 use lib.ListN.{getD}
 use lib.Seq.{slice}
 use Rattle.protocol.specs.Numbers.{numberOf, valueFrom}
-use Rattle.protocol.proofs.Values.{no-word, some-word, a-digit, below-digits, above-digits, digit-kept, no-digit-left}
+use Rattle.protocol.proofs.Values.{no-word, some-word, a-digit, below-digits, above-digits, digit-kept, value-left, too-large-left}
 use Rattle.protocol.proofs.number.read_number.Statement.{statement}
 use Rattle.protocol.proofs.number.read_number.Tie as tie
 
@@ -62,20 +61,20 @@ loop-again c =
           ∙ rw (c .with-digit .ensures) (digit-kept (l .loop .value) (d - 48) (slice (l .loop .i + 1) (a .to) (a .line .now))),
     )
 
-cast-t17 : tie.Need-cast-t17 Inv-loop μ-loop
-cast-t17 c = omega arith
-
 returns-4 : tie.Need-returns-4 Inv-loop μ-loop
 returns-4 c =
     let l = c .before .before in
     let a = l .before .before .before .args in
-    sym (l .loop .inv .1 ∙ no-digit-left (l .loop .value) (l .loop .i) (a .to) (a .line .now) (l .loop .inv .0) (c .before .loop-test .left) ∙ rw (lt-ltb (l .loop .value) 4294967296 (c .if4 .taken)))
+    sym (l .loop .inv .1 ∙ too-large-left (l .loop .value) (l .loop .i) (a .to) (a .line .now) (l .loop .inv .0) (c .before .loop-test .left) (c .if4 .taken))
+
+cast-small : tie.Need-cast-small Inv-loop μ-loop
+cast-small c = omega arith
 
 returns-5 : tie.Need-returns-5 Inv-loop μ-loop
 returns-5 c =
     let l = c .before .before in
     let a = l .before .before .before .args in
-    sym (l .loop .inv .1 ∙ no-digit-left (l .loop .value) (l .loop .i) (a .to) (a .line .now) (l .loop .inv .0) (c .before .loop-test .left) ∙ rw (le-ltb (l .loop .value) 4294967296 (c .if4 .left)))
+    sym (l .loop .inv .1 ∙ value-left (l .loop .value) (l .loop .i) (a .to) (a .line .now) (l .loop .inv .0) (c .before .loop-test .left) (c .if4 .left))
 
 pub read-number-spec : {M : Type 1} → statement M
 read-number-spec =
@@ -93,6 +92,6 @@ read-number-spec =
     add-i
     loop-less
     loop-again
-    cast-t17
     returns-4
+    cast-small
     returns-5)
