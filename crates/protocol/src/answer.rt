@@ -35,13 +35,19 @@ pub fn print_ordered(ticket: u32, start: u32, buffer: &mut [u8], at: usize) -> u
 }
 
 // The reported pairs stand at the front of the list that was lent to the move.
-pub fn print_moved(reported: u32, dropped: u32, list: &[u32], buffer: &mut [u8], at: usize) -> usize
+pub fn print_moved(
+    reported: usize,
+    dropped: usize,
+    list: &[u32],
+    buffer: &mut [u8],
+    at: usize,
+) -> usize
     requires { ⌜ (2 * reported ≤ length (now list)) × (at + (96 + 42 * reported) ≤ length (now buffer)) ⌝ }
     ensures { λ r. ⌜ Printed (answerLine (moved reported dropped) (now (list .entry))) (now (buffer .entry)) at (now (buffer .exit)) r ⌝ }
 {
     let a = print_field(b"moved ", reported as u64, buffer, at);
     let b = print_field(b" dropped ", dropped as u64, buffer, a);
-    let count = 2 * reported as usize;
+    let count = 2 * reported;
     let d = print_list(list, count, buffer, b);
     print_text(b"\n", buffer, d)
 }
