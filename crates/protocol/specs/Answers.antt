@@ -1,5 +1,5 @@
 -- The answer lines as bytes, and what it means that a text is printed into a buffer.
-use Prim.Native.Nat.{ℕ, _+_, _*_}
+use Prim.Native.Nat.{ℕ, _+_, _*_, _≤_}
 use mathlib.Core.Path.{_≡_}
 use mathlib.Core.List.{List, [], _∷_, _++_}
 use lib.ListN.{length, take}
@@ -9,10 +9,11 @@ use Rattle.protocol.specs.Numbers.{decimal}
 use Rattle.protocol.specs.declared.number.Reason.{Reason}
 use Rattle.protocol.specs.declared.number.Reason.the-variants.{UnknownCall, NotANumber, NumberTooLarge, MissingNumber, ExtraNumber, LineTooLong}
 
--- The text stands in the buffer from place `at` on, every other byte is kept, and `next` is the place after it.
+-- The text stands in the buffer from place `at` on, whole, every other byte is kept, and `next` is the place after it.
 pub record Printed (text before : List ℕ) (at : ℕ) (after : List ℕ) (next : ℕ) : Type 0 where
   pub bytes : after ≡ sets before at text
   pub place : next ≡ at + length text
+  pub within : next ≤ length before
 
 -- a text and a number after it
 abbrev pub field : List ℕ → ℕ → List ℕ

@@ -116,9 +116,10 @@ abbrev pub numbersRead : declared-numbers.Numbers → List ℕ → Numbers
 numbersRead (count.Count k) list = numbers (take k list)
 numbersRead (count.Wrong reason) list = wrong reason
 
-abbrev pub Enough : ℕ → declared-numbers.Numbers → Type 0
-Enough least (count.Count k) = least ≤ k
-Enough least (count.Wrong reason) = Unit {0}
+-- as many numbers were read as a call needs, and no more than it takes
+abbrev pub Enough : ℕ → ℕ → declared-numbers.Numbers → Type 0
+Enough least most (count.Count k) = (least ≤ k) × (k ≤ most)
+Enough least most (count.Wrong reason) = Unit {0}
 
 abbrev pub meaning : declared.Line → List ℕ → Request
 meaning line.Nothing list = nothing
@@ -141,3 +142,15 @@ lineOf Latest k list = line.Latest
 lineOf Lines k list = line.Lines (getD list 0 0)
 lineOf Enquire k list = line.Enquire (getD list 0 0)
 lineOf Unknown k list = line.Error UnknownCall
+
+-- an offer has at most 180 numbers
+abbrev pub OfferFits : declared.Line → Type 0
+OfferFits line.Nothing = Unit {0}
+OfferFits (line.Open limit percent) = Unit {0}
+OfferFits (line.Order on time due) = Unit {0}
+OfferFits (line.Move target places) = Unit {0}
+OfferFits (line.Offer k) = k ≤ 180
+OfferFits line.Latest = Unit {0}
+OfferFits (line.Lines allowance) = Unit {0}
+OfferFits (line.Enquire ticket) = Unit {0}
+OfferFits (line.Error reason) = Unit {0}

@@ -15,6 +15,7 @@ ghost use Rattle.protocol.specs.Lines.{
   readCall,
   readLine,
   meaning,
+  OfferFits,
 };
 use crate::number::Number;
 use crate::number::Reason;
@@ -93,7 +94,7 @@ fn allowed(name: CallName) -> usize
 fn read_numbers(line: &[u8], from: usize, least: usize, most: usize, numbers: &mut [u32]) -> Numbers
     requires { ⌜ (from ≤ length (now line)) × (most ≤ length (now numbers)) ⌝ }
     ensures { λ r. ⌜ numbersRead r (now (numbers .exit)) ≡ readNumbers least most (partsAfter 32 (now (line .entry)) from (length (now (line .entry)))) ⌝ }
-    ensures { λ r. ⌜ Enough least r ⌝ }
+    ensures { λ r. ⌜ Enough least most r ⌝ }
 {
     let mut at = from;
     let mut count: usize = 0;
@@ -153,6 +154,7 @@ fn call_of(name: CallName, count: usize, numbers: &[u32]) -> Line
 fn read_call(line: &[u8], end: usize, name: CallName, numbers: &mut [u32]) -> Line
     requires { ⌜ (end ≤ length (now line)) × (180 ≤ length (now numbers)) ⌝ }
     ensures { λ r. ⌜ meaning r (now (numbers .exit)) ≡ readCall name (partsAfter 32 (now (line .entry)) end (length (now (line .entry)))) ⌝ }
+    ensures { λ r. ⌜ OfferFits r ⌝ }
 {
     if !is_known(name) {
         return Line::Error(Reason::UnknownCall);
@@ -168,6 +170,7 @@ fn read_call(line: &[u8], end: usize, name: CallName, numbers: &mut [u32]) -> Li
 pub fn read_line(line: &[u8], numbers: &mut [u32]) -> Line
     requires { ⌜ 180 ≤ length (now numbers) ⌝ }
     ensures { λ r. ⌜ meaning r (now (numbers .exit)) ≡ readLine (now (line .entry)) ⌝ }
+    ensures { λ r. ⌜ OfferFits r ⌝ }
 {
     if line.len() > 4096 {
         return Line::Error(Reason::LineTooLong);

@@ -62,7 +62,9 @@ print-decimal-returns : (t : ℕ) → print-decimal-lts.Need-returns (
   print-decimal-below t,
   print-decimal.Post,
 ) (print-decimal-at t) print-decimal.Post
-print-decimal-returns t c = printed-digit (c .before .before .args .n) (c .before .before .args .buffer .now) (c .before .before .args .at) (c .if1 .taken)
+print-decimal-returns t c =
+    let a = c .before .before .args in
+    printed-digit (a .n) (a .buffer .now) (a .at) (c .if1 .taken) (omega (arith, ap length (decimal-small (a .n) (c .if1 .taken))))
 
 print-decimal-print-decimal-requires : (t : ℕ) → print-decimal-lts.Need-print-decimal-requires (
   print-decimal-below t,
@@ -115,7 +117,7 @@ print-decimal-returns-2 : (t : ℕ) → print-decimal-lts.Need-returns-2 (
 ) (print-decimal-at t) print-decimal.Post
 print-decimal-returns-2 t c =
     let s = c .before .before .before .before .before .before in
-    printed-digits (s .args .n) (s .args .buffer .now) (s .args .at) (c .before .before .print-decimal .last .1 .0) (c .before .before .print-decimal .result) (c .before .before .before .before .if1 .left) (s .fits .n .fits) (c .before .before .print-decimal .ensures)
+    printed-digits (s .args .n) (s .args .buffer .now) (s .args .at) (c .before .before .print-decimal .last .1 .0) (c .before .before .print-decimal .result) (c .before .before .before .before .if1 .left) (s .fits .n .fits) (last-within t c) (c .before .before .print-decimal .ensures)
 
 pub +print-decimal-spec : {M : Type 1} → statement M
 +print-decimal-spec = close μ-print-decimal λ t. print-decimal-lts.spec (

@@ -15,7 +15,7 @@ abbrev μ-loop : tie.MeasureT-loop
 μ-loop list count buffer₀ at next₀ i₀ t7 buffer next i = count - i
 
 loop-holds : tie.Need-loop-holds Inv-loop μ-loop
-loop-holds c = (omega arith, refl, omega arith, printed-none (c .before .before .args .buffer .now) (c .before .before .args .at))
+loop-holds c = (omega arith, refl, omega arith, printed-none (c .before .before .args .buffer .now) (c .before .before .args .at) (omega arith))
 
 slice-aggregate-print-field : tie.Need-slice-aggregate-print-field Inv-loop μ-loop
 slice-aggregate-print-field c = refl

@@ -15,7 +15,7 @@ abbrev μ-loop : tie.MeasureT-loop
 μ-loop text buffer₀ at i₀ buffer i = length text - i
 
 loop-holds : tie.Need-loop-holds Inv-loop μ-loop
-loop-holds c = (omega arith, refl, record { bytes = refl; place = refl })
+loop-holds c = (omega arith, refl, record { bytes = refl; place = refl; within = omega arith })
 
 shared-slice-read-buffer : tie.Need-shared-slice-read-buffer Inv-loop μ-loop
 shared-slice-read-buffer c = omega arith
@@ -38,7 +38,7 @@ loop-again c =
     let a = l .before .args in (
       omega arith,
       simp length-set (l .loop .inv .1),
-      printed-more (a .text .now) (a .buffer .now) (a .at) (l .loop .i) (l .loop .buffer) (c .before .loop-test .taken) (l .loop .inv .2),
+      printed-more (a .text .now) (a .buffer .now) (a .at) (l .loop .i) (l .loop .buffer) (c .before .loop-test .taken) (omega arith) (l .loop .inv .2),
     )
 
 add-result : tie.Need-add-result Inv-loop μ-loop

@@ -79,7 +79,7 @@ same-length-4 : tie.Need-same-length-4 Inv-loop μ-loop
 same-length-4 c = c .before .before .loop .inv .1
 
 returns-4 : tie.Need-returns-4 Inv-loop μ-loop
-returns-4 c = (sym (reads-all (c .before .before .loop .inv .0) (c .before .loop-test .left) (c .if2 .left)), c .if2 .left)
+returns-4 c = (sym (reads-all (c .before .before .loop .inv .0) (c .before .loop-test .left) (c .if2 .left)), (c .if2 .left, c .before .before .loop .inv .0 .few))
 
 pub read-numbers-spec : {M : Type 1} → statement M
 read-numbers-spec =
