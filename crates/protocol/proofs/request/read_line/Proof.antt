@@ -1,0 +1,57 @@
+-- `protocol::read_line` meets its contract: the tests in their order, and then the call.
+use mathlib.Core.Path.{sym, _∙_}
+use lib.Seq.{length-take-le}
+use Rattle.protocol.proofs.Reading.{line-too-long, line-empty, line-comment, line-call}
+use borrow.Author.Needs.{needs}
+use Rattle.protocol.proofs.request.read_line.Statement.{statement}
+use Rattle.protocol.proofs.request.read_line.Tie as tie
+
+returns : tie.Need-returns
+returns c = (sym (line-too-long _ (c .if1 .taken)), tt)
+
+returns-2 : tie.Need-returns-2
+returns-2 c = (sym (line-empty _ (c .if2 .taken)), tt)
+
+shared-slice-read-if3 : tie.Need-shared-slice-read-if3
+shared-slice-read-if3 c = search needs
+
+returns-3 : tie.Need-returns-3
+returns-3 c = (sym (line-comment _ (c .before .before .before .if1 .left) (c .before .before .if2 .left) (c .if3 .taken)), tt)
+
+part-end-requires : tie.Need-part-end-requires
+part-end-requires c κs = search needs
+
+slice-aggregate-call-named : tie.Need-slice-aggregate-call-named
+slice-aggregate-call-named c = sym (length-take-le _ _ (c .before .part-end .ensures .high))
+
+call-named-requires : tie.Need-call-named-requires
+call-named-requires c κs = search needs
+
+read-call-requires : tie.Need-read-call-requires
+read-call-requires c κs = search needs
+
+same-length : tie.Need-same-length
+same-length c = search needs
+
+returns-4 : tie.Need-returns-4
+returns-4 c =
+    let s = c .before .before .before .before .before .before .before .before .before .before .before .before .before in (
+      c .before .before .read-call .ensures .0
+          ∙ line-call (s .args .line .now) (c .before .before .before .before .before .before .part-end .result) (c .before .before .before .before .call-named .result) (c .before .before .before .before .before .before .before .before .before .before .if1 .left) (c .before .before .before .before .before .before .before .before .before .if2 .left) (c .before .before .before .before .before .before .before .if3 .left) (c .before .before .before .before .before .before .part-end .ensures) (c .before .before .before .before .call-named .ensures),
+      c .before .before .read-call .ensures .1,
+    )
+
+pub read-line-spec : {M : Type 1} → statement M
+read-line-spec =
+    tie.close
+    (tie.spec
+    returns
+    returns-2
+    shared-slice-read-if3
+    returns-3
+    part-end-requires
+    slice-aggregate-call-named
+    call-named-requires
+    read-call-requires
+    same-length
+    returns-4)

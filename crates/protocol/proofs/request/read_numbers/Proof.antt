@@ -1,0 +1,108 @@
+-- `protocol::read_numbers` meets its contract: the numbers in the list, and those that are left to read, are those of the line.
+use mathlib.Core.Path.{_≡_, refl, sym, _∙_}
+use Prim.Native.Nat.{_-_}
+use native.Mathlib.Omega.{arith}
+use borrow.Author.Needs.{needs}
+use lib.ListN.{length, length-set}
+use Rattle.protocol.proofs.Reading.{Reads, reads-none, reads-missing, reads-all, reads-wrong, reads-more, reads-extra}
+use Rattle.protocol.proofs.request.read_numbers.Statement.{statement}
+use Rattle.protocol.proofs.request.read_numbers.Tie as tie
+
+abbrev Inv-loop : tie.InvT-loop
+Inv-loop line from least most numbers₀ at₀ count₀ numbers at count = Reads line from least most numbers at count × (length numbers ≡ length numbers₀)
+
+abbrev μ-loop : tie.MeasureT-loop
+μ-loop line from least most numbers₀ at₀ count₀ numbers at count = length line - at
+
+loop-holds : tie.Need-loop-holds Inv-loop μ-loop
+loop-holds c =
+    let a = c .before .before .args in
+    (reads-none (a .line .now) (a .from) (a .least) (a .most) (a .numbers .now) (c .before .before .pre .0), refl)
+
+same-length : tie.Need-same-length Inv-loop μ-loop
+same-length c = c .before .before .loop .inv .1
+
+returns : tie.Need-returns Inv-loop μ-loop
+returns c = (sym (reads-extra (c .before .before .loop .inv .0) (c .before .loop-test .taken) (c .if1 .taken)), tt)
+
+add-start : tie.Need-add-start Inv-loop μ-loop
+add-start c = omega arith
+
+part-end-requires : tie.Need-part-end-requires Inv-loop μ-loop
+part-end-requires c κs = omega arith
+
+read-number-requires : tie.Need-read-number-requires Inv-loop μ-loop
+read-number-requires c κs = search needs
+
+enum-known-number : tie.Need-enum-known-number Inv-loop μ-loop
+enum-known-number c = search needs
+
+same-length-2 : tie.Need-same-length-2 Inv-loop μ-loop
+same-length-2 c = c .before .before .before .before .before .before .before .loop .inv .1
+
+returns-2 : tie.Need-returns-2 Inv-loop μ-loop
+returns-2 c =
+    let l = c .before .before .before .before .before .before .before in
+    let n = c .before .number .given in
+    (sym (reads-wrong (l .loop .inv .0) (c .before .before .before .before .before .before .loop-test .taken) (c .before .before .before .before .part-end .ensures) (n .0 .0) (omega arith) (sym (c .before .before .before .read-number .ensures) ∙ n .1)), tt)
+
+enum-known-number-2 : tie.Need-enum-known-number-2 Inv-loop μ-loop
+enum-known-number-2 c = search needs
+
+mul-numbers : tie.Need-mul-numbers Inv-loop μ-loop
+mul-numbers c = omega arith
+
+slice-write-numbers : tie.Need-slice-write-numbers Inv-loop μ-loop
+slice-write-numbers c = omega arith
+
+add-count : tie.Need-add-count Inv-loop μ-loop
+add-count c = omega arith
+
+loop-less : tie.Need-loop-less Inv-loop μ-loop
+loop-less c = omega arith
+
+loop-again : tie.Need-loop-again Inv-loop μ-loop
+loop-again c =
+    let l = c .before .before .before .before .before .before .before in
+    let n = c .before .number2 .given in (
+      reads-more (l .loop .inv .0) (c .before .before .before .before .before .before .loop-test .taken) (c .before .before .before .before .part-end .ensures) (n .0 .0) (omega arith) (omega arith) (sym (c .before .before .before .read-number .ensures) ∙ n .1),
+      simp length-set (l .loop .inv .1),
+    )
+
+same-length-3 : tie.Need-same-length-3 Inv-loop μ-loop
+same-length-3 c = c .before .before .loop .inv .1
+
+returns-3 : tie.Need-returns-3 Inv-loop μ-loop
+returns-3 c = (sym (reads-missing (c .before .before .loop .inv .0) (c .before .loop-test .left) (c .if2 .taken)), tt)
+
+same-length-4 : tie.Need-same-length-4 Inv-loop μ-loop
+same-length-4 c = c .before .before .loop .inv .1
+
+returns-4 : tie.Need-returns-4 Inv-loop μ-loop
+returns-4 c = (sym (reads-all (c .before .before .loop .inv .0) (c .before .loop-test .left) (c .if2 .left)), (c .if2 .left, c .before .before .loop .inv .0 .few))
+
+pub read-numbers-spec : {M : Type 1} → statement M
+read-numbers-spec =
+    tie.close
+    (tie.spec
+    Inv-loop
+    μ-loop
+    loop-holds
+    same-length
+    returns
+    add-start
+    part-end-requires
+    read-number-requires
+    enum-known-number
+    same-length-2
+    returns-2
+    enum-known-number-2
+    mul-numbers
+    slice-write-numbers
+    add-count
+    loop-less
+    loop-again
+    same-length-3
+    returns-3
+    same-length-4
+    returns-4)

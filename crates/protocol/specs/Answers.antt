@@ -1,0 +1,76 @@
+-- The answer lines as bytes, and what it means that a text is printed into a buffer.
+use Prim.Native.Nat.{ℕ, _+_, _*_, _≤_}
+use mathlib.Core.Path.{_≡_}
+use mathlib.Core.List.{List, [], _∷_, _++_}
+use lib.ListN.{length, take}
+use lib.Seq.{sets}
+use Rattle.rules.specs.Calls.{Answer, refused, opened, ordered, moved, planned, waiting, charging}
+use Rattle.protocol.specs.Numbers.{decimal}
+use Rattle.protocol.specs.declared.number.Reason.{Reason}
+use Rattle.protocol.specs.declared.number.Reason.the-variants.{UnknownCall, NotANumber, NumberTooLarge, MissingNumber, ExtraNumber, LineTooLong}
+
+-- The text stands in the buffer from place `at` on, whole, every other byte is kept, and `next` is the place after it.
+pub record Printed (text before : List ℕ) (at : ℕ) (after : List ℕ) (next : ℕ) : Type 0 where
+  pub bytes : after ≡ sets before at text
+  pub place : next ≡ at + length text
+  pub within : next ≤ length before
+
+-- a text and a number after it
+abbrev pub field : List ℕ → ℕ → List ℕ
+field text n = text ++ decimal n
+
+abbrev pub spaced : ℕ → List ℕ
+spaced n = field (32 ∷ []) n
+
+-- each number after a space
+abbrev pub listed : List ℕ → List ℕ
+listed [] = []
+listed (n ∷ ns) = spaced n ++ listed ns
+
+abbrev pub lineFeed : List ℕ
+lineFeed = 10 ∷ []
+
+-- an answer, with the list that was lent to the call: a move's pairs stand at its front
+unfoldable pub answerLine : Answer → List ℕ → List ℕ
+-- "refused "
+answerLine (refused k) list = field (114 ∷ 101 ∷ 102 ∷ 117 ∷ 115 ∷ 101 ∷ 100 ∷ 32 ∷ []) k ++ lineFeed
+-- "open 0 "
+answerLine (opened bound) list = field (111 ∷ 112 ∷ 101 ∷ 110 ∷ 32 ∷ 48 ∷ 32 ∷ []) bound ++ lineFeed
+-- "ticket ", " start "
+answerLine (ordered ticket start) list =
+    field (116 ∷ 105 ∷ 99 ∷ 107 ∷ 101 ∷ 116 ∷ 32 ∷ []) ticket
+    ++ (field (32 ∷ 115 ∷ 116 ∷ 97 ∷ 114 ∷ 116 ∷ 32 ∷ []) start ++ lineFeed)
+-- "moved ", " dropped "
+answerLine (moved reported dropped) list =
+    field (109 ∷ 111 ∷ 118 ∷ 101 ∷ 100 ∷ 32 ∷ []) reported
+    ++ (field (32 ∷ 100 ∷ 114 ∷ 111 ∷ 112 ∷ 112 ∷ 101 ∷ 100 ∷ 32 ∷ []) dropped
+    ++ (listed (take (2 * reported) list) ++ lineFeed))
+-- "plan "
+answerLine (planned cause before after rounds) list =
+    field (112 ∷ 108 ∷ 97 ∷ 110 ∷ 32 ∷ []) cause
+    ++ (spaced before ++ (spaced after ++ (spaced rounds ++ lineFeed)))
+-- "waiting "
+answerLine (waiting start) list = field (119 ∷ 97 ∷ 105 ∷ 116 ∷ 105 ∷ 110 ∷ 103 ∷ 32 ∷ []) start ++ lineFeed
+-- "charging "
+answerLine (charging start end) list =
+    field (99 ∷ 104 ∷ 97 ∷ 114 ∷ 103 ∷ 105 ∷ 110 ∷ 103 ∷ 32 ∷ []) start ++ (spaced end ++ lineFeed)
+
+abbrev pub reasonText : Reason → List ℕ
+-- "unknown call"
+reasonText UnknownCall = 117 ∷ 110 ∷ 107 ∷ 110 ∷ 111 ∷ 119 ∷ 110 ∷ 32 ∷ 99 ∷ 97 ∷ 108 ∷ 108 ∷ []
+-- "not a number"
+reasonText NotANumber = 110 ∷ 111 ∷ 116 ∷ 32 ∷ 97 ∷ 32 ∷ 110 ∷ 117 ∷ 109 ∷ 98 ∷ 101 ∷ 114 ∷ []
+-- "number too large"
+reasonText NumberTooLarge =
+    110 ∷ 117 ∷ 109 ∷ 98 ∷ 101 ∷ 114 ∷ 32 ∷ 116 ∷ 111 ∷ 111 ∷ 32 ∷ 108 ∷ 97 ∷ 114 ∷ 103 ∷ 101 ∷ []
+-- "missing number"
+reasonText MissingNumber =
+    109 ∷ 105 ∷ 115 ∷ 115 ∷ 105 ∷ 110 ∷ 103 ∷ 32 ∷ 110 ∷ 117 ∷ 109 ∷ 98 ∷ 101 ∷ 114 ∷ []
+-- "extra number"
+reasonText ExtraNumber = 101 ∷ 120 ∷ 116 ∷ 114 ∷ 97 ∷ 32 ∷ 110 ∷ 117 ∷ 109 ∷ 98 ∷ 101 ∷ 114 ∷ []
+-- "line too long"
+reasonText LineTooLong = 108 ∷ 105 ∷ 110 ∷ 101 ∷ 32 ∷ 116 ∷ 111 ∷ 111 ∷ 32 ∷ 108 ∷ 111 ∷ 110 ∷ 103 ∷ []
+
+-- "error ", and the reason
+abbrev pub errorLine : Reason → List ℕ
+errorLine reason = (101 ∷ 114 ∷ 114 ∷ 111 ∷ 114 ∷ 32 ∷ []) ++ (reasonText reason ++ lineFeed)

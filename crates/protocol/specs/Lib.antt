@@ -1,0 +1,4 @@
+pub mod Numbers
+pub mod Words
+pub mod Lines
+pub mod Answers

@@ -1,0 +1,156 @@
+-- What a line asks for.
+use Prim.Native.Nat.{ℕ, zero, suc, _-_, min, _≤_}
+use mathlib.Core.Bool.{Bool, true, false, cond}
+use mathlib.Core.List.{List, [], _∷_}
+use lib.Dec.{ltb, eqb}
+use lib.ListN.{length, getD, take, replicate}
+use Rattle.rules.specs.Calls.{Call, order, move, offer, replanLatest, replanLines, enquire}
+use Rattle.protocol.specs.Numbers.{numberOf}
+use Rattle.protocol.specs.Words.{split, named}
+use Rattle.protocol.specs.declared.number.Reason.{Reason}
+use Rattle.protocol.specs.declared.number.Reason.the-variants.{UnknownCall, MissingNumber, ExtraNumber, LineTooLong}
+use Rattle.protocol.specs.declared.number.Number.{Number}
+use Rattle.protocol.specs.declared.number.Number.the-variants.{Value, Wrong}
+use Rattle.protocol.specs.declared.word.CallName.{CallName}
+use Rattle.protocol.specs.declared.word.CallName.the-variants.{Open, Order, Move, Offer, Latest, Lines, Enquire, Unknown}
+use Rattle.protocol.specs.declared.request.Line as declared
+use Rattle.protocol.specs.declared.request.Line.the-variants as line
+use Rattle.protocol.specs.declared.request.Numbers as declared-numbers
+use Rattle.protocol.specs.declared.request.Numbers.the-variants as count
+
+-- What a line asks for: nothing, an opening, a call of the station that stands; or why it asks for none of these.
+pub data Request : Type 0 where
+  nothing : Request
+  opening : ℕ → ℕ → Request
+  call : Call → Request
+  error : Reason → Request
+
+-- The numbers that follow the first word.
+pub data Numbers : Type 0 where
+  numbers : List ℕ → Numbers
+  wrong : Reason → Numbers
+
+abbrev pub known : CallName → Bool
+known Open = true
+known Order = true
+known Move = true
+known Offer = true
+known Latest = true
+known Lines = true
+known Enquire = true
+known Unknown = false
+
+abbrev pub neededBy : CallName → ℕ
+neededBy Open = 2
+neededBy Order = 3
+neededBy Move = 2
+neededBy Offer = 0
+neededBy Latest = 0
+neededBy Lines = 1
+neededBy Enquire = 1
+neededBy Unknown = 0
+
+-- an offer takes up to 180 numbers, every other call as many as it needs
+abbrev pub allowedBy : CallName → ℕ
+allowedBy Open = 2
+allowedBy Order = 3
+allowedBy Move = 2
+allowedBy Offer = 180
+allowedBy Latest = 0
+allowedBy Lines = 1
+allowedBy Enquire = 1
+allowedBy Unknown = 0
+
+-- a number in front of those that follow it; the first word that is wrong decides
+abbrev pub followed : Number → Numbers → Numbers
+followed (Wrong reason) rest = wrong reason
+followed (Value n) (wrong reason) = wrong reason
+followed (Value n) (numbers ns) = numbers (n ∷ ns)
+
+-- at least `least` and at most `most` numbers, from the left
+unfoldable pub readNumbers : ℕ → ℕ → List (List ℕ) → Numbers
+readNumbers least most [] = cond (ltb 0 least) (wrong MissingNumber) (numbers [])
+readNumbers least zero (word ∷ words) = wrong ExtraNumber
+readNumbers least (suc most) (word ∷ words) = followed (numberOf word) (readNumbers (least - 1) most words)
+
+-- the list that is lent to a move: at most 4,096 places
+abbrev pub lentList : ℕ → List ℕ
+lentList places = replicate (min places 4096) 4294967295
+
+-- the call of a name with its numbers
+abbrev pub callOf : CallName → List ℕ → Request
+callOf Open ns = opening (getD ns 0 0) (getD ns 1 0)
+callOf Order ns = call (order (getD ns 0 0) (getD ns 1 0) (getD ns 2 0))
+callOf Move ns = call (move (getD ns 0 0) (lentList (getD ns 1 0)))
+callOf Offer ns = call (offer ns)
+callOf Latest ns = call replanLatest
+callOf Lines ns = call (replanLines (getD ns 0 0))
+callOf Enquire ns = call (enquire (getD ns 0 0))
+callOf Unknown ns = error UnknownCall
+
+abbrev pub called : CallName → Numbers → Request
+called name (numbers ns) = callOf name ns
+called name (wrong reason) = error reason
+
+unfoldable pub readCall : CallName → List (List ℕ) → Request
+readCall name words =
+    cond (known name) (called name (readNumbers (neededBy name) (allowedBy name) words)) (error UnknownCall)
+
+abbrev pub readWords : List (List ℕ) → Request
+readWords [] = nothing
+readWords (word ∷ words) = readCall (named word) words
+
+-- an empty line, or one that begins with `#`
+abbrev pub passedOver : List ℕ → Bool
+passedOver [] = true
+passedOver (b ∷ bs) = eqb b 35
+
+-- what a line asks for, its line feed left out
+unfoldable pub readLine : List ℕ → Request
+readLine bytes =
+    cond (ltb 4096 (length bytes)) (error LineTooLong)
+    (cond (passedOver bytes) nothing (readWords (split 32 bytes)))
+
+-- what the code's answers mean, with the list that was lent for the numbers
+abbrev pub numbersRead : declared-numbers.Numbers → List ℕ → Numbers
+numbersRead (count.Count k) list = numbers (take k list)
+numbersRead (count.Wrong reason) list = wrong reason
+
+-- as many numbers were read as a call needs, and no more than it takes
+abbrev pub Enough : ℕ → ℕ → declared-numbers.Numbers → Type 0
+Enough least most (count.Count k) = (least ≤ k) × (k ≤ most)
+Enough least most (count.Wrong reason) = Unit {0}
+
+abbrev pub meaning : declared.Line → List ℕ → Request
+meaning line.Nothing list = nothing
+meaning (line.Open limit percent) list = opening limit percent
+meaning (line.Order on time due) list = call (order on time due)
+meaning (line.Move target places) list = call (move target (lentList places))
+meaning (line.Offer k) list = call (offer (take k list))
+meaning line.Latest list = call replanLatest
+meaning (line.Lines allowance) list = call (replanLines allowance)
+meaning (line.Enquire ticket) list = call (enquire ticket)
+meaning (line.Error reason) list = error reason
+
+-- the code's call of a name, from the numbers at the front of the list
+abbrev pub lineOf : CallName → ℕ → List ℕ → declared.Line
+lineOf Open k list = line.Open (getD list 0 0) (getD list 1 0)
+lineOf Order k list = line.Order (getD list 0 0) (getD list 1 0) (getD list 2 0)
+lineOf Move k list = line.Move (getD list 0 0) (getD list 1 0)
+lineOf Offer k list = line.Offer k
+lineOf Latest k list = line.Latest
+lineOf Lines k list = line.Lines (getD list 0 0)
+lineOf Enquire k list = line.Enquire (getD list 0 0)
+lineOf Unknown k list = line.Error UnknownCall
+
+-- an offer has at most 180 numbers
+abbrev pub OfferFits : declared.Line → Type 0
+OfferFits line.Nothing = Unit {0}
+OfferFits (line.Open limit percent) = Unit {0}
+OfferFits (line.Order on time due) = Unit {0}
+OfferFits (line.Move target places) = Unit {0}
+OfferFits (line.Offer k) = k ≤ 180
+OfferFits line.Latest = Unit {0}
+OfferFits (line.Lines allowance) = Unit {0}
+OfferFits (line.Enquire ticket) = Unit {0}
+OfferFits (line.Error reason) = Unit {0}

@@ -1,0 +1,65 @@
+// A decimal number of 32 bits, read from a part of a line.
+ghost use mathlib.Core.Path.{_≡_};
+ghost use mathlib.Core.Bool.{cond};
+ghost use Prim.Native.Nat.{_+_, _*_, _≤_, _<_};
+ghost use lib.Dec.{ltb};
+ghost use lib.ListN.{length};
+ghost use lib.Seq.{slice};
+ghost use Rattle.protocol.specs.Numbers.{numberOf};
+
+// Why a line is no call.
+pub enum Reason {
+    UnknownCall,
+    NotANumber,
+    NumberTooLarge,
+    MissingNumber,
+    ExtraNumber,
+    LineTooLong,
+}
+
+// What a word that should be a number says.
+pub enum Number {
+    Value(u32),
+    Wrong(Reason),
+}
+
+// The value with one digit more. Past 32 bits it stays, since the number is too large whatever digits follow.
+fn with_digit(value: u64, digit: u64) -> u64
+    requires { ⌜ digit < 10 ⌝ }
+    ensures { λ r. ⌜ r ≡ cond (ltb value 4294967296) (10 * value + digit) value ⌝ }
+{
+    if value < 4294967296 {
+        10 * value + digit
+    } else {
+        value
+    }
+}
+
+// The number that stands from place `from` up to, not including, place `to`.
+pub fn read_number(line: &[u8], from: usize, to: usize) -> Number
+    requires { ⌜ (from ≤ to) × (to ≤ length (now line)) ⌝ }
+    ensures { λ r. ⌜ r ≡ numberOf (slice from to (now (line .entry))) ⌝ }
+{
+    if from == to {
+        return Number::Wrong(Reason::NotANumber);
+    }
+    let mut value: u64 = 0;
+    let mut i = from;
+    while i < to {
+        let byte = line[i];
+        if byte < 48 {
+            return Number::Wrong(Reason::NotANumber);
+        }
+        if byte > 57 {
+            return Number::Wrong(Reason::NotANumber);
+        }
+        let digit = byte - 48;
+        value = with_digit(value, digit as u64);
+        i += 1;
+    }
+    if value > 4294967295 {
+        return Number::Wrong(Reason::NumberTooLarge);
+    }
+    let small = value as u32;
+    Number::Value(small)
+}

@@ -1,0 +1,206 @@
+// What a line asks for.
+ghost use mathlib.Core.Path.{_≡_};
+ghost use Prim.Native.Nat.{_≤_, min};
+ghost use mathlib.Core.List.{_++_};
+ghost use lib.ListN.{length, drop, replicate};
+ghost use Rattle.protocol.specs.Words.{partsAfter};
+ghost use Rattle.protocol.specs.Lines.{
+  known,
+  neededBy,
+  allowedBy,
+  readNumbers,
+  numbersRead,
+  Enough,
+  lineOf,
+  readCall,
+  readLine,
+  meaning,
+  OfferFits,
+};
+use crate::number::Number;
+use crate::number::Reason;
+use crate::number::read_number;
+use crate::word::CallName;
+use crate::word::call_named;
+use crate::word::part_end;
+
+// What a line asks for. The numbers of an offer stand in the list that was lent for reading.
+pub enum Line {
+    Nothing,
+    Open { limit: u32, percent: u32 },
+    Order { line: u32, time: u32, due: u32 },
+    Move { target: u32, places: u32 },
+    Offer { count: usize },
+    Latest,
+    Lines { allowance: u32 },
+    Enquire { ticket: u32 },
+    Error(Reason),
+}
+
+// How many numbers were read into the lent list.
+enum Numbers {
+    Count(usize),
+    Wrong(Reason),
+}
+
+fn is_known(name: CallName) -> bool
+    ensures { λ r. ⌜ r ≡ known name ⌝ }
+{
+    match name {
+        CallName::Open => true,
+        CallName::Order => true,
+        CallName::Move => true,
+        CallName::Offer => true,
+        CallName::Latest => true,
+        CallName::Lines => true,
+        CallName::Enquire => true,
+        CallName::Unknown => false,
+    }
+}
+
+// How many numbers a call needs.
+fn needed(name: CallName) -> usize
+    ensures { λ r. ⌜ r ≡ neededBy name ⌝ }
+{
+    match name {
+        CallName::Open => 2,
+        CallName::Order => 3,
+        CallName::Move => 2,
+        CallName::Offer => 0,
+        CallName::Latest => 0,
+        CallName::Lines => 1,
+        CallName::Enquire => 1,
+        CallName::Unknown => 0,
+    }
+}
+
+// How many numbers a call takes at most.
+fn allowed(name: CallName) -> usize
+    ensures { λ r. ⌜ (r ≡ allowedBy name) × (r ≤ 180) ⌝ }
+{
+    match name {
+        CallName::Open => 2,
+        CallName::Order => 3,
+        CallName::Move => 2,
+        CallName::Offer => 180,
+        CallName::Latest => 0,
+        CallName::Lines => 1,
+        CallName::Enquire => 1,
+        CallName::Unknown => 0,
+    }
+}
+
+// Reads the numbers that follow the word that ends at `from` into the lent list.
+fn read_numbers(line: &[u8], from: usize, least: usize, most: usize, numbers: &mut [u32]) -> Numbers
+    requires { ⌜ (from ≤ length (now line)) × (most ≤ length (now numbers)) ⌝ }
+    ensures { λ r. ⌜ numbersRead r (now (numbers .exit)) ≡ readNumbers least most (partsAfter 32 (now (line .entry)) from (length (now (line .entry)))) ⌝ }
+    ensures { λ r. ⌜ Enough least most r ⌝ }
+{
+    let mut at = from;
+    let mut count: usize = 0;
+    while at < line.len() {
+        if count == most {
+            return Numbers::Wrong(Reason::ExtraNumber);
+        }
+        let start = at + 1;
+        let end = part_end(line, start, line.len(), 32);
+        let number = read_number(line, start, end);
+        match number {
+            Number::Wrong(reason) => return Numbers::Wrong(reason),
+            Number::Value(value) => {
+                numbers[count] = value;
+                count += 1;
+                at = end;
+            }
+        }
+    }
+    if count < least {
+        return Numbers::Wrong(Reason::MissingNumber);
+    }
+    Numbers::Count(count)
+}
+
+// The call of a name with the numbers that were read for it.
+fn call_of(name: CallName, count: usize, numbers: &[u32]) -> Line
+    requires { ⌜ 3 ≤ length (now numbers) ⌝ }
+    ensures { λ r. ⌜ r ≡ lineOf name count (now (numbers .entry)) ⌝ }
+{
+    let first = numbers[0];
+    let second = numbers[1];
+    let third = numbers[2];
+    match name {
+        CallName::Open => Line::Open {
+            limit: first,
+            percent: second,
+        },
+        CallName::Order => Line::Order {
+            line: first,
+            time: second,
+            due: third,
+        },
+        CallName::Move => Line::Move {
+            target: first,
+            places: second,
+        },
+        CallName::Offer => Line::Offer { count },
+        CallName::Latest => Line::Latest,
+        CallName::Lines => Line::Lines { allowance: first },
+        CallName::Enquire => Line::Enquire { ticket: first },
+        CallName::Unknown => Line::Error(Reason::UnknownCall),
+    }
+}
+
+// The call of a name with the numbers that follow the word that ends at `end`.
+fn read_call(line: &[u8], end: usize, name: CallName, numbers: &mut [u32]) -> Line
+    requires { ⌜ (end ≤ length (now line)) × (180 ≤ length (now numbers)) ⌝ }
+    ensures { λ r. ⌜ meaning r (now (numbers .exit)) ≡ readCall name (partsAfter 32 (now (line .entry)) end (length (now (line .entry)))) ⌝ }
+    ensures { λ r. ⌜ OfferFits r ⌝ }
+{
+    if !is_known(name) {
+        return Line::Error(Reason::UnknownCall);
+    }
+    let read = read_numbers(line, end, needed(name), allowed(name), numbers);
+    match read {
+        Numbers::Wrong(reason) => Line::Error(reason),
+        Numbers::Count(count) => call_of(name, count, numbers),
+    }
+}
+
+// What a line asks for, its line feed left out. The lent list takes the numbers, which are 180 at most.
+pub fn read_line(line: &[u8], numbers: &mut [u32]) -> Line
+    requires { ⌜ 180 ≤ length (now numbers) ⌝ }
+    ensures { λ r. ⌜ meaning r (now (numbers .exit)) ≡ readLine (now (line .entry)) ⌝ }
+    ensures { λ r. ⌜ OfferFits r ⌝ }
+{
+    if line.len() > 4096 {
+        return Line::Error(Reason::LineTooLong);
+    }
+    if line.len() == 0 {
+        return Line::Nothing;
+    }
+    if line[0] == b'#' {
+        return Line::Nothing;
+    }
+    let end = part_end(line, 0, line.len(), 32);
+    let name = call_named(&line[..end]);
+    read_call(line, end, name, numbers)
+}
+
+// How many places are lent to a move that asks for this many.
+pub fn places_lent(places: u32) -> usize
+    ensures { λ r. ⌜ (r ≡ min places 4096) × (r ≤ 4096) ⌝ }
+{
+    if places < 4096 { places as usize } else { 4096 }
+}
+
+// Fills that many places of a list that is lent to a move.
+pub fn fill_lent(list: &mut [u32], places: usize)
+    requires { ⌜ places ≤ length (now list) ⌝ }
+    ensures { λ _. ⌜ now (list .exit) ≡ replicate places 4294967295 ++ drop places (now (list .entry)) ⌝ }
+{
+    let mut i = 0;
+    while i < places {
+        list[i] = 4294967295;
+        i += 1;
+    }
+}
