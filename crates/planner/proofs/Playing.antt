@@ -1,15 +1,15 @@
 -- One round: every charge is placed, and what the first unbalanced minute asks for.
 use mathlib.Core.Path.{_≡_, refl, sym, _∙_, ap}
-use Prim.Native.Nat.{ℕ, zero, suc, _+_, _-_, max, _≤_, _<_}
+use Prim.Native.Nat.{ℕ, _+_, _-_, _≤_, _<_}
 use mathlib.Core.Bool.{Bool, true, false}
-use mathlib.Core.List.{List, [], _∷_, _++_}
+use mathlib.Core.List.{List, _++_}
 use native.Mathlib.Omega.{arith}
-use lib.ListN.{length, getD, take, length-append}
-use Rattle.rules.specs.Basics.{Found, at, nothing}
+use lib.ListN.{length, getD, length-append}
+use Rattle.rules.specs.Basics.{at}
 use Rattle.rules.specs.Load.{Load, IsLine, count, counts, lastUntil, limits}
-use Rattle.rules.specs.Charge.{Charge, loadsOf, waitingCharges}
+use Rattle.rules.specs.Charge.{loadsOf, waitingCharges}
 use Rattle.rules.specs.Search.{Caps, firstUnbalanced}
-use Rattle.rules.specs.Replan.{Placed, all, stuck, placeAll, cappedStart, lineByLine, largestLine, smallestLine, ends, lowers, round}
+use Rattle.rules.specs.Replan.{all, stuck, cappedStart, lineByLine, largestLine, smallestLine, ends}
 use Rattle.rules.proofs.Searches.{unbalanced-first}
 use Rattle.rules.proofs.Rounds.{largest-line, smallest-line, round-places}
 use Rattle.charges.specs.declared.Charges.{Charges}
@@ -29,7 +29,7 @@ use Rattle.profile.proofs.Balances.{largest-same, smallest-same}
 use Rattle.planner.specs.declared.Placement.{Placement}
 use Rattle.planner.specs.declared.Proposed.{Proposed}
 use Rattle.planner.specs.declared.Outcome.the-variants.{Ends, Lowers}
-use Rattle.planner.specs.Starts.{waitingCount, WaitingStarts}
+use Rattle.planner.specs.Starts.{WaitingStarts}
 use Rattle.planner.specs.Ready.{begunOf, Ready, queueFrom, Queue}
 use Rattle.planner.specs.Placed.{AllPlaced, cappedRule, Capped, PlacedBy}
 use Rattle.planner.specs.Answers.{Plays}
@@ -86,7 +86,6 @@ module _ {limit bound clock : ℕ} {c : Charges} {caps : LineCaps} {q : Places} 
               λ cap shown.
               round-balanced (limits limit bound) clock c cap (queueFrom c q 0) (queue-whole order) (round-plan cap shown)
               (found cap shown ∙ ap foundAt e) s;
-          last = refl;
           filled = s .filled;
           fits = tt;
         }
@@ -151,7 +150,6 @@ module _ {limit bound clock : ℕ} {c : Charges} {caps : LineCaps} {q : Places} 
                     (round-ends (limits limit bound) clock c cap (queueFrom c q 0) (queue-whole order) (round-plan cap shown) t
                     (found cap shown ∙ ap foundAt e) i (largest cap shown)
                     (sym (level-counted cap shown i x is-line p) ∙ e′ ∙ begun-counted));
-                last = refl;
                 filled = rw k z;
                 fits = tt;
               }
@@ -197,7 +195,6 @@ module _ {limit bound clock : ℕ} {c : Charges} {caps : LineCaps} {q : Places} 
                     (level-counted cap shown 3 three line-three d))
                     (ap (λ (m : ℕ). m + bound)
                     (level-counted cap shown j z (rw small (smallest-line (ofLines one two three) .line)) v));
-                last = rw k;
                 filled = rw k zeros;
                 fits = (minute-fits, omega (arith, ready .some-bound));
               }

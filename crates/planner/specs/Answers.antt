@@ -45,11 +45,6 @@ abbrev pub outcome : Proposal → Outcome → rules.Outcome
 outcome p Ends = ends p
 outcome p (Lowers i t v) = lowers i t v
 
--- what is proposed if no round follows: cause 2 where a cap would have to be lowered
-abbrev pub lastProposal : rules.Outcome → Proposal
-lastProposal (ends p) = p
-lastProposal (lowers i t v) = none 2
-
 -- the minute is a number of 32 bits, and the cap is not below 1
 abbrev pub Fits : Outcome → Type 0
 Fits Ends = Unit {0}
@@ -62,9 +57,6 @@ pub record Plays (limit bound clock : ℕ) (c : Charges) (caps : LineCaps) (r : 
       → CapsShown caps cap
       → round (limits limit bound) clock (chargesOf c) cap
       ≡ outcome (proposalOf (waitingCount clock c) (r .proposed)) (r .outcome)
-  pub last :
-      lastProposal (outcome (proposalOf (waitingCount clock c) (r .proposed)) (r .outcome))
-      ≡ proposalOf (waitingCount clock c) (r .proposed)
   pub filled : FilledBy (waitingCount clock c) (r .proposed)
   pub fits : Fits (r .outcome)
 

@@ -70,7 +70,7 @@ pub enum Outcome {
     Lowers { line: u32, minute: u32, cap: u32 },
 }
 
-// With what is proposed if no round follows.
+// With what is proposed if it ends the replan.
 pub struct Round {
     pub outcome: Outcome,
     pub proposed: Proposed,
@@ -247,7 +247,11 @@ pub fn by_lines(charges: Charges, clock: u32, limit: u32, bound: u32, allowance:
             return Replanned { proposed, rounds };
         };
         if allowance <= rounds {
-            return Replanned { proposed, rounds };
+            let spent = Proposed::none(2);
+            return Replanned {
+                proposed: spent,
+                rounds,
+            };
         }
         caps = caps.lower(line, minute, cap);
         rounds += 1;

@@ -1,19 +1,8 @@
-use native.Mathlib.Omega.{arith}
-use mathlib.Core.Path.{_≡_}
-use Prim.Native.Nat.{ℕ}
 use borrow.Author.Tests.{not-true, not-false}
 use Rattle.planner.proofs.Judging.{ends-fit, judges-three, judges-four, judges-five, judges-six, judges-seven, judges-none}
 use borrow.Author.Needs.{needs}
 use Rattle.planner.proofs.cause_of.Statement.{statement}
 use Rattle.planner.proofs.cause_of.Tie as tie
-use Rattle.planner.proofs.cause_of.Reads as reads
-use Rattle.planner.proofs.cause_of.Lts as lts
-use Rattle.charges.proofs.Charges.last_end.Reads as last-end-reads
-use Rattle.charges.proofs.Charges.lateness.Reads as lateness-reads
-use Rattle.charges.proofs.start_below.Reads as start-below-reads
-use Rattle.profile.proofs.Profile.first_unbalanced.Reads as first-unbalanced-reads
-use Rattle.profile.proofs.Profile.of.Reads as of-reads
-use Rattle.profile.proofs.Profile.within_limit.Reads as within-limit-reads
 
 start-below-requires : tie.Need-start-below-requires
 start-below-requires c κs = search needs
@@ -32,8 +21,7 @@ returns-2 c = judges-four (c .before .before .before .before .before .before .pr
 
 of-requires : tie.Need-of-requires
 of-requires c κs =
-    let s = c .before .before .before .before .before .before .before .before .before .before in
-    (
+    let s = c .before .before .before .before .before .before .before .before .before .before in (
       s .pre .1 .columns .few,
       ends-fit (s .args .t2) (s .pre .0) (c .before .before .before .before .before .before .last-end .ensures) (c .before .before .before .before .before .last-end2 .ensures) (c .before .before .before .before .if2 .left),
     )

@@ -1,5 +1,5 @@
 use native.Mathlib.Omega.{arith}
-use Prim.Native.Nat.{ℕ, _≤_, _-_}
+use Prim.Native.Nat.{_≤_, _-_}
 use borrow.Author.Needs.{needs}
 use Rattle.rules.specs.Search.{Caps}
 use Rattle.profile.specs.Caps.{CapsShown}
@@ -9,10 +9,6 @@ use Rattle.planner.specs.Placed.{searchOf}
 use Rattle.planner.proofs.Plans.{PlacedSoFar, placed-start, placed-end, next-inside, next-can-start, next-stuck, next-can-add, next-placed}
 use Rattle.planner.proofs.place_all.Statement.{statement}
 use Rattle.planner.proofs.place_all.Tie as tie
-use Rattle.planner.proofs.place_all.Reads as reads
-use Rattle.planner.proofs.place_all.Lts as lts
-use Rattle.planner.proofs.smallest_start.Reads as smallest-start-reads
-use Rattle.profile.proofs.Profile.add.Reads as add-reads
 
 abbrev Inv-loop : tie.InvT-loop
 Inv-loop clock rule charges queue n profile₀ starts₀ k₀ profile starts k =

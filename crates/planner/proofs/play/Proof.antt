@@ -1,19 +1,9 @@
 use native.Mathlib.Omega.{arith}
-use Prim.Native.Nat.{ℕ}
 use Rattle.planner.proofs.Queueing.{queue-line-by-line}
 use Rattle.planner.proofs.Playing.{round-formed, plays-balanced, minute-shown, minute-low, plays-none, cap-fits, plays-lowers}
 use borrow.Author.Needs.{needs}
 use Rattle.planner.proofs.play.Statement.{statement}
 use Rattle.planner.proofs.play.Tie as tie
-use Rattle.planner.proofs.play.Reads as reads
-use Rattle.planner.proofs.play.Lts as lts
-use Rattle.planner.proofs.Proposed.none.Reads as none-reads
-use Rattle.planner.proofs.place_all.Reads as place-all-reads
-use Rattle.planner.proofs.waiting_starts.Reads as waiting-starts-reads
-use Rattle.profile.proofs.Profile.first_unbalanced.Reads as first-unbalanced-reads
-use Rattle.profile.proofs.Profile.level.Reads as level-reads
-use Rattle.profile.proofs.balance.largest_line.Reads as largest-line-reads
-use Rattle.profile.proofs.balance.smallest_line.Reads as smallest-line-reads
 
 place-all-requires : tie.Need-place-all-requires
 place-all-requires c κs = (c .pre .0, queue-line-by-line (c .pre .0 .listed) (c .pre .1), c .pre .2, c .pre .3)
