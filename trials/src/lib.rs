@@ -4,6 +4,7 @@
 //!
 //! "further trials are executed against another implementation of these rules"
 
+pub mod benchmark;
 pub mod compare;
 pub mod coverage;
 pub mod demand;

@@ -6,7 +6,7 @@ use std::process::ExitCode;
 use std::time::{Duration, Instant};
 use trials::compare::{compare, Choice, Failure};
 use trials::program::Program;
-use trials::{coverage, demand, fast, generate, interpret, reference, script};
+use trials::{benchmark, coverage, demand, fast, generate, interpret, reference, script};
 
 const USAGE: &str = "\
 trials answers < SCRIPT                      answers of the reference
@@ -14,6 +14,8 @@ trials fast < SCRIPT                         answers of the fast program
 trials generate [--kind KIND] [--seed S] [--scripts K]
 trials compare PROGRAM [--scripts K] [--seed S] [--kind KIND] [--patience SECONDS]
 trials coverage [--scripts K] [--seed S] [--kind KIND]
+trials benchmark PROGRAM [--repeat R] [--days D]
+                                             run times beside those of the fast program
 trials demand SCRIPT ANSWERS                 demand 3 from calls and answers alone";
 
 type Outcome = Result<(), String>;
@@ -80,6 +82,7 @@ fn run(words: &Words) -> Outcome {
         Some("generate") => print_scripts(&words.choice(1)?),
         Some("compare") => run_comparison(words),
         Some("coverage") => print_coverage(&words.choice(1_000)?),
+        Some("benchmark") => run_benchmark(words),
         Some("demand") => check_files(&words.others[1..]),
         _ => Err(USAGE.to_string()),
     }
@@ -110,6 +113,11 @@ fn print_coverage(choice: &Choice) -> Outcome {
         println!("{times:>9}  {sort}");
     }
     Ok(())
+}
+
+fn run_benchmark(words: &Words) -> Outcome {
+    let command = words.others.get(1).or(words.named.get("program")).ok_or(USAGE)?;
+    benchmark::run(command, words.number("repeat", 5)? as usize, words.number("days", 5)?)
 }
 
 fn run_comparison(words: &Words) -> Outcome {

@@ -29,7 +29,12 @@ pub struct Program {
 impl Program {
     /// A path, with arguments after spaces.
     pub fn new(command: &str, patience: Duration) -> Program {
-        Program { words: command.split_whitespace().map(String::from).collect(), patience }
+        Program::of_words(command.split_whitespace().map(String::from).collect(), patience)
+    }
+
+    /// For a path that may have spaces of its own.
+    pub fn of_words(words: Vec<String>, patience: Duration) -> Program {
+        Program { words, patience }
     }
 
     fn start(&self) -> Result<Child, String> {

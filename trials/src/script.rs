@@ -57,6 +57,11 @@ pub fn join(lines: &[Line]) -> Vec<u8> {
     bytes
 }
 
+/// The lines so many times over.
+pub fn repeated(lines: &[Line], turns: usize) -> Vec<Line> {
+    (0..turns).flat_map(|_| lines.to_vec()).collect()
+}
+
 pub fn show(line: &[u8]) -> String {
     String::from_utf8_lossy(line).into_owned()
 }

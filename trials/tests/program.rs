@@ -40,3 +40,9 @@ fn a_program_that_does_not_end_in_time() {
     let trouble = program.answers(b"latest\n").trouble;
     assert!(trouble.is_some_and(|trouble| trouble.contains("no end after")));
 }
+
+#[test]
+fn a_benchmark_of_a_program_that_is_not_there() {
+    let trouble = trials::benchmark::run("./no-such-program", 1, 1);
+    assert!(trouble.is_err_and(|trouble| trouble.contains("cannot be started")));
+}

@@ -1,7 +1,7 @@
 -- Walks along the places from 0 on: what one turn adds to a search, to the members that pass a test, and to the totals.
 use mathlib.Core.Path.{_≡_, ap, _∙_}
 use Prim.Native.Nat.{ℕ, suc, _+_, _-_, max, _≤_, _<_}
-use mathlib.Core.Bool.{Bool, true, false, cond, not}
+use mathlib.Core.Bool.{Bool, true, false, not}
 use mathlib.Core.List.{List, [], _∷_, _++_, append-nil}
 use native.Mathlib.Omega.{arith}
 use native.Mathlib.Numerals.{add-one}
@@ -9,7 +9,7 @@ use lib.ListN.{length, length-append}
 use borrow.Author.Tests.{lt-ltb, le-ltb, le-leb, lt-leb}
 use Rattle.rules.specs.Basics.{tabulate, at, nothing, first, keep}
 use Rattle.rules.specs.Charge.{Charge, endOf, isFinished, isWaiting, lastEnd, lateOf, lateness}
-use Rattle.rules.proofs.Lists.{length-tabulate, tabulate-next, keep-append}
+use Rattle.rules.proofs.Lists.{length-tabulate, tabulate-next, keep-append, length-keep}
 use Rattle.charges.specs.declared.Charges.{Charges}
 use Rattle.charges.specs.Arrays.{chargesOf, Holds}
 use Rattle.charges.proofs.Storing.{holds-length}
@@ -39,12 +39,7 @@ module _ {A : Type 0} (f : A → Bool) (g : ℕ → A) (i : ℕ) where
   count-hit e = rw (keep-hit e) (length-append (keep f (tabulate g i 0)) (g i ∷ []))
 
 pub keep-length : {A : Type 0} (f : A → Bool) (xs : List A) → length (keep f xs) ≤ length xs
-keep-length f [] = omega arith
-keep-length f (x ∷ xs) = go (f x) (keep-length f xs)
-  where
-    go : (b : Bool) → length (keep f xs) ≤ length xs → length (cond b (x ∷ keep f xs) (keep f xs)) ≤ suc (length xs)
-    go true h = omega arith
-    go false h = omega arith
+keep-length f xs = length-keep f xs
 
 -- as many are held as pass the test, so no more than were looked at
 pub holds-few : (f : Charge → Bool) (g : ℕ → Charge) (i : ℕ) (c : Charges) → Holds (keep f (tabulate g i 0)) c → c .held ≤ i

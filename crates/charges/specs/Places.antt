@@ -2,10 +2,10 @@
 use Prim.Native.Nat.{ℕ, _+_, _-_, _*_, _≤_, _<_}
 use mathlib.Core.Path.{_≡_}
 use mathlib.Core.Bool.{Bool}
-use mathlib.Core.List.{List, [], _∷_, _++_, map}
+use mathlib.Core.List.{List, _∷_, _++_, map}
 use lib.Dec.{leb}
 use lib.ListN.{length, getD}
-use Rattle.rules.specs.Basics.{tabulate, keep}
+use Rattle.rules.specs.Basics.{Each, tabulate, keep}
 use Rattle.rules.specs.Charge.{Charge}
 use Rattle.rules.specs.Calls.{isPassed}
 use Rattle.charges.specs.declared.Charges.{Charges}
@@ -18,15 +18,10 @@ placeAt p j = getD (p .places) j 0
 abbrev pub placesOf : Places → List ℕ
 placesOf p = tabulate (placeAt p) (p .count) 0
 
--- every member of a list has the property
-abbrev pub Every : {A : Type 0} → (A → Type 0) → List A → Type 0
-Every P [] = Unit {0}
-Every P (x ∷ xs) = P x × Every P xs
-
 -- places that may stand in an array of 180
 pub record Inside (p : Places) : Type 0 where
   pub few : p .count ≤ 180
-  pub below : Every (λ i. i < 180) (placesOf p)
+  pub below : Each (λ i. i < 180) (placesOf p)
 
 -- exactly these places
 pub record Lists (is : List ℕ) (p : Places) : Type 0 where

@@ -1,22 +1,21 @@
 -- The first minute out of balance, the limit in every step, and the lines with the largest and the smallest count.
-use Prim.Native.Nat.{ℕ, zero, suc, _+_, _-_, _%_, _≤_, _<_, max, min}
+use Prim.Native.Nat.{ℕ, _+_, _-_, _%_, _≤_, _<_, max, min}
 use mathlib.Core.Path.{_≡_, refl, sym, _∙_, ap}
 use mathlib.Core.Bool.{Bool, true, false, not, cond, true≢false}
 use mathlib.Core.List.{List}
-use mathlib.Core.Logic.{_⊎_, inl, inr, ⊎-elim}
+use mathlib.Core.Logic.{_⊎_, ⊎-elim}
 use native.Mathlib.Omega.{arith}
 use borrow.Author.Count.{below-more}
 use borrow.Author.Tests.{le-leb, leb-true, eq-eqb, ne-eqb, eqb-true}
 use lib.Dec.{leb, eqb}
 use lib.ListN.{getD}
-use Rattle.rules.specs.Basics.{at, nothing}
-use Rattle.rules.specs.Load.{Load, Limits, limits, IsLine, onLines, count, counts, lastUntil, limited, balanced, limitAt, balanceAt, fromOn}
+use Rattle.rules.specs.Basics.{at}
+use Rattle.rules.specs.Load.{Load, limits, IsLine, onLines, counts, lastUntil, limitAt, balanceAt, fromOn}
 use Rattle.rules.specs.Search.{firstUnbalanced}
 use Rattle.rules.specs.Replan.{lowestLine, largestLine, smallestLine}
-use Rattle.rules.proofs.Ranges.{same-test, fails, below-or-not, IsFirst, first-is, first-nothing}
+use Rattle.rules.proofs.Ranges.{same-test, fails, below-or-not, first-is, first-nothing}
 use Rattle.rules.proofs.Counts.{onLines-at, onLines-all, Limited, Balanced, limited-at, limited-all, balanced-at, balanced-all, fromOn-at, fromOn-all, limit-past, balance-past}
-use Rattle.profile.specs.Steps.{levelAt, In, Rising}
-use Rattle.profile.specs.Shows.{ofLines, lineOf, levelOf, levels, Formed, Shows, foundAt}
+use Rattle.profile.specs.Shows.{ofLines, lineOf, levels, Formed, Shows}
 use Rattle.profile.specs.Balance.{Unbalanced, WithinLimit, Near}
 use Rattle.profile.specs.declared.Profile.{Profile}
 use Rattle.profile.specs.declared.When.the-variants.{Minute, Never}

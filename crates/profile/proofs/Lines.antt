@@ -1,7 +1,7 @@
 -- Facts of each line from those of lines 1, 2 and 3, and three counts within limit and bound by the largest and the smallest.
-use Prim.Native.Nat.{ℕ, zero, suc, _+_, _-_, _≤_, _<_, max, min}
-use mathlib.Core.Path.{_≡_, refl, sym}
-use mathlib.Core.Bool.{Bool, true, false}
+use Prim.Native.Nat.{ℕ, zero, suc, _-_, _≤_, _<_, max, min}
+use mathlib.Core.Path.{_≡_, sym}
+use mathlib.Core.Bool.{false}
 use native.Mathlib.Omega.{arith}
 use borrow.Author.Tests.{le-leb, leb-true, ne-eqb}
 use lib.Dec.{leb}

@@ -1,5 +1,5 @@
 -- Caps as lists of minutes, a cap lowered, and the smallest start under a cap.
-use Prim.Native.Nat.{ℕ, zero, suc, _+_, _-_, _^_, _≤_, _<_, max, min}
+use Prim.Native.Nat.{ℕ, suc, _+_, _-_, _≤_, _<_, min}
 use mathlib.Core.Path.{_≡_, refl, sym, _∙_, ap, subst}
 use mathlib.Core.Bool.{Bool, true, false, cond, _&&_, true≢false}
 use mathlib.Core.List.{List}
@@ -10,20 +10,18 @@ use lib.Dec.{ltb, leb, eqb}
 use lib.ListN.{length, getD, set, length-set, List·getD-eq-default}
 use lib.Seq.{getD-set-same, getD-set-other}
 use Rattle.rules.specs.Basics.{at}
-use Rattle.rules.specs.Load.{Load, IsLine, count, lastUntil}
+use Rattle.rules.specs.Load.{IsLine, count, lastUntil}
 use Rattle.rules.specs.Search.{Caps, earliestUnder}
 use Rattle.rules.specs.Replan.{lowered}
-use Rattle.rules.proofs.Ranges.{fails, below-or-not, IsFirst, first-is}
+use Rattle.rules.proofs.Ranges.{fails, below-or-not, first-is}
 use Rattle.rules.proofs.Searches.{underTest, under-at, under-all}
-use Rattle.profile.specs.Steps.{levelAt, In, Rising, Filled}
-use Rattle.profile.specs.Shows.{lineOf, levelOf, Shows, CanStart}
-use Rattle.profile.specs.Rooms.{hasRoom, roomAt, Misses, Least, Rests, CanSearch}
+use Rattle.profile.specs.Shows.{lineOf, levelOf, CanStart}
+use Rattle.profile.specs.Rooms.{hasRoom, roomAt, Least, CanSearch}
 use Rattle.profile.specs.Caps.{capsOf, CapsShown, Level, Lowered, LoweredAt, Whole, RoomsUnder, roomUnder, LeastUnder, CanCap, CanStartUnder, EarliestUnder}
 use Rattle.profile.specs.declared.Profile.{Profile}
 use Rattle.profile.specs.declared.caps.LineCaps.{LineCaps}
 use Rattle.profile.proofs.Levels.{same-or-not, filled-more, level-in, Place, step-of, rising-le}
-use Rattle.profile.proofs.Lines.{each-line}
-use Rattle.profile.proofs.Rooms.{room-before, room-after, room-always, room-cond, room-in}
+use Rattle.profile.proofs.Rooms.{room-before, room-after, room-cond, room-in}
 use Rattle.profile.proofs.Starts.{least-same}
 
 pub past-end : (a : List ℕ) (k : ℕ) → length a ≡ 61 → 61 ≤ k → getD a k 0 ≡ 0

@@ -1,15 +1,15 @@
 -- Room in a minute, the walk of `first_failing` over the steps, and the search over its answers.
-use Prim.Native.Nat.{ℕ, zero, suc, _+_, _-_, _^_, _≤_, _<_, max}
+use Prim.Native.Nat.{ℕ, _+_, _-_, _^_, _≤_, _<_, max}
 use mathlib.Core.Path.{_≡_, refl, sym, _∙_, ap, subst}
 use mathlib.Core.Bool.{Bool, true, false, cond, _||_, or-true}
 use mathlib.Core.List.{List}
-use mathlib.Core.Logic.{_⊎_, inl, inr, ⊎-elim}
+use mathlib.Core.Logic.{_⊎_, ⊎-elim}
 use native.Mathlib.Omega.{arith}
 use borrow.Author.Tests.{lt-ltb, le-ltb, le-leb, lt-leb}
-use lib.Dec.{ltb, leb}
+use lib.Dec.{ltb}
 use lib.ListN.{getD}
 use Rattle.rules.proofs.Ranges.{below-or-not}
-use Rattle.profile.specs.Steps.{levelAt, In, Rising}
+use Rattle.profile.specs.Steps.{In, Rising}
 use Rattle.profile.specs.Rooms.{hasRoom, roomAt, End, FailsAt, FirstFailing, Misses, Least, Settled, Rests, AllOrNone, CanSearch}
 use Rattle.profile.specs.declared.search.Failing.{Failing}
 use Rattle.profile.specs.declared.search.Failing.the-variants.{At, Nothing}

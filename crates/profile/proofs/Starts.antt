@@ -1,6 +1,6 @@
 -- The earliest start, from the room that each step of a profile has.
-use Prim.Native.Nat.{ℕ, zero, suc, _+_, _-_, _^_, _≤_, _<_, max}
-use mathlib.Core.Path.{_≡_, refl, sym, _∙_, ap, subst}
+use Prim.Native.Nat.{ℕ, suc, _+_, _-_, _^_, _≤_, _<_, max}
+use mathlib.Core.Path.{_≡_, sym, _∙_, ap, subst}
 use mathlib.Core.Bool.{Bool, true, false, cond, true≢false}
 use mathlib.Core.List.{List}
 use mathlib.Core.Logic.{_⊎_, inl, inr, ⊎-elim}
@@ -9,17 +9,16 @@ use lib.ListN.{length, getD, set}
 use Rattle.rules.specs.Load.{Load, loadFrom, Limits, limits, IsLine, share, count, counts, lastUntil, soundCounts, soundAt, sound}
 use Rattle.rules.specs.Basics.{at, nothing}
 use Rattle.rules.specs.Search.{added, earliest}
-use Rattle.rules.proofs.Ranges.{fails, below-or-not, IsFirst, first-is, first-nothing}
+use Rattle.rules.proofs.Ranges.{fails, below-or-not, first-is, first-nothing}
 use Rattle.rules.proofs.Counts.{draws-before, draws-after, draws-in, share-most, count-past, Sound, sound-at, sound-all, sound-same, sound-few, sound-from, sound-true}
 use Rattle.rules.proofs.Searches.{count-added}
-use Rattle.profile.specs.Steps.{levelAt, In, Rising, Filled}
-use Rattle.profile.specs.Shows.{ofLines, lineOf, levelOf, levels, soundIn, FailsBetween, UnsoundIn, Formed, Shows, Small, raised, foundAt, CanStart, Earliest}
+use Rattle.profile.specs.Shows.{ofLines, lineOf, levelOf, levels, soundIn, FailsBetween, UnsoundIn, Formed, Shows, raised, CanStart, Earliest}
 use Rattle.profile.specs.Rooms.{hasRoom, roomAt, RoomsWithin, SmallSteps, FailsAt, Misses, Least, Settled, Rests, AllOrNone, CanSearch}
 use Rattle.profile.specs.declared.Profile.{Profile}
 use Rattle.profile.specs.declared.start.Unsound.{Unsound}
 use Rattle.profile.specs.declared.start.Unsound.the-variants.{Between, Nothing}
 use Rattle.profile.specs.declared.When.the-variants.{Minute, Never}
-use Rattle.profile.proofs.Levels.{filled-more, level-in, Place, step-of, at-step, last-step, rising-le}
+use Rattle.profile.proofs.Levels.{filled-more, level-in, Place, step-of, last-step, rising-le}
 use Rattle.profile.proofs.Lines.{each-line, share-none, sound-tests}
 use Rattle.profile.proofs.Adds.{small-step, shows-small}
 use Rattle.profile.proofs.Rooms.{room-cond, room-in}
@@ -260,20 +259,23 @@ pub told-between :
     (f : ℕ → Bool) (from until : ℕ) (r : Unsound) (first last : ℕ) → UnsoundIn f from until r → r ≡ Between first last → FailsBetween f from until first last
 told-between f from until r first last h e = subst (λ (r : Unsound). UnsoundIn f from until r) e h
 
-pub told-none : (f : ℕ → Bool) (from until : ℕ) (r : Unsound) → UnsoundIn f from until r → r ≡ Nothing → Settled f from from
-told-none f from until r h e =
-    record { low = omega arith; calm = subst (λ (r : Unsound). UnsoundIn f from until r) e h; edge = λ a. absurd (omega arith) }
+pub told-none : (f : ℕ → Bool) (from until : ℕ) (r : Unsound) → UnsoundIn f from until r → r ≡ Nothing → (t : ℕ) → from ≤ t → f t ≡ true
+told-none f from until r h e = subst (λ (r : Unsound). UnsoundIn f from until r) e h
 
-pub between-settled : {f : ℕ → Bool} {from until first last : ℕ} → FailsBetween f from until first last → from ≤ last → Settled f from (last + 1)
-between-settled {f} {from} {until} {first} {last} h a =
-    record { low = omega arith; calm = λ t b. h .after t (omega arith); edge = λ b. ap f (back last) ∙ h .last-fails }
+between-order : {f : ℕ → Bool} {from until first last : ℕ} → FailsBetween f from until first last → first ≤ last
+between-order {f} {from} {until} {first} {last} h =
+    ⊎-elim (λ a. absurd (true≢false (sym (h .after first a) ∙ h .first-fails))) (λ a. a) (below-or-not last first)
+
+between-settled : {f : ℕ → Bool} {from until first last : ℕ} → FailsBetween f from until first last → Settled f from (last + 1)
+between-settled {f} {from} {until} {first} {last} h =
+    record {
+      low = omega (arith, h .low, between-order h);
+      calm = λ t b. h .after t (omega arith);
+      edge = λ b. ap f (back last) ∙ h .last-fails;
+    }
   where
     back : (n : ℕ) → n + 1 - 1 ≡ n
     back n = omega arith
-
-pub between-order : {f : ℕ → Bool} {from until first last : ℕ} → FailsBetween f from until first last → first ≤ last
-between-order {f} {from} {until} {first} {last} h =
-    ⊎-elim (λ a. absurd (true≢false (sym (h .after first a) ∙ h .first-fails))) (λ a. a) (below-or-not last first)
 
 -- The parts of `earliest`: e is the minute from which on the loads are sound
 module _ {p : Profile} {time limit bound line e start r : ℕ} {rooms : List ℕ}
@@ -295,13 +297,32 @@ module _ {p : Profile} {time limit bound line e start r : ℕ} {rooms : List ℕ
     close = omega (arith, s .ends (p .steps - 1) (omega (arith, s .formed .some)))
 
   -- the loads are sound before r
-  pub start-at : ((t : ℕ) → getD (p .at) 0 0 ≤ t → t < r → soundIn p limit bound t ≡ true) → Earliest p limit bound line time (Minute r)
+  start-at : ((t : ℕ) → getD (p .at) 0 0 ≤ t → t < r → soundIn p limit bound t ≡ true) → Earliest p limit bound line time (Minute r)
   start-at before clock xs s =
       earliest-at (limits limit bound) clock xs line time e r (calm s) (least s) (close s)
       (λ t a lt. sym (sound-shown s limit bound t a) ∙ before t (omega (arith, s .starts)) lt)
 
   -- they are not
-  pub start-never : (u : ℕ) → getD (p .at) 0 0 ≤ u → u < r → soundIn p limit bound u ≡ false → Earliest p limit bound line time Never
+  start-never : (u : ℕ) → getD (p .at) 0 0 ≤ u → u < r → soundIn p limit bound u ≡ false → Earliest p limit bound line time Never
   start-never u a lt bad clock xs s =
       earliest-nothing (limits limit bound) clock xs line time e r (calm s) (least s) (close s) u (omega (arith, s .starts)) lt
       (sym (sound-shown s limit bound u (omega (arith, s .starts))) ∙ bad)
+
+-- the answers of `earliest`
+module _ {p : Profile} {time limit bound line start r : ℕ} {rooms : List ℕ}
+    (w : RoomsWithin (p .one) (p .two) (p .three) (p .steps) limit bound line rooms)
+    (m : Least (roomAt (p .at) rooms (p .steps)) time start r) (near : r ≤ getD (p .at) (p .steps - 1) 0) where
+  -- the loads are sound alone
+  pub start-sound : start ≡ getD (p .at) 0 0 → ((t : ℕ) → getD (p .at) 0 0 ≤ t → soundIn p limit bound t ≡ true) → Earliest p limit bound line time (Minute r)
+  start-sound e h =
+      start-at w (record { low = omega arith; calm = h; edge = λ a. absurd (omega arith) }) (omega arith) m near (λ t a lt. h t a)
+
+  module _ {until first last : ℕ} (h : FailsBetween (soundIn p limit bound) (getD (p .at) 0 0) until first last)
+      (b : start ≡ max (getD (p .at) 0 0) (last + 1 - time)) where
+    -- every unsound minute lies in the load
+    pub start-covers : r ≤ first → Earliest p limit bound line time (Minute r)
+    start-covers le = start-at w (between-settled h) b m near (λ t a lt. h .before t a (omega arith))
+
+    -- one lies before it
+    pub start-late : first < r → Earliest p limit bound line time Never
+    start-late lt = start-never w (between-settled h) b m near first (h .low) lt (h .first-fails)

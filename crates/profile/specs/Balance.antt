@@ -1,5 +1,5 @@
 -- What the walks over the steps for balance and limit answer.
-use Prim.Native.Nat.{ℕ, _+_, _-_, _%_, _≤_, _<_, max, min}
+use Prim.Native.Nat.{ℕ, _+_, _%_, _≤_}
 use mathlib.Core.Path.{_≡_}
 use mathlib.Core.Bool.{Bool}
 use mathlib.Core.List.{List}

@@ -10,7 +10,7 @@ use Rattle.rules.specs.Load.{Load, IsLine}
 use Rattle.rules.specs.Search.{Caps, earliestUnder}
 use Rattle.rules.specs.Replan.{lowered}
 use Rattle.profile.specs.Steps.{levelAt, Rising, Filled}
-use Rattle.profile.specs.Shows.{ofLines, lineOf, Shows}
+use Rattle.profile.specs.Shows.{ofLines, Shows}
 use Rattle.profile.specs.Rooms.{hasRoom, Least}
 use Rattle.profile.specs.declared.Profile.{Profile}
 use Rattle.profile.specs.declared.caps.LineCaps.{LineCaps}

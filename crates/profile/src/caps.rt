@@ -2,11 +2,10 @@
 use crate::counts::smaller;
 ghost use mathlib.Core.Path.{_≡_};
 ghost use mathlib.Core.Bool.{cond};
-ghost use Prim.Native.Nat.{ℕ, _+_, _<_, _≤_};
+ghost use Prim.Native.Nat.{_<_, _≤_};
 ghost use lib.Dec.{eqb};
-ghost use lib.ListN.{length, getD};
-ghost use Rattle.rules.specs.Load.{IsLine};
-ghost use Rattle.profile.specs.Caps.{CapsShown, Level, Lowered, LoweredAt, Whole, RoomsUnder};
+ghost use lib.ListN.{length};
+ghost use Rattle.profile.specs.Caps.{CapsShown, Level, Lowered, LoweredAt, Whole};
 
 pub struct LineCaps {
     pub one: [u32; 61],

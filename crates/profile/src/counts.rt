@@ -1,6 +1,6 @@
 // Counts of the three lines in one minute.
 ghost use mathlib.Core.Path.{_≡_};
-ghost use Prim.Native.Nat.{ℕ, _+_, _<_, _≤_, max, min};
+ghost use Prim.Native.Nat.{_≤_, max, min};
 ghost use Rattle.rules.specs.Load.{share, limits, soundCounts};
 ghost use Rattle.profile.specs.Shows.{ofLines};
 

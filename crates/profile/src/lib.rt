@@ -10,7 +10,7 @@ pub mod steps;
 
 use caps::LineCaps;
 ghost use mathlib.Core.Path.{_≡_};
-ghost use Prim.Native.Nat.{ℕ, _+_, _<_, _≤_};
+ghost use Prim.Native.Nat.{_≤_};
 ghost use mathlib.Core.List.{[]};
 ghost use Rattle.rules.specs.Load.{IsLine};
 ghost use lib.ListN.{getD};

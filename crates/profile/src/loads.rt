@@ -4,9 +4,6 @@ use crate::counts::share_of;
 use crate::steps::insert;
 use crate::steps::place;
 use crate::steps::raise;
-ghost use mathlib.Core.Path.{_≡_};
-ghost use Prim.Native.Nat.{ℕ, _+_, _<_, _≤_};
-ghost use lib.ListN.{getD};
 ghost use Rattle.profile.specs.Shows.{profileOf, CanSplit, Split, CanAdd, Added};
 
 // The number of steps, and the one that begins in the minute asked for.

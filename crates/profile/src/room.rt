@@ -3,7 +3,7 @@ use crate::counts::share_of;
 use crate::counts::sound;
 ghost use mathlib.Core.Path.{_≡_};
 ghost use mathlib.Core.Bool.{cond};
-ghost use Prim.Native.Nat.{ℕ, _+_, _<_, _≤_};
+ghost use Prim.Native.Nat.{_≤_};
 ghost use Rattle.rules.specs.Load.{limits, soundCounts};
 ghost use Rattle.profile.specs.Shows.{ofLines};
 ghost use lib.ListN.{length, getD};

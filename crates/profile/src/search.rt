@@ -2,9 +2,8 @@
 use crate::counts::larger;
 use crate::counts::smaller;
 use crate::steps::place;
-ghost use mathlib.Core.Path.{_≡_};
-ghost use Prim.Native.Nat.{ℕ, _+_, _-_, _<_, _≤_, max};
-ghost use lib.ListN.{length, getD};
+ghost use Prim.Native.Nat.{_-_, _<_, _≤_};
+ghost use lib.ListN.{getD};
 ghost use Rattle.profile.specs.Steps.{In, Rising};
 ghost use Rattle.profile.specs.Rooms.{roomAt, End, FirstFailing, Least, Settled, Rests, AllOrNone, CanSearch};
 

@@ -8,11 +8,10 @@ use crate::search::first_failing;
 use crate::search::search;
 use crate::search::settled;
 ghost use mathlib.Core.Path.{_≡_};
-ghost use Prim.Native.Nat.{ℕ, _+_, _-_, _<_, _≤_, max};
-ghost use lib.ListN.{length, getD};
+ghost use Prim.Native.Nat.{_-_, _≤_, max};
+ghost use lib.ListN.{getD};
 ghost use Rattle.rules.specs.Load.{IsLine};
-ghost use Rattle.profile.specs.Steps.{Rising};
-ghost use Rattle.profile.specs.Shows.{profileOf, lineOf, soundIn, CanStart, UnsoundIn, Earliest};
+ghost use Rattle.profile.specs.Shows.{profileOf, soundIn, CanStart, UnsoundIn, Earliest};
 ghost use Rattle.profile.specs.Caps.{capsIn, capsOf, CanCap, CanStartUnder, LeastUnder, EarliestUnder};
 
 // The first start, not below the clock, that reaches the end.

@@ -36,15 +36,14 @@ rising-keep i f (c ∷ cs) r = go (f c) (rising-keep (suc (c .ticket)) f cs (r .
     go true s = (r .0, s)
     go false s = rising-down i (suc (c .ticket)) (keep f cs) (omega (arith, r .0)) s
 
-rising-more :
-    (i m : ℕ) (cs : List Charge) (c : Charge)
+pub rising-append :
+    (i : ℕ) (cs : List Charge) (d : Charge)
     → Rising i cs
-    → Each (λ x. x .ticket < m) cs
-    → i ≤ m
-    → c .ticket ≡ m
-    → Rising i (cs ++ (c ∷ []))
-rising-more i m [] c r b h e = (omega arith, tt)
-rising-more i m (x ∷ cs) c r b h e = (r .0, rising-more (suc (x .ticket)) m cs c (r .1) (b .1) (b .0) e)
+    → i ≤ d .ticket
+    → Each (λ c. c .ticket < d .ticket) cs
+    → Rising i (cs ++ (d ∷ []))
+rising-append i [] d r h e = (h, tt)
+rising-append i (c ∷ cs) d r h e = (r .0, rising-append (suc (c .ticket)) cs d (r .1) (omega (arith, e .0)) (e .1))
 
 -- Ends
 
@@ -111,7 +110,7 @@ restarted-each P f empty e = tt
 restarted-each P f (same r) e = (e .0, restarted-each P f r (e .1))
 restarted-each P f (other {c = c} {s = s} h j r) e = (f c s j (e .0), restarted-each P f r (e .1))
 
-restarted-rising : (i : ℕ) {clock : ℕ} {cs ds : List Charge} → Restarted clock cs ds → Rising i cs → Rising i ds
+pub restarted-rising : (i : ℕ) {clock : ℕ} {cs ds : List Charge} → Restarted clock cs ds → Rising i cs → Rising i ds
 restarted-rising i empty n = tt
 restarted-rising i (same {c = c} r) n = (n .0, restarted-rising (suc (c .ticket)) r (n .1))
 restarted-rising i (other {c = c} h j r) n = (n .0, restarted-rising (suc (c .ticket)) r (n .1))
@@ -292,11 +291,9 @@ order-valid s line p d start v q f =
             tt,
           );
       rising =
-          rising-more 1 (s .next) (s .charges) new (v .rising)
+          rising-append 1 (s .charges) new (v .rising) (v .next-low)
           (each-map (ValidCharge (s .clock) (s .next)) (λ x. x .ticket < s .next) (λ c h. h .ticket-given) (s .charges)
-          (v .each))
-          (v .next-low)
-          refl;
+          (v .each));
       ends-high =
           rw (lastEnd-more (s .charges) new)
           (omega (arith, v .ends-high, v .next-low, last-until (s .charges)));

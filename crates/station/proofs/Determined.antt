@@ -11,7 +11,7 @@ pub station-same : (s t : Station) → Valid s → Valid t → view s ≡ view t
 station-same s t v w e = whole
   where
     held : s .charges ≡ t .charges
-    held = charges-same (s .charges) (t .charges) (v .held .columns) (w .held .columns) (ap (λ (z : State). z .charges) e)
+    held = charges-same (s .charges) (t .charges) (v .columns) (w .columns) (ap (λ (z : State). z .charges) e)
 
     made : ℕ → ℕ → ℕ → ℕ → ℕ → Charges → Station
     made n c d k m h = record { limit = n; percent = c; bound = d; clock = k; next = m; charges = h }

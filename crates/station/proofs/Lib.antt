@@ -1,5 +1,7 @@
 pub mod Refusing
+pub mod Listing
 pub mod Opened
 pub mod Enquiring
+pub mod Ordered
 pub mod Moved
 pub mod Determined

@@ -1,17 +1,15 @@
--- A clock move: the plan stays sound, the station valid, and the result is that of the rules.
-use mathlib.Core.Path.{_≡_, refl, ap, sym, _∙_}
-use Prim.Native.Nat.{ℕ, _+_, _-_, _≤_}
-use mathlib.Core.Bool.{Bool, true, false, cond, not}
+-- A clock move: the result is that of the rules.
+use mathlib.Core.Path.{_≡_, ap, sym, _∙_}
+use Prim.Native.Nat.{ℕ, _-_, _≤_}
 use mathlib.Core.List.{List, [], _∷_, map}
 use native.Mathlib.Omega.{arith}
 use lib.Dec.{ltb}
 use lib.ListN.{length, length-map}
-use borrow.Author.Tests.{ltb-false, leb-true}
+use borrow.Author.Tests.{ltb-false}
 use Rattle.rules.specs.Basics.{firstOf}
-use Rattle.rules.specs.Load.{Limits, count, counts, sound}
-use Rattle.rules.specs.Charge.{Charge, loadOf, loadsOf, isFinished, unfinishedCharges}
-use Rattle.rules.specs.Calls.{moved, refusals, reported, pairs, written, moving, move, step, limitsOf}
-use Rattle.rules.proofs.Counts.{draws-after, sound-same, sound-from, sound-true}
+use Rattle.rules.specs.Load.{count}
+use Rattle.rules.specs.Charge.{Charge, unfinishedCharges}
+use Rattle.rules.specs.Calls.{moved, refusals, reported, pairs, written, moving, move, step}
 use Rattle.rules.proofs.Lists.{length-tabulate}
 use Rattle.charges.specs.declared.Charges.{Charges}
 use Rattle.charges.specs.declared.Places.{Places}
@@ -19,9 +17,8 @@ use Rattle.charges.specs.Arrays.{chargeAt, chargesOf, Holds}
 use Rattle.charges.specs.Places.{placeAt, placesOf, Ordered}
 use Rattle.charges.proofs.Storing.{holds-length}
 use Rattle.charges.proofs.Walking.{keep-length, isUnfinished}
-use Rattle.charges.proofs.Holding.{held-list, list-held, held-unfinished}
 use Rattle.station.specs.declared.Station.{Station}
-use Rattle.station.specs.View.{view, Valid}
+use Rattle.station.specs.View.{view}
 use Rattle.station.specs.Answers.{giving}
 use Rattle.station.proofs.Refusing.{none-refuses, call-granted}
 
@@ -42,35 +39,6 @@ move-granted s target list e =
       not-back = ltb-false target (s .clock) (three .0);
     }
 
--- finished charges draw nothing from the target on
-count-unfinished :
-    (target : ℕ) (xs : List Charge) (l t : ℕ)
-    → target ≤ t
-    → count (loadsOf (unfinishedCharges target xs)) l t ≡ count (loadsOf xs) l t
-count-unfinished target [] l t h = refl
-count-unfinished target (x ∷ xs) l t h = go (isFinished target x) refl (count-unfinished target xs l t h)
-  where
-    go :
-        (b : Bool)
-        → isFinished target x ≡ b
-        → count (loadsOf (unfinishedCharges target xs)) l t ≡ count (loadsOf xs) l t
-        → count (loadsOf (cond (not b) (x ∷ unfinishedCharges target xs) (unfinishedCharges target xs))) l t
-        ≡ count (loadsOf (x ∷ xs)) l t
-    go true e ih = rw (ih, draws-after (loadOf x) l t (omega (arith, leb-true (x .start + x .time) target e))) (omega arith)
-    go false e ih = rw ih
-
-sound-moved :
-    (y : Limits) (clock target : ℕ) (xs : List Charge)
-    → clock ≤ target
-    → sound y clock (loadsOf xs) ≡ true
-    → sound y target (loadsOf (unfinishedCharges target xs)) ≡ true
-sound-moved y clock target xs h e =
-    sound-true y target (loadsOf (unfinishedCharges target xs))
-    (λ t j.
-    sound-same y (counts (loadsOf xs) t) (counts (loadsOf (unfinishedCharges target xs)) t)
-    (λ l i. count-unfinished target xs l t j)
-    (sound-from y clock (loadsOf xs) e t (omega arith)))
-
 abbrev pub movedStation : Station → ℕ → Charges → Station
 movedStation s target left =
     record {
@@ -83,22 +51,6 @@ movedStation s target left =
     }
 
 module _ (s : Station) (target : ℕ) (left : Charges) (h : Holds (unfinishedCharges target (chargesOf (s .charges))) left) where
-  pub valid-moved : Valid s → target ≤ 1000000 → s .clock ≤ target → Valid (movedStation s target left)
-  valid-moved v a b =
-      record {
-        limit-some = v .limit-some;
-        limit-most = v .limit-most;
-        percent-most = v .percent-most;
-        bound-is = v .bound-is;
-        bound-some = v .bound-some;
-        clock-most = a;
-        next-some = v .next-some;
-        next-most = v .next-most;
-        held = list-held left h (held-unfinished target b (held-list (s .charges) (v .held)));
-        plan-sound =
-            rw (h .charges) (sound-moved (limitsOf (view s)) (s .clock) target (chargesOf (s .charges)) b (v .plan-sound));
-      }
-
   pub left-few : left .held ≤ s .charges .held
   left-few =
       omega (arith, holds-length h, keep-length (isUnfinished target) (chargesOf (s .charges)), length-tabulate (chargeAt (s .charges)) (s .charges .held) 0)

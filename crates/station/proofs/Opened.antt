@@ -1,5 +1,5 @@
 -- The fresh station is valid, and what an opening that is not refused has been given.
-use mathlib.Core.Path.{_≡_, refl, ap, sym, _∙_}
+use mathlib.Core.Path.{_≡_, ap, sym, _∙_}
 use Prim.Native.Nat.{ℕ, _*_, _/_, _≤_, _<_}
 use mathlib.Core.Bool.{_||_}
 use mathlib.Core.List.{[], _∷_}
@@ -8,14 +8,12 @@ use native.Mathlib.Nat.{mul-le-mul}
 use lib.Dec.{ltb}
 use borrow.Author.Tests.{ltb-false}
 use Rattle.rules.specs.Basics.{firstOf}
-use Rattle.rules.specs.Load.{sound}
 use Rattle.rules.specs.Calls.{State, refused, opened, boundOf, fresh, openRefusals, opening}
 use Rattle.rules.proofs.Ranges.{or-left, or-right}
 use Rattle.charges.specs.declared.Charges.{Charges}
 use Rattle.charges.specs.Arrays.{Holds}
-use Rattle.charges.proofs.Holding.{list-held, held-none}
 use Rattle.station.specs.declared.Station.{Station}
-use Rattle.station.specs.View.{view, Valid}
+use Rattle.station.specs.View.{view}
 use Rattle.station.specs.Answers.{giving}
 use Rattle.station.proofs.Refusing.{answering-refused, answering-granted, none-refuses}
 
@@ -43,22 +41,6 @@ freshStation n c h = record { limit = n; percent = c; bound = c * n / 100; clock
 module _ (n c : ℕ) (h : Charges) (none : Holds [] h) where
   pub view-fresh : view (freshStation n c h) ≡ fresh n c
   view-fresh = rw (none .charges)
-
-  pub valid-fresh : 1 ≤ n → n ≤ 60 → c ≤ 100 → 100 ≤ c * n → Valid (freshStation n c h)
-  unfolding sound
-  valid-fresh a b d e =
-      record {
-        limit-some = a;
-        limit-most = b;
-        percent-most = d;
-        bound-is = refl;
-        bound-some = omega arith;
-        clock-most = omega arith;
-        next-some = omega arith;
-        next-most = omega arith;
-        held = list-held h none (held-none 0 1);
-        plan-sound = rw (none .charges);
-      }
 
 -- The result of an opening
 

@@ -2,14 +2,16 @@
 use Prim.Native.Nat.{ℕ}
 use mathlib.Core.Path.{_≡_}
 use mathlib.Core.List.{List}
-use Rattle.rules.specs.Calls.{Answer, refused, opened, moved, waiting, charging, Result}
+use Rattle.rules.specs.Calls.{Answer, refused, opened, ordered, moved, waiting, charging, Result}
 use Rattle.station.specs.declared.Station.{Station}
 use Rattle.station.specs.declared.OpenAnswer.{OpenAnswer}
 use Rattle.station.specs.declared.OpenAnswer.the-variants.{Opened, Refused as OpenRefused}
-use Rattle.station.specs.declared.MoveAnswer.{MoveAnswer}
-use Rattle.station.specs.declared.MoveAnswer.the-variants.{Moved, Refused as MoveRefused}
-use Rattle.station.specs.declared.Enquiry.{Enquiry}
-use Rattle.station.specs.declared.Enquiry.the-variants.{Waiting, Charging, Refused as EnquiryRefused}
+use Rattle.station.specs.declared.order.OrderAnswer.{OrderAnswer}
+use Rattle.station.specs.declared.order.OrderAnswer.the-variants.{Ordered, Refused as OrderRefused}
+use Rattle.station.specs.declared.clock.MoveAnswer.{MoveAnswer}
+use Rattle.station.specs.declared.clock.MoveAnswer.the-variants.{Moved, Refused as MoveRefused}
+use Rattle.station.specs.declared.enquiry.Enquiry.{Enquiry}
+use Rattle.station.specs.declared.enquiry.Enquiry.the-variants.{Waiting, Charging, Refused as EnquiryRefused}
 use Rattle.station.specs.View.{view, Valid}
 
 -- an answer, the station beside it and the lent list, as a result of the rules
@@ -24,6 +26,10 @@ pub record Gives (r : Result) (answer : Answer) (s : Station) (list : List ℕ) 
 abbrev pub openAnswer : OpenAnswer → Answer
 openAnswer (Opened bound) = opened bound
 openAnswer (OpenRefused number) = refused number
+
+abbrev pub orderAnswer : OrderAnswer → Answer
+orderAnswer (Ordered ticket start) = ordered ticket start
+orderAnswer (OrderRefused number) = refused number
 
 abbrev pub moveAnswer : MoveAnswer → Answer
 moveAnswer (Moved reported dropped) = moved reported dropped

@@ -1,11 +1,16 @@
 // A charging station by value, and its calls.
+pub mod clock;
+pub mod enquiry;
+pub mod order;
+
 ghost use mathlib.Core.Path.{_≡_};
 ghost use mathlib.Core.List.{[]};
 ghost use Prim.Native.Nat.{_*_, _<_, _≤_};
 ghost use Rattle.rules.specs.Basics.{firstOf};
-ghost use Rattle.rules.specs.Calls.{fresh as freshState, openRefusals, opening, refusals, move as moveCall, enquire as enquireCall, step};
-ghost use Rattle.station.specs.View.{view, Valid};
-ghost use Rattle.station.specs.Answers.{giving, Gives, openAnswer, moveAnswer, enquiryAnswer};
+ghost use Rattle.rules.specs.Calls.{fresh as freshState, openRefusals, opening};
+ghost use Rattle.charges.specs.Arrays.{Columns};
+ghost use Rattle.station.specs.View.{view};
+ghost use Rattle.station.specs.Answers.{Gives, openAnswer};
 
 pub struct Station {
     limit: u32,
@@ -24,22 +29,6 @@ pub enum OpenAnswer {
 pub struct Opening {
     pub answer: OpenAnswer,
     pub station: Station,
-}
-
-pub enum MoveAnswer {
-    Moved { reported: usize, dropped: usize },
-    Refused(u32),
-}
-
-pub struct Moving {
-    pub answer: MoveAnswer,
-    pub station: Station,
-}
-
-pub enum Enquiry {
-    Waiting(u32),
-    Charging { start: u32, end: u32 },
-    Refused(u32),
 }
 
 // The number of the first refusal of an opening, 0 where none applies.
@@ -63,7 +52,7 @@ fn open_refusal(limit: u32, percent: u32) -> u32
 
 fn fresh(limit: u32, percent: u32) -> Station
     requires { ⌜ (1 ≤ limit) × (limit ≤ 60) × (percent ≤ 100) × (100 ≤ percent * limit) ⌝ }
-    ensures { λ r. ⌜ (view r ≡ freshState limit percent) × Valid r ⌝ }
+    ensures { λ r. ⌜ (view r ≡ freshState limit percent) × Columns (r .charges) ⌝ }
 {
     Station {
         limit,
@@ -91,70 +80,6 @@ impl Station {
         Opening {
             answer: OpenAnswer::Opened(station.bound),
             station,
-        }
-    }
-
-    // A start equal to the clock still waits.
-    pub fn enquire(self, ticket: u32) -> Enquiry
-        requires { ⌜ Valid self ⌝ }
-        ensures { λ r. ⌜ Gives (step (view self) (enquireCall ticket)) (enquiryAnswer r) self [] ⌝ }
-    {
-        let held = self.charges;
-        let charges::Place::At(i) = held.find(ticket) else {
-            return Enquiry::Refused(15);
-        };
-        let start = held.starts[i];
-        let time = held.times[i];
-        if start < self.clock {
-            Enquiry::Charging {
-                start,
-                end: start + time,
-            }
-        } else {
-            Enquiry::Waiting(start)
-        }
-    }
-
-    // The number of the first refusal of a clock move, 0 where none applies.
-    fn move_refusal(self, target: u32, report: &[u32]) -> u32
-        ensures { λ r. ⌜ r ≡ firstOf (refusals (view self) (moveCall target (now (report .entry)))) ⌝ }
-    {
-        if 1000000 < target {
-            return 8;
-        }
-        if report.len() < 360 {
-            return 9;
-        }
-        if target < self.clock {
-            return 12;
-        }
-        0
-    }
-
-    // Reports the charges that the clock passes, then drops the finished ones.
-    pub fn move_clock(self, target: u32, report: &mut [u32]) -> Moving
-        requires { ⌜ Valid self ⌝ }
-        ensures { λ r. ⌜ Gives (step (view self) (moveCall target (now (report .entry)))) (moveAnswer (r .answer)) (r .station) (now (report .exit)) ⌝ }
-    {
-        let refusal = self.move_refusal(target, report);
-        if 0 < refusal {
-            return Moving {
-                answer: MoveAnswer::Refused(refusal),
-                station: self,
-            };
-        }
-        let held = self.charges;
-        let passed = held.by_start(self.clock, target);
-        held.report(passed, report);
-        let left = held.unfinished(target);
-        let reported = passed.count;
-        let dropped = held.held - left.held;
-        let mut next = self;
-        next.clock = target;
-        next.charges = left;
-        Moving {
-            answer: MoveAnswer::Moved { reported, dropped },
-            station: next,
         }
     }
 }

@@ -1,5 +1,7 @@
 //! The same rules for speed: the baseline for run times. It goes over the minutes
-//! in which something changes and not over all of them.
+//! in which something changes and not over all of them. Its algorithms are those of
+//! the proved program, so that a ratio of run times measures the language and not
+//! the method.
 //!
 //! - `profile`: the counts as a sorted step function with its searches
 //! - `station`: the station and its calls

@@ -7,10 +7,9 @@ use crate::yard::Planned;
 pub const NO_START: u32 = 1;
 pub const ALLOWANCE_SPENT: u32 = 2;
 
-/// A plan that passed the test, with its profile and its lateness.
+/// A plan that passed the test, with its lateness.
 struct Passed {
     charges: Vec<Charge>,
-    profile: Profile<3>,
     lateness: u64,
 }
 
@@ -41,14 +40,14 @@ impl Station {
         if !profile.within_limit(self.rules) {
             return Err(5);
         }
-        if !profile.balanced(self.rules) {
+        if profile.first_unbalanced(self.rules).is_some() {
             return Err(6);
         }
         let lateness = lateness(&charges);
         if lateness >= held {
             return Err(7);
         }
-        Ok(Passed { charges, profile, lateness })
+        Ok(Passed { charges, lateness })
     }
 
     pub fn take_or_keep(&mut self, starts: &[u32], rounds: u32) -> Planned {
@@ -57,7 +56,6 @@ impl Station {
             Err(cause) => Planned { cause, before, after: before, rounds },
             Ok(passed) => {
                 self.charges = passed.charges;
-                self.profile = passed.profile;
                 Planned { cause: 0, before, after: passed.lateness, rounds }
             }
         }
@@ -88,7 +86,7 @@ impl Station {
         let mut profile = Profile::of(self.begun().map(Charge::load), self.clock);
         let waiting = self.in_latest_start_order();
         let mut starts = vec![0; waiting.len()];
-        let mut span = self.unsound_span(&profile);
+        let mut span = profile.unsound_span(self.rules);
         for (place, charge) in waiting {
             let (first, after) = span.take().unwrap_or((u32::MAX, 0));
             let least = after.saturating_sub(charge.time).max(self.clock);
@@ -101,13 +99,5 @@ impl Station {
             starts[place] = start;
         }
         Some(starts)
-    }
-
-    /// The first unsound minute and the one after the last.
-    fn unsound_span(&self, profile: &Profile<3>) -> Option<(u32, u32)> {
-        let unsound = |step: &usize| !self.rules.sound(profile.counts(*step));
-        let first = (0..profile.len()).find(unsound)?;
-        let last = (0..profile.len()).rfind(unsound)?;
-        Some((profile.from(first), profile.until(last)))
     }
 }

@@ -1,7 +1,7 @@
 //! "The **count** of a line in a minute": change minutes in rising order with the
-//! counts from there on. 180 charges make at most 361 steps, since every change
-//! is a start or an end, and the first step begins at the clock. The last step
-//! has no end and counts nothing.
+//! three counts from there on. 180 charges make at most 361 steps, since every
+//! change is a start or an end, and the first step begins at the clock. The last
+//! step has no end and counts nothing.
 
 /// Steps of 180 charges.
 const STEPS: usize = 361;
@@ -24,7 +24,7 @@ pub struct Rules {
 }
 
 impl Rules {
-    pub fn balanced(self, counts: [u8; 3]) -> bool {
+    fn balanced(self, counts: [u8; 3]) -> bool {
         let [a, b, c] = counts;
         a.max(b).max(c) - a.min(b).min(c) <= self.bound
     }
@@ -33,76 +33,31 @@ impl Rules {
         counts.iter().all(|count| *count <= self.limit)
     }
 
-    pub fn sound(self, counts: [u8; 3]) -> bool {
+    fn sound(self, counts: [u8; 3]) -> bool {
         self.within_limit(counts) && self.balanced(counts)
     }
 }
 
-/// Step k lasts from `from[k]` to the next one. `LINES` is 3 for a plan and 1
-/// where a line is looked at alone.
-#[derive(Clone)]
-pub struct Profile<const LINES: usize> {
+/// Step k lasts from `from[k]` to the next one.
+pub struct Profile {
     steps: usize,
     from: [u32; STEPS],
-    counts: [[u8; LINES]; STEPS],
+    counts: [[u8; 3]; STEPS],
 }
 
-impl<const LINES: usize> Profile<LINES> {
-    pub fn empty(clock: u32) -> Self {
+impl Profile {
+    /// Load after load, all unfinished, as the proved program makes it.
+    pub fn of(loads: impl Iterator<Item = Load>, clock: u32) -> Profile {
         let mut from = [0; STEPS];
         from[0] = clock;
-        Profile { steps: 1, from, counts: [[0; LINES]; STEPS] }
-    }
-
-    /// Made at once from many loads, all unfinished: changes sorted and swept.
-    pub fn of(loads: impl Iterator<Item = Load>, clock: u32) -> Self {
-        let mut profile = Self::empty(clock);
-        let mut changes = [0u64; STEPS];
-        let mut length = 0;
+        let mut profile = Profile { steps: 1, from, counts: [[0; 3]; STEPS] };
         for load in loads {
-            if load.from <= clock {
-                profile.counts[0][load.line] += 1;
-            } else {
-                changes[length] = change(load.from, load.line, true);
-                length += 1;
-            }
-            changes[length] = change(load.until, load.line, false);
-            length += 1;
-        }
-        changes[..length].sort_unstable();
-        for change in &changes[..length] {
-            profile.append(*change);
+            profile.add(Load { from: load.from.max(clock), ..load });
         }
         profile
     }
 
-    fn append(&mut self, change: u64) {
-        let minute = (change >> 8) as u32;
-        let line = (change >> 1 & 3) as usize;
-        let mut last = self.steps - 1;
-        if self.from[last] != minute {
-            self.from[last + 1] = minute;
-            self.counts[last + 1] = self.counts[last];
-            last += 1;
-            self.steps += 1;
-        }
-        let count = &mut self.counts[last][line];
-        *count = if change & 1 == 1 { *count + 1 } else { *count - 1 };
-    }
-
-    pub fn len(&self) -> usize {
-        self.steps
-    }
-
-    pub fn counts(&self, step: usize) -> [u8; LINES] {
-        self.counts[step]
-    }
-
-    pub fn from(&self, step: usize) -> u32 {
-        self.from[step]
-    }
-
-    pub fn until(&self, step: usize) -> u32 {
+    fn until(&self, step: usize) -> u32 {
         if step + 1 < self.steps {
             self.from[step + 1]
         } else {
@@ -111,7 +66,7 @@ impl<const LINES: usize> Profile<LINES> {
     }
 
     /// The step that a minute lies in.
-    pub fn step_of(&self, minute: u32) -> usize {
+    fn step_of(&self, minute: u32) -> usize {
         self.from[..self.steps].partition_point(|from| *from <= minute) - 1
     }
 
@@ -137,19 +92,10 @@ impl<const LINES: usize> Profile<LINES> {
         step + 1
     }
 
-    /// Forgets the minutes below the new clock.
-    pub fn cut(&mut self, clock: u32) {
-        let first = self.step_of(clock);
-        self.from.copy_within(first..self.steps, 0);
-        self.counts.copy_within(first..self.steps, 0);
-        self.from[0] = clock;
-        self.steps -= first;
-    }
-
     /// The first start from `least` on with `time` minutes in a row that have
     /// room. `room` answers, for a step's counts, the minute before which it has
     /// room. After a failing minute the next candidate is the end of that step.
-    pub fn first_run(&self, least: u32, time: u32, room: impl Fn([u8; LINES]) -> u32) -> u32 {
+    pub fn first_run(&self, least: u32, time: u32, room: impl Fn([u8; 3]) -> u32) -> u32 {
         let mut start = least;
         let mut step = self.step_of(least);
         loop {
@@ -164,23 +110,6 @@ impl<const LINES: usize> Profile<LINES> {
             step += 1;
         }
     }
-}
-
-/// Sorts by minute; the sweep needs no order within a minute but that starts
-/// come first, so that no count falls below zero on the way.
-fn change(minute: u32, line: usize, start: bool) -> u64 {
-    let ends = u64::from(!start) << 7;
-    u64::from(minute) << 8 | ends | (line as u64) << 1 | u64::from(start)
-}
-
-impl Profile<3> {
-    pub fn within_limit(&self, rules: Rules) -> bool {
-        self.counts[..self.steps].iter().all(|counts| rules.within_limit(*counts))
-    }
-
-    pub fn balanced(&self, rules: Rules) -> bool {
-        self.counts[..self.steps].iter().all(|counts| rules.balanced(*counts))
-    }
 
     /// The smallest start from `least` on at which one more load on the line
     /// leaves its own minutes sound.
@@ -193,5 +122,24 @@ impl Profile<3> {
                 0
             }
         })
+    }
+
+    pub fn within_limit(&self, rules: Rules) -> bool {
+        self.counts[..self.steps].iter().all(|counts| rules.within_limit(*counts))
+    }
+
+    /// The first minute in which two counts differ by more than D, with the counts.
+    pub fn first_unbalanced(&self, rules: Rules) -> Option<(u32, [u8; 3])> {
+        let steps = &self.counts[..self.steps];
+        let step = steps.iter().position(|counts| !rules.balanced(*counts))?;
+        Some((self.from[step], self.counts[step]))
+    }
+
+    /// The first unsound minute and the one after the last.
+    pub fn unsound_span(&self, rules: Rules) -> Option<(u32, u32)> {
+        let unsound = |step: &usize| !rules.sound(self.counts[*step]);
+        let first = (0..self.steps).find(unsound)?;
+        let last = (0..self.steps).rfind(unsound)?;
+        Some((self.from[first], self.until(last)))
     }
 }

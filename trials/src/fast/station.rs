@@ -1,5 +1,6 @@
-//! The station and its calls. It holds the profile of its plan from the clock on,
-//! so that an order costs one search and one addition.
+//! The station and its calls. Like the proved station it holds its charges and no
+//! profile: each call that looks at minutes makes the profile anew. A station that
+//! kept it from call to call would save that; docs/BENCHMARKS.md says how much.
 
 use super::profile::{Load, Profile, Rules};
 use crate::yard::{Found, Moved, Ordered, Planned, Refusal, Yard};
@@ -37,7 +38,6 @@ pub struct Station {
     pub clock: u32,
     next_ticket: u32,
     pub charges: Vec<Charge>,
-    pub profile: Profile<3>,
 }
 
 impl Station {
@@ -47,7 +47,6 @@ impl Station {
             clock: 0,
             next_ticket: 1,
             charges: Vec::with_capacity(PLACES),
-            profile: Profile::empty(0),
         }
     }
 
@@ -103,11 +102,10 @@ impl Yard for Station {
     fn order(&mut self, line: u32, time: u32, due: u32) -> Result<Ordered, Refusal> {
         self.check_order(line, time, due)?;
         let line = line as usize - 1;
-        let start = self.profile.earliest(line, time, self.clock, self.rules);
+        let profile = Profile::of(self.charges.iter().map(Charge::load), self.clock);
+        let start = profile.earliest(line, time, self.clock, self.rules);
         let ticket = self.next_ticket;
-        let charge = Charge { ticket, line, time, due, start };
-        self.profile.add(charge.load());
-        self.charges.push(charge);
+        self.charges.push(Charge { ticket, line, time, due, start });
         self.next_ticket += 1;
         Ok(Ordered { ticket, start: u64::from(start) })
     }
@@ -134,7 +132,6 @@ impl Yard for Station {
         }
         let held = self.charges.len();
         self.charges.retain(|charge| charge.end() > target);
-        self.profile.cut(target);
         self.clock = target;
         Ok(Moved { reported: passed.len(), dropped: held - self.charges.len() })
     }

@@ -2,86 +2,15 @@
 //! ways to spread cars over the lines, N 20, 30 or 40, and Δ 0.2 to 0.8.
 
 use super::author::Author;
+use super::cars::{self, Car};
 
-struct Car {
-    arrival: u64,
-    line: u32,
-    time: u32,
-    due: u32,
-}
-
-/// Table 1: of a hundred cars so many arrive around a mean with a deviation;
-/// the rest arrives at any time of the day.
-type Peaks = &'static [(u64, i64, i64)];
-const PEAKS_1: Peaks = &[(20, 510, 15), (10, 720, 15), (50, 1170, 15), (10, 1350, 15)];
-const PEAKS_2_3: Peaks = &[(80, 870, 30)];
-
-fn arrival(author: &mut Author, scenario: u64) -> u64 {
-    let peaks = if scenario == 1 { PEAKS_1 } else { PEAKS_2_3 };
-    let mut draw = author.random.below(100);
-    for (share, mean, deviation) in peaks {
-        if draw < *share {
-            return author.random.normal(*mean, *deviation).clamp(0, 1_440) as u64;
-        }
-        draw -= share;
-    }
-    author.random.between(0, 1_440)
-}
-
-/// Table 2: share, initial charge in tenths of a percent with its deviation,
-/// mean of the due minutes after arrival in scenarios 1 and 2, and in 3.
-const BATTERIES: [(u64, i64, i64, i64, i64); 4] = [
-    (10, 800, 100, 240, 120),
-    (30, 500, 150, 360, 300),
-    (30, 350, 75, 480, 360),
-    (30, 120, 60, 660, 540),
-];
-
-/// Charging time and minutes until due. A full charge is 23 kWh at 2.3 kW, which
-/// is 600 minutes. "the charging time is set as p = d − t if the randomly
-/// generated value were larger than this".
-fn battery(author: &mut Author, scenario: u64) -> (u32, u32) {
-    let mut draw = author.random.below(100);
-    let mut row = 0;
-    while draw >= BATTERIES[row].0 {
-        draw -= BATTERIES[row].0;
-        row += 1;
-    }
-    let (_, charge, deviation, loose, tight) = BATTERIES[row];
-    let charge = author.random.normal(charge, deviation).clamp(0, 990);
-    let until_due = match scenario {
-        3 => author.random.normal(tight, 60),
-        _ => author.random.normal(loose, 120),
-    };
-    let until_due = until_due.max(1);
-    let time = ((1_000 - charge) * 600 / 1_000).min(until_due);
-    (time as u32, until_due as u32)
-}
-
-/// Type 1 spreads evenly, type 2 by 10, 30 and 60 of a hundred.
-fn line(author: &mut Author, even: bool) -> u32 {
-    if even {
-        return author.random.between(1, 3) as u32;
-    }
-    match author.random.below(100) {
-        0..=9 => 1,
-        10..=39 => 2,
-        _ => 3,
-    }
-}
-
+/// A scenario and a spread drawn by lot, with fewer cars than the station has places
+/// at times.
 fn cars(author: &mut Author) -> Vec<Car> {
     let scenario = author.random.between(1, 3);
     let even = author.random.percent(50);
-    let mut cars = Vec::new();
-    for _ in 0..author.random.between(40, 180) {
-        let arrival = arrival(author, scenario);
-        let line = line(author, even);
-        let (time, until_due) = battery(author, scenario);
-        cars.push(Car { arrival, line, time, due: arrival as u32 + until_due });
-    }
-    cars.sort_by_key(|car| car.arrival);
-    cars
+    let count = author.random.between(40, 180);
+    cars::of_day(&mut author.random, scenario, even, count)
 }
 
 fn supervise(author: &mut Author) {
@@ -97,8 +26,8 @@ pub fn write(author: &mut Author) {
     let percent = author.random.pick(&[20, 40, 60, 80]);
     author.open(limit, percent);
     for car in cars(author) {
-        if car.arrival as u32 > author.clock() {
-            author.move_to(car.arrival as u32);
+        if car.arrival > author.clock() {
+            author.move_to(car.arrival);
         }
         author.order(car.line, car.time, car.due);
         if author.random.percent(6) {

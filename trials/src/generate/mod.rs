@@ -3,6 +3,7 @@
 //! in one run of a program.
 
 mod author;
+pub mod cars;
 mod due;
 mod edges;
 mod evening;

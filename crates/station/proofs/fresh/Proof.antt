@@ -1,5 +1,5 @@
 use native.Mathlib.Omega.{arith}
-use Rattle.station.proofs.Opened.{product-most, view-fresh, valid-fresh}
+use Rattle.station.proofs.Opened.{product-most, view-fresh}
 use borrow.Author.Needs.{needs}
 use Rattle.station.proofs.fresh.Statement.{statement}
 use Rattle.station.proofs.fresh.Tie as tie
@@ -11,11 +11,7 @@ none-requires : tie.Need-none-requires
 none-requires c κs = search needs
 
 returns : tie.Need-returns
-returns c =
-    let s = c .before in (
-      view-fresh _ _ _ (c .none .ensures),
-      valid-fresh _ _ _ (c .none .ensures) (s .pre .0) (s .pre .1) (s .pre .2) (s .pre .3),
-    )
+returns c = (view-fresh _ _ _ (c .none .ensures), c .none .ensures .columns)
 
 pub fresh-spec : {M : Type 1} → statement M
 fresh-spec = tie.close (tie.spec mul-t3 none-requires returns)

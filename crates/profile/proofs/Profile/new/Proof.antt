@@ -1,13 +1,11 @@
 -- `profile::Profile::new` meets its contract.
 use borrow.Author.Needs.{needs}
-use mathlib.Core.Path.{_≡_, refl}
+use mathlib.Core.Path.{refl}
 use native.Mathlib.Omega.{arith}
-use Rattle.profile.proofs.Lines.{each-line, line-one, line-two, line-three}
+use Rattle.profile.proofs.Lines.{each-line}
 use Rattle.profile.proofs.Adds.{shows-none}
 use Rattle.profile.proofs.Profile.new.Statement.{statement}
 use Rattle.profile.proofs.Profile.new.Tie as tie
-use Rattle.profile.proofs.Profile.new.Reads as reads
-use Rattle.profile.proofs.Profile.new.Lts as lts
 
 array-write-at : tie.Need-array-write-at
 array-write-at c = search needs

@@ -1,5 +1,5 @@
 -- `profile::Profile::of` meets its contract. The invariant: the lists show the first i loads.
-use Prim.Native.Nat.{ℕ, _+_, _-_, _≤_, _<_}
+use Prim.Native.Nat.{ℕ, _-_, _≤_}
 use mathlib.Core.Path.{_≡_, subst}
 use native.Mathlib.Omega.{arith}
 use borrow.Author.Needs.{needs}
@@ -7,10 +7,6 @@ use Rattle.profile.specs.Shows.{profileOf, Shows, loadsIn}
 use Rattle.profile.proofs.Adds.{can-add, length-loads, loads-more}
 use Rattle.profile.proofs.Profile.of.Statement.{statement}
 use Rattle.profile.proofs.Profile.of.Tie as tie
-use Rattle.profile.proofs.Profile.of.Reads as reads
-use Rattle.profile.proofs.Profile.of.Lts as lts
-use Rattle.profile.proofs.Profile.new.Reads as new-reads
-use Rattle.profile.proofs.loads.add.Reads as add-reads
 
 abbrev Inv-loop : tie.InvT-loop
 Inv-loop lines times starts n clock steps₀ at₀ one₀ two₀ three₀ i₀ steps at one two three i = (i ≤ n) × Shows (profileOf steps at one two three) clock (loadsIn lines times starts i)

@@ -3,8 +3,6 @@ use borrow.Author.Needs.{needs}
 use borrow.Author.Tests.{eq-eqb, ne-eqb}
 use Rattle.profile.proofs.balance.count_of.Statement.{statement}
 use Rattle.profile.proofs.balance.count_of.Tie as tie
-use Rattle.profile.proofs.balance.count_of.Reads as reads
-use Rattle.profile.proofs.balance.count_of.Lts as lts
 
 mul-result : tie.Need-mul-result
 mul-result c = search needs

@@ -1,5 +1,5 @@
 -- `profile::balance::first_unbalanced` meets its contract. The outer loop's invariant: every minute before step i is in balance. The inner loop's: in step i each line before `line` is near the next one.
-use Prim.Native.Nat.{ℕ, _+_, _-_, _≤_, _<_}
+use Prim.Native.Nat.{_-_, _<_}
 use native.Mathlib.Omega.{arith}
 use borrow.Author.Needs.{needs}
 use Rattle.rules.proofs.Counts.{Balanced}
@@ -7,10 +7,6 @@ use Rattle.profile.specs.Shows.{profileOf}
 use Rattle.profile.proofs.Balances.{Walked, walked-none, walked-more, walked-done, balanced-respects, Compared, compared-none, compared-more, compared-off, compared-all, unbalanced-never, unbalanced-at}
 use Rattle.profile.proofs.balance.first_unbalanced.Statement.{statement}
 use Rattle.profile.proofs.balance.first_unbalanced.Tie as tie
-use Rattle.profile.proofs.balance.first_unbalanced.Reads as reads
-use Rattle.profile.proofs.balance.first_unbalanced.Lts as lts
-use Rattle.profile.proofs.balance.count_of.Reads as count-of-reads
-use Rattle.profile.proofs.balance.difference.Reads as difference-reads
 
 abbrev Inv-loop : tie.InvT-loop
 Inv-loop at one two three n bound i line₀ line = Compared (profileOf n at one two three) i bound line

@@ -3,9 +3,6 @@ use borrow.Author.Needs.{needs}
 use Rattle.profile.proofs.Balances.{largest-pick}
 use Rattle.profile.proofs.balance.largest_line.Statement.{statement}
 use Rattle.profile.proofs.balance.largest_line.Tie as tie
-use Rattle.profile.proofs.balance.largest_line.Reads as reads
-use Rattle.profile.proofs.balance.largest_line.Lts as lts
-use Rattle.profile.proofs.counts.larger.Reads as larger-reads
 
 larger-requires : tie.Need-larger-requires
 larger-requires c κs = search needs

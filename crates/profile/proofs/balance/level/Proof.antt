@@ -5,10 +5,6 @@ use Rattle.profile.specs.Shows.{profileOf, lineOf}
 use Rattle.profile.proofs.Levels.{level-in}
 use Rattle.profile.proofs.balance.level.Statement.{statement}
 use Rattle.profile.proofs.balance.level.Tie as tie
-use Rattle.profile.proofs.balance.level.Reads as reads
-use Rattle.profile.proofs.balance.level.Lts as lts
-use Rattle.profile.proofs.balance.count_of.Reads as count-of-reads
-use Rattle.profile.proofs.steps.place.Reads as place-reads
 
 place-requires : tie.Need-place-requires
 place-requires c κs = search needs

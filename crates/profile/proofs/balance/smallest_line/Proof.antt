@@ -3,9 +3,6 @@ use borrow.Author.Needs.{needs}
 use Rattle.profile.proofs.Balances.{smallest-pick}
 use Rattle.profile.proofs.balance.smallest_line.Statement.{statement}
 use Rattle.profile.proofs.balance.smallest_line.Tie as tie
-use Rattle.profile.proofs.balance.smallest_line.Reads as reads
-use Rattle.profile.proofs.balance.smallest_line.Lts as lts
-use Rattle.profile.proofs.counts.smaller.Reads as smaller-reads
 
 smaller-requires : tie.Need-smaller-requires
 smaller-requires c κs = search needs

@@ -1,5 +1,5 @@
 -- `profile::balance::within_limit` meets its contract. The invariant: every minute before step i is within the limit.
-use Prim.Native.Nat.{ℕ, _+_, _-_, _≤_, _<_}
+use Prim.Native.Nat.{_-_}
 use mathlib.Core.Path.{refl}
 use native.Mathlib.Omega.{arith}
 use borrow.Author.Needs.{needs}
@@ -8,9 +8,6 @@ use Rattle.profile.specs.Shows.{profileOf}
 use Rattle.profile.proofs.Balances.{Walked, walked-none, walked-more, walked-done, limited-respects, limited-step, limit-kept, limit-broken, limit-above}
 use Rattle.profile.proofs.balance.within_limit.Statement.{statement}
 use Rattle.profile.proofs.balance.within_limit.Tie as tie
-use Rattle.profile.proofs.balance.within_limit.Reads as reads
-use Rattle.profile.proofs.balance.within_limit.Lts as lts
-use Rattle.profile.proofs.counts.larger.Reads as larger-reads
 
 abbrev Inv-loop : tie.InvT-loop
 Inv-loop at one two three n limit i₀ i = Walked (Limited limit) (profileOf n at one two three) i

@@ -2,8 +2,6 @@
 use borrow.Author.Tests.{eq-eqb, ne-eqb}
 use Rattle.profile.proofs.caps.first_place.Statement.{statement}
 use Rattle.profile.proofs.caps.first_place.Tie as tie
-use Rattle.profile.proofs.caps.first_place.Reads as reads
-use Rattle.profile.proofs.caps.first_place.Lts as lts
 
 returns : tie.Need-returns
 returns c = simp (eq-eqb _ _ (c .if1 .taken))

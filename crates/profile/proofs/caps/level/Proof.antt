@@ -1,5 +1,5 @@
 -- `profile::caps::level` meets its contract. The invariant: the first k places are as they should be.
-use Prim.Native.Nat.{ℕ, _+_, _-_, _≤_, _<_}
+use Prim.Native.Nat.{ℕ, _-_, _≤_}
 use mathlib.Core.Path.{_≡_, refl, subst}
 use native.Mathlib.Omega.{arith}
 use lib.ListN.{getD-replicate}
@@ -7,8 +7,6 @@ use Rattle.profile.specs.Caps.{Level}
 use Rattle.profile.proofs.Lowerings.{level-none, level-more}
 use Rattle.profile.proofs.caps.level.Statement.{statement}
 use Rattle.profile.proofs.caps.level.Tie as tie
-use Rattle.profile.proofs.caps.level.Reads as reads
-use Rattle.profile.proofs.caps.level.Lts as lts
 
 abbrev Inv-loop : tie.InvT-loop
 Inv-loop n caps₀ k₀ caps k = (k ≤ n) × Level k caps

@@ -1,13 +1,10 @@
 -- `profile::caps::lower` meets its contract. The invariant: the places from v up to k are lowered.
-use Prim.Native.Nat.{ℕ, _+_, _-_, _≤_, _<_}
+use Prim.Native.Nat.{_-_}
 use native.Mathlib.Omega.{arith}
 use borrow.Author.Needs.{needs}
 use Rattle.profile.proofs.Lowerings.{Lowering, lowering-none, lowering-more, lowering-done}
 use Rattle.profile.proofs.caps.lower.Statement.{statement}
 use Rattle.profile.proofs.caps.lower.Tie as tie
-use Rattle.profile.proofs.caps.lower.Reads as reads
-use Rattle.profile.proofs.caps.lower.Lts as lts
-use Rattle.profile.proofs.counts.smaller.Reads as smaller-reads
 
 abbrev Inv-loop : tie.InvT-loop
 Inv-loop caps₀ v t k₀ caps k = Lowering caps₀ caps v t k

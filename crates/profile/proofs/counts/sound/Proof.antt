@@ -5,10 +5,6 @@ use Rattle.rules.specs.Load.{limits}
 use Rattle.profile.proofs.Lines.{sound-not, sound-is}
 use Rattle.profile.proofs.counts.sound.Statement.{statement}
 use Rattle.profile.proofs.counts.sound.Tie as tie
-use Rattle.profile.proofs.counts.sound.Reads as reads
-use Rattle.profile.proofs.counts.sound.Lts as lts
-use Rattle.profile.proofs.counts.larger.Reads as larger-reads
-use Rattle.profile.proofs.counts.smaller.Reads as smaller-reads
 
 larger-requires : tie.Need-larger-requires
 larger-requires c κs = search needs

@@ -1,18 +1,12 @@
 -- `profile::loads::add` meets its contract.
 use borrow.Author.Needs.{needs}
-use mathlib.Core.Path.{_≡_, refl, subst}
+use mathlib.Core.Path.{refl, subst}
 use native.Mathlib.Omega.{arith}
 use Rattle.profile.specs.Steps.{Raised}
 use Rattle.profile.proofs.Lines.{each-line, line-one, line-two, line-three}
 use Rattle.profile.proofs.Adds.{add-none, raise-can, add-shown}
 use Rattle.profile.proofs.loads.add.Statement.{statement}
 use Rattle.profile.proofs.loads.add.Tie as tie
-use Rattle.profile.proofs.loads.add.Reads as reads
-use Rattle.profile.proofs.loads.add.Lts as lts
-use Rattle.profile.proofs.counts.larger.Reads as larger-reads
-use Rattle.profile.proofs.counts.share_of.Reads as share-of-reads
-use Rattle.profile.proofs.loads.split.Reads as split-reads
-use Rattle.profile.proofs.steps.raise.Reads as raise-reads
 
 add-until : tie.Need-add-until
 add-until c = search needs

@@ -1,15 +1,11 @@
 -- `profile::loads::split` meets its contract.
 use borrow.Author.Needs.{needs}
-use mathlib.Core.Path.{_≡_, refl}
+use mathlib.Core.Path.{refl}
 use native.Mathlib.Omega.{arith}
 use Rattle.profile.proofs.Lines.{each-line, line-one, line-two, line-three}
 use Rattle.profile.proofs.Adds.{split-none, split-some}
 use Rattle.profile.proofs.loads.split.Statement.{statement}
 use Rattle.profile.proofs.loads.split.Tie as tie
-use Rattle.profile.proofs.loads.split.Reads as reads
-use Rattle.profile.proofs.loads.split.Lts as lts
-use Rattle.profile.proofs.steps.insert.Reads as insert-reads
-use Rattle.profile.proofs.steps.place.Reads as place-reads
 
 place-requires : tie.Need-place-requires
 place-requires c κs = search needs

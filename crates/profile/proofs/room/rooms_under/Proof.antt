@@ -1,15 +1,11 @@
 -- `profile::room::rooms_under` meets its contract. The invariant: the first i places are as they should be.
-use Prim.Native.Nat.{ℕ, _+_, _-_, _≤_, _<_}
+use Prim.Native.Nat.{ℕ, _-_, _≤_}
 use mathlib.Core.Path.{_≡_, refl, subst}
 use native.Mathlib.Omega.{arith}
-use borrow.Author.Needs.{needs}
 use Rattle.profile.specs.Caps.{RoomsUnder}
 use Rattle.profile.proofs.Lowerings.{under-none, under-more}
 use Rattle.profile.proofs.room.rooms_under.Statement.{statement}
 use Rattle.profile.proofs.room.rooms_under.Tie as tie
-use Rattle.profile.proofs.room.rooms_under.Reads as reads
-use Rattle.profile.proofs.room.rooms_under.Lts as lts
-use Rattle.profile.proofs.room.under.Reads as under-reads
 
 abbrev Inv-loop : tie.InvT-loop
 Inv-loop counts caps n rooms₀ i₀ rooms i = (i ≤ n) × RoomsUnder counts caps i rooms

@@ -1,19 +1,13 @@
 -- `profile::room::rooms_within` meets its contract. The invariant: the first i places are as they should be.
-use Prim.Native.Nat.{ℕ, _+_, _-_, _≤_, _<_}
-use mathlib.Core.Path.{_≡_, refl, sym, _∙_, ap, subst}
-use mathlib.Core.Bool.{Bool, cond}
+use Prim.Native.Nat.{ℕ, _-_, _≤_}
+use mathlib.Core.Path.{_≡_, refl, subst}
 use native.Mathlib.Omega.{arith}
 use borrow.Author.Needs.{needs}
-use Rattle.rules.specs.Load.{limits}
 use Rattle.profile.specs.Rooms.{RoomsWithin}
-use Rattle.profile.proofs.Lines.{each-line, line-one, line-two, line-three}
+use Rattle.profile.proofs.Lines.{line-one, line-two, line-three}
 use Rattle.profile.proofs.Starts.{within-none, within-more}
 use Rattle.profile.proofs.room.rooms_within.Statement.{statement}
 use Rattle.profile.proofs.room.rooms_within.Tie as tie
-use Rattle.profile.proofs.room.rooms_within.Reads as reads
-use Rattle.profile.proofs.room.rooms_within.Lts as lts
-use Rattle.profile.proofs.counts.share_of.Reads as share-of-reads
-use Rattle.profile.proofs.room.within.Reads as within-reads
 
 abbrev Inv-loop : tie.InvT-loop
 Inv-loop one two three n limit bound line rooms₀ a b c i₀ rooms i = (i ≤ n) × RoomsWithin one two three i limit bound line rooms

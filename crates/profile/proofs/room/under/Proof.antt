@@ -5,8 +5,6 @@ use native.Mathlib.Omega.{arith}
 use Rattle.profile.proofs.Lowerings.{past-end}
 use Rattle.profile.proofs.room.under.Statement.{statement}
 use Rattle.profile.proofs.room.under.Tie as tie
-use Rattle.profile.proofs.room.under.Reads as reads
-use Rattle.profile.proofs.room.under.Lts as lts
 
 mul-result : tie.Need-mul-result
 mul-result c = search needs

@@ -3,9 +3,6 @@ use borrow.Author.Needs.{needs}
 use mathlib.Core.Path.{refl}
 use Rattle.profile.proofs.room.within.Statement.{statement}
 use Rattle.profile.proofs.room.within.Tie as tie
-use Rattle.profile.proofs.room.within.Reads as reads
-use Rattle.profile.proofs.room.within.Lts as lts
-use Rattle.profile.proofs.counts.sound.Reads as sound-reads
 
 sound-requires : tie.Need-sound-requires
 sound-requires c κs = search needs

@@ -1,14 +1,10 @@
 -- `profile::search::first_failing` meets its contract. The invariant: every minute before t has room, and t lies in step i.
-use Prim.Native.Nat.{ℕ, _+_, _-_, _≤_, _<_}
+use Prim.Native.Nat.{_-_}
 use native.Mathlib.Omega.{arith}
 use borrow.Author.Needs.{needs}
 use Rattle.profile.proofs.Rooms.{Walk, walk-fails, walk-on}
 use Rattle.profile.proofs.search.first_failing.Statement.{statement}
 use Rattle.profile.proofs.search.first_failing.Tie as tie
-use Rattle.profile.proofs.search.first_failing.Reads as reads
-use Rattle.profile.proofs.search.first_failing.Lts as lts
-use Rattle.profile.proofs.counts.larger.Reads as larger-reads
-use Rattle.profile.proofs.search.end_of.Reads as end-of-reads
 
 abbrev Inv-loop : tie.InvT-loop
 Inv-loop at rooms n step from until i₀ t₀ i t = Walk at rooms n from until i t

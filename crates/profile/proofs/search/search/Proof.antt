@@ -1,14 +1,10 @@
 -- `profile::search::search` meets its contract. The invariant: no start below s will do, and s lies in step i.
-use Prim.Native.Nat.{ℕ, _+_, _-_, _≤_, _<_}
+use Prim.Native.Nat.{_-_}
 use native.Mathlib.Omega.{arith}
 use borrow.Author.Needs.{needs}
 use Rattle.profile.proofs.Rooms.{told-at, told-nothing, Seek, seek-start, seek-below, seek-order, seek-on, seek-done}
 use Rattle.profile.proofs.search.search.Statement.{statement}
 use Rattle.profile.proofs.search.search.Tie as tie
-use Rattle.profile.proofs.search.search.Reads as reads
-use Rattle.profile.proofs.search.search.Lts as lts
-use Rattle.profile.proofs.search.first_failing.Reads as first-failing-reads
-use Rattle.profile.proofs.steps.place.Reads as place-reads
 
 abbrev Inv-loop : tie.InvT-loop
 Inv-loop at rooms n time start i₀ s₀ i s = Seek at rooms n time start i s

@@ -1,13 +1,10 @@
 -- `profile::search::settled` meets its contract. The invariant: every minute from step i on has room.
-use Prim.Native.Nat.{ℕ, _+_, _-_, _≤_, _<_}
+use Prim.Native.Nat.{_-_}
 use native.Mathlib.Omega.{arith}
-use borrow.Author.Needs.{needs}
 use Rattle.profile.proofs.Levels.{rising-le}
 use Rattle.profile.proofs.Rooms.{Rest, rest-start, rest-on, rest-off, rest-done, all-of}
 use Rattle.profile.proofs.search.settled.Statement.{statement}
 use Rattle.profile.proofs.search.settled.Tie as tie
-use Rattle.profile.proofs.search.settled.Reads as reads
-use Rattle.profile.proofs.search.settled.Lts as lts
 
 abbrev Inv-loop : tie.InvT-loop
 Inv-loop at rooms n i₀ i = Rest at rooms n i

@@ -6,9 +6,6 @@ use Rattle.profile.proofs.Lines.{line-one, line-two, line-three}
 use Rattle.profile.proofs.Lowerings.{can-under, cap-at, start-under-at}
 use Rattle.profile.proofs.start.earliest_under.Statement.{statement}
 use Rattle.profile.proofs.start.earliest_under.Tie as tie
-use Rattle.profile.proofs.start.earliest_under.Reads as reads
-use Rattle.profile.proofs.start.earliest_under.Lts as lts
-use Rattle.profile.proofs.start.under_cap.Reads as under-cap-reads
 
 under-cap-requires : tie.Need-under-cap-requires
 under-cap-requires c κs =

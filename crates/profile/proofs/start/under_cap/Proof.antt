@@ -3,10 +3,6 @@ use borrow.Author.Needs.{needs}
 use Rattle.profile.proofs.Lowerings.{under-search, under-least}
 use Rattle.profile.proofs.start.under_cap.Statement.{statement}
 use Rattle.profile.proofs.start.under_cap.Tie as tie
-use Rattle.profile.proofs.start.under_cap.Reads as reads
-use Rattle.profile.proofs.start.under_cap.Lts as lts
-use Rattle.profile.proofs.room.rooms_under.Reads as rooms-under-reads
-use Rattle.profile.proofs.search.search.Reads as search-reads
 
 rooms-under-requires : tie.Need-rooms-under-requires
 rooms-under-requires c κs = search needs

@@ -1,17 +1,12 @@
 -- `profile::start::unsound_minutes` meets its contract.
 use borrow.Author.Needs.{needs}
-use Prim.Native.Nat.{ℕ, _+_, _-_, _≤_, _<_}
+use Prim.Native.Nat.{_-_}
 use native.Mathlib.Omega.{arith}
 use Rattle.profile.proofs.Levels.{at-step}
 use Rattle.profile.proofs.Rooms.{told-at, told-nothing}
 use Rattle.profile.proofs.Starts.{within-rests, within-all, start-small, unsound-none, unsound-some}
 use Rattle.profile.proofs.start.unsound_minutes.Statement.{statement}
 use Rattle.profile.proofs.start.unsound_minutes.Tie as tie
-use Rattle.profile.proofs.start.unsound_minutes.Reads as reads
-use Rattle.profile.proofs.start.unsound_minutes.Lts as lts
-use Rattle.profile.proofs.room.rooms_within.Reads as rooms-within-reads
-use Rattle.profile.proofs.search.first_failing.Reads as first-failing-reads
-use Rattle.profile.proofs.search.settled.Reads as settled-reads
 
 rooms-within-requires : tie.Need-rooms-within-requires
 rooms-within-requires c κs = (c .pre .0 .formed .fits, start-small (c .pre .0))

@@ -1,14 +1,11 @@
 -- `profile::steps::insert` meets its contract. The invariant: up to j nothing has moved, and what stood from j on stands one place later.
-use Prim.Native.Nat.{ℕ, suc, _≤_, _<_, _-_}
-use mathlib.Core.Path.{_≡_, refl, sym, _∙_, ap}
+use Prim.Native.Nat.{_-_}
+use mathlib.Core.Path.{refl}
 use native.Mathlib.Omega.{arith}
 use borrow.Author.Needs.{needs}
-use lib.ListN.{length, getD}
 use Rattle.profile.proofs.Levels.{Moved, moved-on, moved-done}
 use Rattle.profile.proofs.steps.insert.Statement.{statement}
 use Rattle.profile.proofs.steps.insert.Tie as tie
-use Rattle.profile.proofs.steps.insert.Reads as reads
-use Rattle.profile.proofs.steps.insert.Lts as lts
 
 abbrev Inv-loop : tie.InvT-loop
 Inv-loop a₀ n k v j₀ a j = Moved a₀ a n k j

@@ -1,15 +1,10 @@
 -- `profile::steps::place` meets its contract. The invariant: step `low` has begun by t, and no step from `high` on has.
-use Prim.Native.Nat.{ℕ, suc, _≤_, _<_, _-_, _+_}
-use mathlib.Core.Path.{_≡_, refl, sym, _∙_, ap}
+use Prim.Native.Nat.{ℕ, _≤_, _<_, _-_}
 use native.Mathlib.Omega.{arith}
-use borrow.Author.Needs.{needs}
-use lib.ListN.{length, getD}
-use Rattle.profile.specs.Steps.{In, Rising}
+use lib.ListN.{getD}
 use Rattle.profile.proofs.Levels.{all-later}
 use Rattle.profile.proofs.steps.place.Statement.{statement}
 use Rattle.profile.proofs.steps.place.Tie as tie
-use Rattle.profile.proofs.steps.place.Reads as reads
-use Rattle.profile.proofs.steps.place.Lts as lts
 
 abbrev Inv-loop : tie.InvT-loop
 Inv-loop at n t low₀ high₀ low high = (low < high) × (high ≤ n) × (getD at low 0 ≤ t) × ((j : ℕ) → high ≤ j → j < n → t < getD at j 0)

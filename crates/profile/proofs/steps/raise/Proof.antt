@@ -1,15 +1,12 @@
 -- `profile::steps::raise` meets its contract. The invariant: the places from i up to k have x more.
-use Prim.Native.Nat.{ℕ, suc, _≤_, _<_, _-_, _+_}
-use mathlib.Core.Path.{_≡_, refl, sym, _∙_, ap}
+use Prim.Native.Nat.{_≤_, _-_}
+use mathlib.Core.Path.{_≡_}
 use native.Mathlib.Omega.{arith}
 use borrow.Author.Needs.{needs}
-use lib.ListN.{length, getD}
 use Rattle.profile.specs.Steps.{Raised}
 use Rattle.profile.proofs.Levels.{raised-none, raised-on}
 use Rattle.profile.proofs.steps.raise.Statement.{statement}
 use Rattle.profile.proofs.steps.raise.Tie as tie
-use Rattle.profile.proofs.steps.raise.Reads as reads
-use Rattle.profile.proofs.steps.raise.Lts as lts
 
 abbrev Inv-loop : tie.InvT-loop
 Inv-loop a₀ i j x k₀ a k = (i ≤ k) × (k ≤ j) × Raised a₀ a i k x

@@ -4,7 +4,7 @@ use Prim.Native.Nat.{ℕ, _<_}
 use Rattle.rules.specs.Calls.{Answer, enquire, step}
 use Rattle.charges.specs.Arrays.{chargeAt, foundAt}
 use Rattle.charges.specs.Held.{Small}
-use Rattle.charges.proofs.Holding.{held-listed}
+use Rattle.station.proofs.Listing.{valid-listed}
 use Rattle.station.specs.View.{view}
 use Rattle.station.specs.Answers.{giving, Gives}
 use Rattle.station.proofs.Enquiring.{toldOf, enquire-found, enquire-nothing, enquire-held, told-charging, told-waiting}
@@ -35,7 +35,7 @@ module _ (c : tie.After-i) where
   small : Small (chargeAt (c .before .before .before .before .args .self .charges) place)
   small =
       let s = c .before .before .before .before in
-      held-listed (s .pre .held) (s .pre .clock-most) (s .pre .next-most) .small place low
+      valid-listed (s .args .self) (s .pre) .small place low
 
   says :
       {a : Answer}

@@ -1,15 +1,11 @@
 -- `profile::caps::LineCaps::lower` meets its contract.
 use borrow.Author.Needs.{needs}
-use mathlib.Core.Path.{_≡_, subst}
+use mathlib.Core.Path.{subst}
 use Rattle.profile.specs.Caps.{Lowered}
 use Rattle.profile.proofs.Lines.{each-line, line-one, line-two, line-three}
 use Rattle.profile.proofs.Lowerings.{caps-lowered}
 use Rattle.profile.proofs.caps.LineCaps.lower.Statement.{statement}
 use Rattle.profile.proofs.caps.LineCaps.lower.Tie as tie
-use Rattle.profile.proofs.caps.LineCaps.lower.Reads as reads
-use Rattle.profile.proofs.caps.LineCaps.lower.Lts as lts
-use Rattle.profile.proofs.caps.first_place.Reads as first-place-reads
-use Rattle.profile.proofs.caps.lower.Reads as lower-reads
 
 first-place-requires : tie.Need-first-place-requires
 first-place-requires c κs = search needs

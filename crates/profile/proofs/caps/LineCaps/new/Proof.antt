@@ -4,9 +4,6 @@ use Rattle.profile.proofs.Lines.{each-line}
 use Rattle.profile.proofs.Lowerings.{level-shown}
 use Rattle.profile.proofs.caps.LineCaps.new.Statement.{statement}
 use Rattle.profile.proofs.caps.LineCaps.new.Tie as tie
-use Rattle.profile.proofs.caps.LineCaps.new.Reads as reads
-use Rattle.profile.proofs.caps.LineCaps.new.Lts as lts
-use Rattle.profile.proofs.caps.level.Reads as level-reads
 
 level-requires : tie.Need-level-requires
 level-requires c κs = search needs
