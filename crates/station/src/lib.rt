@@ -2,6 +2,7 @@
 pub mod clock;
 pub mod enquiry;
 pub mod order;
+pub mod plan;
 
 ghost use mathlib.Core.Path.{_≡_};
 ghost use mathlib.Core.List.{[]};
