@@ -85,6 +85,9 @@ module _ {find : List Charge → Charge → Found} {clock limit bound : ℕ} {c 
     pub next-inside : placeAt q k < c .held
     next-inside = u .places .inside k low
 
+    pub next-below : placeAt q k < 180
+    next-below = omega (arith, next-inside, r .listed .columns .few)
+
     pub plan-few : length (loadsOf (begunOf clock c ++ v .placed)) < 180
     plan-few =
         omega (
@@ -141,7 +144,7 @@ module _ {find : List Charge → Charge → Found} {clock limit bound : ℕ} {c 
               (start-last (v .placed) (chargeIn c q k) s (v .fresh k (omega arith) low)
               ∙ sym
               (getD-set-same starts (placeAt q k) s 0
-              (omega (arith, v .plan .size, next-inside, r .listed .columns .few))))
+              (omega (arith, v .plan .size, next-below))))
           go false e =
               let ne : i ≡ placeAt q k → ⊥ = eqb-false i (placeAt q k) e in
               start-other (v .placed) (chargeIn c q k) s (chargeAt c i .ticket)
