@@ -2,17 +2,17 @@
 use mathlib.Core.Logic.{_⊎_, inl, inr}
 use mathlib.Core.Path.{_≡_, refl, sym, _∙_}
 use Prim.Native.Nat.{ℕ, zero, suc, _+_, _-_, max, _≤_, _<_}
-use mathlib.Core.Bool.{Bool, true, false, not, true≢false}
+use mathlib.Core.Bool.{true, false, not, true≢false}
 use mathlib.Core.List.{List, [], _∷_}
 use native.Mathlib.Omega.{arith}
 use lib.Dec.{ltb}
-use borrow.Author.Tests.{ltb-true, ltb-false, lt-ltb, le-ltb, not-true, not-false}
-use Rattle.rules.specs.Basics.{tabulate, throughout, Found, at, nothing, first, some}
+use borrow.Author.Tests.{lt-ltb, le-ltb, not-true, not-false}
+use Rattle.rules.specs.Basics.{tabulate, at, nothing, some}
 use Rattle.rules.specs.Load.{Load, lastUntil, Limits, limitAt, balanceAt, fromOn}
 use Rattle.rules.specs.Charge.{Charge, endOf, loadsOf, lastEnd, lateness}
 use Rattle.rules.specs.Search.{firstUnbalanced}
-use Rattle.rules.specs.Judgement.{restarted, causes, judged}
-use Rattle.rules.proofs.Ranges.{fails, below-or-not, throughout-at, throughout-all, IsFirst, first-found, first-none}
+use Rattle.rules.specs.Judgement.{restarted, judged}
+use Rattle.rules.proofs.Ranges.{fails, below-or-not, throughout-at, throughout-all, first-found, first-none}
 
 -- Ends
 

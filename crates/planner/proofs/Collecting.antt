@@ -1,7 +1,7 @@
 -- The starts of the waiting charges, collected one place after another.
 use mathlib.Core.Path.{_≡_, refl, sym, _∙_, ap}
-use Prim.Native.Nat.{ℕ, zero, suc, _+_, _≤_, _<_}
-use mathlib.Core.List.{List, [], _∷_, _++_}
+use Prim.Native.Nat.{ℕ, _+_, _≤_, _<_}
+use mathlib.Core.List.{List, [], _∷_}
 use native.Mathlib.Omega.{arith}
 use native.Mathlib.Numerals.{add-one}
 use lib.ListN.{length, getD, set, take, replicate, length-set}
@@ -11,7 +11,7 @@ use Rattle.rules.specs.Charge.{Charge, isWaiting, waitingCharges}
 use Rattle.rules.specs.Replan.{startIn, startsIn}
 use Rattle.rules.proofs.Lists.{map-append}
 use Rattle.charges.specs.declared.Charges.{Charges}
-use Rattle.charges.specs.Arrays.{chargeAt, chargesOf, Filled, Columns}
+use Rattle.charges.specs.Arrays.{chargeAt, chargesOf, Filled}
 use Rattle.charges.proofs.Storing.{zeros}
 use Rattle.charges.proofs.Walking.{keep-hit, keep-miss, count-hit, is-waiting, is-begun}
 use Rattle.planner.specs.Starts.{Stored, WaitingStarts}

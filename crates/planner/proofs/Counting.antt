@@ -1,43 +1,37 @@
 -- The rounds of replan by lines: what one more does, and the loop over them.
-use mathlib.Core.Path.{_≡_, refl, sym, _∙_}
+use mathlib.Core.Path.{_≡_, refl, _∙_}
 use Prim.Native.Nat.{ℕ, zero, suc, _+_, _-_, _≤_, _<_}
 use native.Mathlib.Omega.{arith}
 use native.Mathlib.Numerals.{add-one}
 use Rattle.rules.specs.Search.{Caps}
 use Rattle.rules.specs.Load.{limits}
-use Rattle.rules.specs.Charge.{Charge}
-use Rattle.rules.specs.Replan.{Proposal, none, Outcome, ends, lowers, lowered, round, Replanned, goOn, roundsFrom, byLines}
+use Rattle.rules.specs.Replan.{Proposal, none, Outcome, ends, lowers, lowered, round, Replanned, roundsFrom, byLines}
 use Rattle.rules.proofs.Rounds.{lowered-at-least-one}
 use Rattle.charges.specs.declared.Charges.{Charges}
-use Rattle.charges.specs.Arrays.{chargesOf}
+use Rattle.charges.specs.Arrays.{chargesOf, Filled}
 use Rattle.profile.specs.declared.caps.LineCaps.{LineCaps}
 use Rattle.profile.specs.Caps.{CapsShown, LoweredAt}
-use Rattle.planner.specs.declared.Outcome as code
 use Rattle.planner.specs.declared.Outcome.the-variants.{Ends, Lowers}
+use Rattle.planner.specs.declared.Proposed.{Proposed}
 use Rattle.planner.specs.declared.Round.{Round}
 use Rattle.planner.specs.Starts.{waitingCount}
 use Rattle.planner.specs.Ready.{Ready}
 use Rattle.planner.specs.Placed.{Capped}
-use Rattle.planner.specs.Answers.{proposalOf, outcome, lastProposal, Fits, Plays, Replans}
+use Rattle.planner.specs.Answers.{proposalOf, Plays, Replans}
 
 abbrev pub replanned : Proposal → ℕ → Replanned
 replanned p made = record { proposal = p; rounds = made }
 
 module _ (play : Caps → Outcome) (made : ℕ) (cap : Caps) where
-  -- the last round that is allowed
-  rounds-last : roundsFrom play 0 made cap ≡ replanned (lastProposal (play cap)) made
-  unfolding roundsFrom
-  rounds-last = go (play cap) refl
-    where
-      go : (o : Outcome) → play cap ≡ o → roundsFrom play 0 made cap ≡ replanned (lastProposal o) made
-      go (ends p) e = rw (e, roundsFrom)
-      go (lowers i t v) e = rw (e, roundsFrom)
-
   rounds-end :
       (left : ℕ) (p : Proposal) → play cap ≡ ends p → roundsFrom play left made cap ≡ replanned p made
   unfolding roundsFrom
   rounds-end zero p e = rw (e, roundsFrom)
   rounds-end (suc left) p e = rw (e, roundsFrom)
+
+  rounds-over : (i t v : ℕ) → play cap ≡ lowers i t v → roundsFrom play 0 made cap ≡ replanned (none 2) made
+  unfolding roundsFrom
+  rounds-over i t v e = rw (e, roundsFrom)
 
   rounds-on :
       (left i t v : ℕ)
@@ -86,24 +80,26 @@ module _ {limit bound clock allowance : ℕ} {c : Charges} {caps : LineCaps} {ma
         filled = h .filled;
       }
 
-  pub rounds-spent :
-      allowance ≤ made
-      → Replans clock c (byLines (limits limit bound) clock allowance (chargesOf c))
-      (record { proposed = r .proposed; rounds = made })
-  rounds-spent l =
-      let none-left : allowance - made ≡ 0 = omega arith in
-      record {
-        same =
-            v .whole
-            ∙ rw none-left
-            (rounds-last (round (limits limit bound) clock (chargesOf c)) made (v .cap)
-            ∙ rw (h .same (v .cap) (v .shown), h .last));
-        filled = h .filled;
-      }
-
   module _ {i t x : ℕ} (e : r .outcome ≡ Lowers i t x) where
     pub lowers-fit : (t < 4294967295) × (1 ≤ x)
     lowers-fit = rw e at (h .fits)
+
+    pub rounds-spent :
+        {p : Proposed}
+        → allowance ≤ made
+        → p .cause ≡ 2
+        → Filled 0 (p .starts)
+        → Replans clock c (byLines (limits limit bound) clock allowance (chargesOf c)) (record { proposed = p; rounds = made })
+    rounds-spent {p} l k zeros =
+        let none-left : allowance - made ≡ 0 = omega arith in
+        record {
+          same =
+              v .whole
+              ∙ rw (none-left, k)
+              (rounds-over (round (limits limit bound) clock (chargesOf c)) made (v .cap) i t x
+              (h .same (v .cap) (v .shown) ∙ rw e));
+          filled = rw k zeros;
+        }
 
     pub rounds-next :
         {next : LineCaps} → made < allowance → LoweredAt caps next i t x → Rounds limit bound clock allowance c next (made + 1)

@@ -1,16 +1,14 @@
 -- The test of a plan, from what the code finds: one law for each way out.
 use mathlib.Core.Path.{_≡_, refl, sym, _∙_, ap, subst}
-use Prim.Native.Nat.{ℕ, zero, suc, _+_, _^_, _≤_, _<_}
+use Prim.Native.Nat.{ℕ, zero, suc, _≤_, _<_}
 use mathlib.Core.Bool.{Bool, true, false}
 use mathlib.Core.List.{List}
 use native.Mathlib.Omega.{arith}
 use lib.Dec.{ltb}
-use lib.ListN.{length, getD}
-use Rattle.rules.specs.Basics.{Found, at, nothing, some}
-use Rattle.rules.specs.Load.{Load, limits, limitAt, balanceAt, fromOn}
-use Rattle.rules.specs.Charge.{Charge, loadOf, loadsOf, lastEnd, lateness}
-use Rattle.rules.specs.Search.{firstUnbalanced}
-use Rattle.rules.specs.Judgement.{restarted, judged}
+use Rattle.rules.specs.Basics.{some}
+use Rattle.rules.specs.Load.{Load, limits}
+use Rattle.rules.specs.Charge.{loadOf, loadsOf, lastEnd, lateness}
+use Rattle.rules.specs.Judgement.{restarted}
 use Rattle.rules.proofs.Lists.{map-tabulate}
 use Rattle.charges.specs.declared.Charges.{Charges}
 use Rattle.charges.specs.Arrays.{chargeAt, chargesOf, Holds}

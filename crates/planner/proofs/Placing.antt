@@ -1,17 +1,15 @@
 -- Charges placed one after another, and the starts of the placed ones.
-use mathlib.Core.Logic.{_⊎_, inl, inr}
 use mathlib.Core.Path.{_≡_, refl, sym, _∙_, ap}
-use Prim.Native.Nat.{ℕ, zero, suc, _+_, _-_, _≤_, _<_}
+use Prim.Native.Nat.{ℕ, _+_, _-_}
 use mathlib.Core.Bool.{Bool, true, false, cond, _&&_, _||_}
 use mathlib.Core.List.{List, [], _∷_, _++_}
 use native.Mathlib.Omega.{arith}
 use lib.Dec.{ltb, eqb}
 use borrow.Author.Tests.{eq-eqb, ne-eqb, lt-ltb}
-use Rattle.rules.specs.Basics.{Found, at, nothing, Each, some}
-use Rattle.rules.specs.Load.{Load, active, draws, count}
+use Rattle.rules.specs.Basics.{Found, at, nothing, Each}
+use Rattle.rules.specs.Load.{active, count}
 use Rattle.rules.specs.Charge.{Charge, starting, loadOf, loadsOf}
-use Rattle.rules.specs.Replan.{Placed, all, stuck, placeAll, startIn, placedActive}
-use Rattle.rules.proofs.Lists.{map-append}
+use Rattle.rules.specs.Replan.{all, stuck, placeAll, startIn, placedActive}
 
 -- One charge more
 

@@ -1,7 +1,6 @@
 -- The loop that places the waiting charges: what has been placed, and what one more charge does.
-use mathlib.Core.Logic.{_⊎_, inl, inr}
 use mathlib.Core.Path.{_≡_, refl, sym, _∙_, ap}
-use Prim.Native.Nat.{ℕ, zero, suc, _+_, _-_, _*_, _^_, max, _≤_, _<_}
+use Prim.Native.Nat.{ℕ, suc, _+_, _-_, _^_, max, _≤_, _<_}
 use mathlib.Core.Bool.{Bool, true, false, cond}
 use mathlib.Core.List.{List, [], _∷_, _++_, append-nil, append-assoc}
 use native.Mathlib.Omega.{arith}
@@ -10,16 +9,15 @@ use lib.Dec.{eqb}
 use lib.ListN.{length, getD, set, replicate, length-set, length-append}
 use lib.Seq.{getD-set-same, getD-set-other}
 use borrow.Author.Tests.{eqb-true, eqb-false}
-use Rattle.rules.specs.Basics.{Found, at, nothing, Each}
+use Rattle.rules.specs.Basics.{Found, at, nothing}
 use Rattle.rules.specs.Load.{Load, lastUntil, limits}
 use Rattle.rules.specs.Charge.{Charge, starting, loadsOf}
 use Rattle.rules.specs.Search.{added, earliest, Caps, earliestUnder}
-use Rattle.rules.specs.Replan.{all, stuck, placeAll, startIn}
+use Rattle.rules.specs.Replan.{stuck, placeAll, startIn}
 use Rattle.rules.proofs.Searches.{earliest-first, under-first}
-use Rattle.rules.proofs.Lists.{each-map, each-append}
+use Rattle.rules.proofs.Lists.{each-append}
 use Rattle.charges.specs.declared.Charges.{Charges}
-use Rattle.charges.specs.Arrays.{chargeAt, chargesOf}
-use Rattle.charges.specs.Held.{Listed}
+use Rattle.charges.specs.Arrays.{chargeAt}
 use Rattle.charges.specs.declared.Places.{Places}
 use Rattle.charges.specs.Places.{placeAt}
 use Rattle.charges.proofs.Storing.{zeros}
@@ -30,7 +28,6 @@ use Rattle.profile.specs.Shows.{Shows, Added, CanAdd, CanStart, foundAt, Earlie
 use Rattle.profile.specs.Caps.{CapsShown, EarliestUnder}
 use Rattle.profile.proofs.Adds.{can-add, last-added}
 use Rattle.profile.proofs.Starts.{can-start}
-use Rattle.planner.specs.Starts.{Stored}
 use Rattle.planner.specs.Ready.{begunOf, chargeIn, Ready, queueFrom, Queue}
 use Rattle.planner.specs.Placed.{PlanShown, AllPlaced, searchIn, searchOf, Starts}
 use Rattle.planner.specs.declared.Rule.{Rule}
@@ -88,6 +85,9 @@ module _ {find : List Charge → Charge → Found} {clock limit bound : ℕ} {c 
     pub next-inside : placeAt q k < c .held
     next-inside = u .places .inside k low
 
+    pub next-below : placeAt q k < 180
+    next-below = omega (arith, next-inside, r .listed .columns .few)
+
     pub plan-few : length (loadsOf (begunOf clock c ++ v .placed)) < 180
     plan-few =
         omega (
@@ -144,7 +144,7 @@ module _ {find : List Charge → Charge → Found} {clock limit bound : ℕ} {c 
               (start-last (v .placed) (chargeIn c q k) s (v .fresh k (omega arith) low)
               ∙ sym
               (getD-set-same starts (placeAt q k) s 0
-              (omega (arith, v .plan .size, next-inside, r .listed .columns .few))))
+              (omega (arith, v .plan .size, next-below))))
           go false e =
               let ne : i ≡ placeAt q k → ⊥ = eqb-false i (placeAt q k) e in
               start-other (v .placed) (chargeIn c q k) s (chargeAt c i .ticket)

@@ -1,15 +1,16 @@
 -- One round: every charge is placed, and what the first unbalanced minute asks for.
 use mathlib.Core.Path.{_≡_, refl, sym, _∙_, ap}
-use Prim.Native.Nat.{ℕ, zero, suc, _+_, _-_, max, _≤_, _<_}
+use Prim.Native.Nat.{ℕ, _+_, _-_, _≤_, _<_}
 use mathlib.Core.Bool.{Bool, true, false}
-use mathlib.Core.List.{List, [], _∷_, _++_}
+use mathlib.Core.List.{List, _++_}
 use native.Mathlib.Omega.{arith}
-use lib.ListN.{length, getD, take, length-append}
-use Rattle.rules.specs.Basics.{Found, at, nothing}
-use Rattle.rules.specs.Load.{Load, IsLine, count, counts, lastUntil, limits}
-use Rattle.rules.specs.Charge.{Charge, loadsOf, waitingCharges}
+use lib.Dec.{eqb}
+use borrow.Author.Tests.{eq-eqb, ne-eqb, eqb-true, eqb-false}
+use lib.ListN.{length, length-append}
+use Rattle.rules.specs.Load.{IsLine, count, counts, lastUntil, limits}
+use Rattle.rules.specs.Charge.{loadsOf, waitingCharges}
 use Rattle.rules.specs.Search.{Caps, firstUnbalanced}
-use Rattle.rules.specs.Replan.{Placed, all, stuck, placeAll, cappedStart, lineByLine, largestLine, smallestLine, ends, lowers, round}
+use Rattle.rules.specs.Replan.{all, stuck, cappedStart, lineByLine, largestLine, smallestLine, ends}
 use Rattle.rules.proofs.Searches.{unbalanced-first}
 use Rattle.rules.proofs.Rounds.{largest-line, smallest-line, round-places}
 use Rattle.charges.specs.declared.Charges.{Charges}
@@ -20,7 +21,7 @@ use Rattle.profile.specs.declared.Profile.{Profile}
 use Rattle.profile.specs.declared.When.{When}
 use Rattle.profile.specs.declared.When.the-variants.{Minute, Never}
 use Rattle.profile.specs.declared.caps.LineCaps.{LineCaps}
-use Rattle.profile.specs.Shows.{ofLines, levelOf, Formed, Shows, foundAt}
+use Rattle.profile.specs.Shows.{ofLines, levelOf, levels, Formed, Shows, foundAt}
 use Rattle.profile.specs.Caps.{CapsShown}
 use Rattle.profile.specs.Balance.{Unbalanced}
 use Rattle.profile.proofs.Lines.{line-one, line-two, line-three}
@@ -28,14 +29,53 @@ use Rattle.profile.proofs.Adds.{count-few}
 use Rattle.profile.proofs.Balances.{largest-same, smallest-same}
 use Rattle.planner.specs.declared.Placement.{Placement}
 use Rattle.planner.specs.declared.Proposed.{Proposed}
+use Rattle.planner.specs.declared.Outcome.{Outcome}
 use Rattle.planner.specs.declared.Outcome.the-variants.{Ends, Lowers}
-use Rattle.planner.specs.Starts.{waitingCount, WaitingStarts}
+use Rattle.planner.specs.Starts.{WaitingStarts}
 use Rattle.planner.specs.Ready.{begunOf, Ready, queueFrom, Queue}
 use Rattle.planner.specs.Placed.{AllPlaced, cappedRule, Capped, PlacedBy}
-use Rattle.planner.specs.Answers.{Plays}
+use Rattle.planner.specs.Answers.{askedIn, Comparable, Plays}
 use Rattle.planner.proofs.Queueing.{queue-whole, queue-line-by-line}
 use Rattle.planner.proofs.Showing.{length-loads-of}
 use Rattle.planner.proofs.Proposing.{all-placed, none-placed, round-balanced, round-ends, round-lowers}
+
+-- What an unbalanced minute asks for
+
+-- the largest and the smallest line go by the counts of the lines alone
+largest-alike : (f g : ℕ → ℕ) → ((l : ℕ) → IsLine l → f l ≡ g l) → largestLine f ≡ largestLine g
+largest-alike f g e =
+    sym (largest-same f refl refl refl) ∙ largest-same g (e 1 line-one) (e 2 line-two) (e 3 line-three)
+
+smallest-alike : (f g : ℕ → ℕ) → ((l : ℕ) → IsLine l → f l ≡ g l) → smallestLine f ≡ smallestLine g
+smallest-alike f g e =
+    sym (smallest-same f refl refl refl) ∙ smallest-same g (e 1 line-one) (e 2 line-two) (e 3 line-three)
+
+module _ {p begun : Profile} {t bound : ℕ} (h : Comparable p begun t bound) {one two three : ℕ} (a : one ≡ levelOf p 1 t)
+    (b : two ≡ levelOf p 2 t) (d : three ≡ levelOf p 3 t) where
+  pub low-small : {j z : ℕ} → j ≡ smallestLine (ofLines one two three) → z ≡ levelOf p j t → z ≤ 180
+  low-small {j} small ez = rw ez (h .small j (rw small (smallest-line (ofLines one two three) .line)))
+
+  module _ {i x y : ℕ} (large : i ≡ largestLine (ofLines one two three)) (ex : x ≡ levelOf p i t) (ey : y ≡ levelOf begun i t) where
+    pub asked-none : x ≡ y → Ends ≡ askedIn p begun t bound
+    asked-none e = rw (← (large ∙ largest-same (levels p t) a b d), ← ex, ← ey, eq-eqb x y e)
+
+    pub asked-lowers :
+        {j z : ℕ}
+        → (x ≡ y → ⊥)
+        → j ≡ smallestLine (ofLines one two three)
+        → z ≡ levelOf p j t
+        → Lowers i t (z + bound) ≡ askedIn p begun t bound
+    asked-lowers ne small ez =
+        rw (
+          ← (large ∙ largest-same (levels p t) a b d),
+          ← ex,
+          ← ey,
+          ne-eqb x y ne,
+          ← (small ∙ smallest-same (levels p t) a b d),
+          ← ez,
+        )
+
+-- One round
 
 module _ {limit bound clock : ℕ} {c : Charges} {caps : LineCaps} {q : Places} {r : Placement} (ready : Ready clock limit bound c)
     (order : Ordered c (lineByLine (waitingCharges clock (chargesOf c))) q) (w : Capped caps)
@@ -86,7 +126,6 @@ module _ {limit bound clock : ℕ} {c : Charges} {caps : LineCaps} {q : Places} 
               λ cap shown.
               round-balanced (limits limit bound) clock c cap (queueFrom c q 0) (queue-whole order) (round-plan cap shown)
               (found cap shown ∙ ap foundAt e) s;
-          last = refl;
           filled = s .filled;
           fits = tt;
         }
@@ -103,101 +142,105 @@ module _ {limit bound clock : ℕ} {c : Charges} {caps : LineCaps} {q : Places} 
       minute-fits : t < 4294967295
       minute-fits = omega (arith, range, some-plan .plan .ends, queue .room)
 
-      pub minute-shown : {p : Profile} {xs : List Load} → Shows p clock xs → Formed p × (getD (p .at) 0 0 ≤ t)
-      minute-shown s = (s .formed, omega (arith, s .starts, range))
-
-      pub minute-low : Formed (r .profile) × (getD (r .profile .at) 0 0 ≤ t)
-      minute-low = minute-shown (some-plan .plan .shows)
-
       -- levels are counts
       level-counted :
-          (cap : Caps) (shown : CapsShown caps cap) (l x : ℕ)
+          (cap : Caps) (shown : CapsShown caps cap) (l : ℕ)
           → IsLine l
-          → x ≡ levelOf (r .profile) l t
-          → x ≡ count (loadsOf (begunOf clock c ++ round-plan cap shown .placed)) l t
-      level-counted cap shown l x i p = p ∙ round-plan cap shown .plan .shows .counted l i t (range .0)
+          → levelOf (r .profile) l t ≡ count (loadsOf (begunOf clock c ++ round-plan cap shown .placed)) l t
+      level-counted cap shown l i = round-plan cap shown .plan .shows .counted l i t (range .0)
 
-      module _ {one two three : ℕ} (a : one ≡ levelOf (r .profile) 1 t) (b : two ≡ levelOf (r .profile) 2 t)
-          (d : three ≡ levelOf (r .profile) 3 t) {i : ℕ} (large : i ≡ largestLine (ofLines one two three)) where
-        is-line : IsLine i
-        is-line = rw large (largest-line (ofLines one two three) .line)
+      few : length (loadsOf (begunOf clock c ++ some-plan .placed)) ≤ 180
+      few =
+          omega (
+            arith,
+            length-loads-of (begunOf clock c ++ some-plan .placed),
+            length-append (begunOf clock c) (some-plan .placed),
+            some-plan .plan .many,
+            queue .room,
+          )
 
-        largest :
-            (cap : Caps) (shown : CapsShown caps cap)
-            → i ≡ largestLine (counts (loadsOf (begunOf clock c ++ round-plan cap shown .placed)) t)
-        largest cap shown =
-            large
-            ∙ largest-same (counts (loadsOf (begunOf clock c ++ round-plan cap shown .placed)) t)
-            (level-counted cap shown 1 one line-one a)
-            (level-counted cap shown 2 two line-two b)
-            (level-counted cap shown 3 three line-three d)
+      module _ {begun : Profile} (s : Shows begun clock (loadsOf (begunOf clock c))) where
+        pub round-comparable : Comparable (r .profile) begun t bound
+        round-comparable =
+            record {
+              formed = round-formed;
+              low = omega (arith, some-plan .plan .shows .starts, range);
+              begun-formed = s .formed;
+              begun-low = omega (arith, s .starts, range);
+              small =
+                  λ l i.
+                  omega (
+                    arith,
+                    level-counted (w .cap) (w .shown) l i,
+                    count-few (loadsOf (begunOf clock c ++ some-plan .placed)) l t,
+                    few,
+                  );
+              bound-most = ready .bound-most;
+            }
 
-        module _ {begun : Profile} (s : Shows begun clock (loadsOf (begunOf clock c))) {x y : ℕ} (p : x ≡ levelOf (r .profile) i t)
-            (o : y ≡ levelOf begun i t) where
-          begun-counted : y ≡ count (loadsOf (begunOf clock c)) i t
-          begun-counted = o ∙ s .counted i is-line t (range .0)
+        begun-counted :
+            levelOf begun (largestLine (levels (r .profile) t)) t
+            ≡ count (loadsOf (begunOf clock c)) (largestLine (levels (r .profile) t)) t
+        begun-counted = s .counted (largestLine (levels (r .profile) t)) (largest-line (levels (r .profile) t) .line) t (range .0)
 
-          pub plays-none :
-              {n : Proposed}
-              → x ≡ y
-              → n .cause ≡ 1
-              → Filled 0 (n .starts)
+        module _ {n : Proposed} (k : n .cause ≡ 1) (zeros : Filled 0 (n .starts)) where
+          plays-none :
+              levelOf (r .profile) (largestLine (levels (r .profile) t)) t ≡ levelOf begun (largestLine (levels (r .profile) t)) t
               → Plays limit bound clock c caps (record { outcome = Ends; proposed = n })
-          plays-none e′ k z =
+          plays-none same =
+              let i = largestLine (levels (r .profile) t) in
               record {
                 same =
                     λ cap shown.
                     rw k
                     (round-ends (limits limit bound) clock c cap (queueFrom c q 0) (queue-whole order) (round-plan cap shown) t
-                    (found cap shown ∙ ap foundAt e) i (largest cap shown)
-                    (sym (level-counted cap shown i x is-line p) ∙ e′ ∙ begun-counted));
-                last = refl;
-                filled = rw k z;
+                    (found cap shown ∙ ap foundAt e) i
+                    (largest-alike (levels (r .profile) t) (counts (loadsOf (begunOf clock c ++ round-plan cap shown .placed)) t)
+                    (level-counted cap shown))
+                    (sym (level-counted cap shown i (largest-line (levels (r .profile) t) .line)) ∙ same ∙ begun-counted));
+                filled = rw k zeros;
                 fits = tt;
               }
 
-          pub cap-fits : {j z : ℕ} → j ≡ smallestLine (ofLines one two three) → z ≡ levelOf (r .profile) j t → z ≤ 1000
-          cap-fits {j} {z} small v =
-              omega (
-                arith,
-                level-counted (w .cap) (w .shown) j z (rw small (smallest-line (ofLines one two three) .line)) v,
-                count-few (loadsOf (begunOf clock c ++ some-plan .placed)) j t,
-                few,
-              )
-            where
-              few : length (loadsOf (begunOf clock c ++ some-plan .placed)) ≤ 180
-              few =
-                  omega (
-                    arith,
-                    length-loads-of (begunOf clock c ++ some-plan .placed),
-                    length-append (begunOf clock c) (some-plan .placed),
-                    some-plan .plan .many,
-                    queue .room,
-                  )
-
-          pub plays-lowers :
-              {j z : ℕ} {n : Proposed}
-              → (x ≡ y → ⊥)
-              → j ≡ smallestLine (ofLines one two three)
-              → z ≡ levelOf (r .profile) j t
-              → n .cause ≡ 2
-              → Filled 0 (n .starts)
-              → Plays limit bound clock c caps (record { outcome = Lowers i t (z + bound); proposed = n })
-          plays-lowers {j} {z} ne small v k zeros =
+          plays-lowers :
+              (levelOf (r .profile) (largestLine (levels (r .profile) t)) t ≡ levelOf begun (largestLine (levels (r .profile) t)) t → ⊥)
+              → Plays limit bound clock c caps
+              (record {
+                outcome =
+                    Lowers (largestLine (levels (r .profile) t)) t (levelOf (r .profile) (smallestLine (levels (r .profile) t)) t + bound);
+                proposed = n;
+              })
+          plays-lowers ne =
+              let i = largestLine (levels (r .profile) t) in
+              let j = smallestLine (levels (r .profile) t) in
               record {
                 same =
                     λ cap shown.
                     round-lowers (limits limit bound) clock c cap (queueFrom c q 0) (queue-whole order) (round-plan cap shown) t
-                    (found cap shown ∙ ap foundAt e) i j (z + bound) (largest cap shown)
-                    (λ same. ne (level-counted cap shown i x is-line p ∙ same ∙ sym begun-counted))
-                    (small
-                    ∙ smallest-same (counts (loadsOf (begunOf clock c ++ round-plan cap shown .placed)) t)
-                    (level-counted cap shown 1 one line-one a)
-                    (level-counted cap shown 2 two line-two b)
-                    (level-counted cap shown 3 three line-three d))
-                    (ap (λ (m : ℕ). m + bound)
-                    (level-counted cap shown j z (rw small (smallest-line (ofLines one two three) .line)) v));
-                last = rw k;
+                    (found cap shown ∙ ap foundAt e) i j (levelOf (r .profile) j t + bound)
+                    (largest-alike (levels (r .profile) t) (counts (loadsOf (begunOf clock c ++ round-plan cap shown .placed)) t)
+                    (level-counted cap shown))
+                    (λ same.
+                    ne (level-counted cap shown i (largest-line (levels (r .profile) t) .line) ∙ same ∙ sym begun-counted))
+                    (smallest-alike (levels (r .profile) t) (counts (loadsOf (begunOf clock c ++ round-plan cap shown .placed)) t)
+                    (level-counted cap shown))
+                    (ap (λ (m : ℕ). m + bound) (level-counted cap shown j (smallest-line (levels (r .profile) t) .line)));
                 filled = rw k zeros;
                 fits = (minute-fits, omega (arith, ready .some-bound));
               }
+
+          pub plays-asked :
+              {o : Outcome} → o ≡ askedIn (r .profile) begun t bound → Plays limit bound clock c caps (record { outcome = o; proposed = n })
+          plays-asked {o} eo =
+              go
+              (eqb (levelOf (r .profile) (largestLine (levels (r .profile) t)) t)
+              (levelOf begun (largestLine (levels (r .profile) t)) t))
+              refl
+            where
+              go :
+                  (b : Bool)
+                  → eqb (levelOf (r .profile) (largestLine (levels (r .profile) t)) t) (levelOf begun (largestLine (levels (r .profile) t)) t)
+                  ≡ b
+                  → Plays limit bound clock c caps (record { outcome = o; proposed = n })
+              go true h′ = rw (eo, h′) (plays-none (eqb-true _ _ h′))
+              go false h′ = rw (eo, h′) (plays-lowers (eqb-false _ _ h′))

@@ -1,17 +1,16 @@
 -- What the replans propose once the waiting charges are placed.
-use mathlib.Core.Path.{_≡_, refl, sym, _∙_, ap}
-use Prim.Native.Nat.{ℕ, zero, suc, _+_, _≤_, _<_}
-use mathlib.Core.Bool.{Bool, true, false, cond, false≢true, true≢false}
-use mathlib.Core.List.{List, [], _∷_, _++_}
+use mathlib.Core.Path.{_≡_, refl, _∙_, ap}
+use Prim.Native.Nat.{ℕ, zero, suc, _+_, _<_}
+use mathlib.Core.Bool.{Bool, true, false, false≢true, true≢false}
+use mathlib.Core.List.{List, [], _++_}
 use native.Mathlib.Omega.{arith}
-use lib.Dec.{ltb}
-use lib.ListN.{length, getD, take, replicate}
+use lib.ListN.{take, replicate}
 use borrow.Author.Tests.{lt-ltb, le-ltb}
-use Rattle.rules.specs.Basics.{Found, at, nothing}
-use Rattle.rules.specs.Load.{Load, count, counts, Limits, limits}
+use Rattle.rules.specs.Basics.{at, nothing}
+use Rattle.rules.specs.Load.{count, counts, Limits, limits}
 use Rattle.rules.specs.Charge.{Charge, loadsOf, waitingCharges}
 use Rattle.rules.specs.Search.{Caps, firstUnbalanced}
-use Rattle.rules.specs.Replan.{Proposal, starts, none, all, stuck, placeAll, soundStart, cappedStart, byLatestStart, lineByLine, latest, largestLine, smallestLine, placedActive, ends, lowers, afterRound, round}
+use Rattle.rules.specs.Replan.{Proposal, starts, none, stuck, placeAll, cappedStart, byLatestStart, lineByLine, latest, largestLine, smallestLine, placedActive, ends, lowers, afterRound, round}
 use Rattle.rules.proofs.Counts.{count-append}
 use Rattle.charges.specs.declared.Charges.{Charges}
 use Rattle.charges.specs.Arrays.{chargesOf, Filled}
@@ -25,7 +24,7 @@ use Rattle.planner.specs.Starts.{waitingCount, WaitingStarts}
 use Rattle.planner.specs.declared.Proposed.{Proposed}
 use Rattle.planner.specs.Answers.{Proposes}
 use Rattle.planner.specs.Ready.{begunOf, queueFrom}
-use Rattle.planner.specs.Placed.{PlanShown, AllPlaced, PlacedIf, soundRule, cappedRule, searchOf, PlacedBy}
+use Rattle.planner.specs.Placed.{AllPlaced, PlacedIf, soundRule, searchOf, PlacedBy}
 use Rattle.planner.specs.declared.Rule.{Rule}
 use Rattle.planner.specs.declared.Placement.{Placement}
 use Rattle.planner.proofs.Placing.{placed-active}

@@ -1,17 +1,15 @@
 -- The waiting charges in the order in which they are taken: tickets are distinct, and the profile has room for all.
 use mathlib.Core.Logic.{_⊎_, inl, inr}
 use mathlib.Core.Path.{_≡_, refl, sym, _∙_, ap}
-use Prim.Native.Nat.{ℕ, zero, suc, _+_, _-_, _≤_, _<_}
+use Prim.Native.Nat.{ℕ, suc, _+_, _-_, _≤_, _<_}
 use mathlib.Core.Bool.{Bool, true, false, cond}
-use mathlib.Core.List.{List, [], _∷_, _++_, map}
+use mathlib.Core.List.{List, [], _∷_, _++_}
 use native.Mathlib.Omega.{arith}
-use native.Mathlib.Numerals.{add-one}
 use native.Mathlib.Nat.{sub-zero}
 use lib.Dec.{eqb}
-use lib.ListN.{length, getD, length-append}
+use lib.ListN.{length, length-append}
 use borrow.Author.Tests.{eqb-true}
-use Rattle.rules.specs.Basics.{Each, tabulate}
-use Rattle.rules.specs.Charge.{Charge, isWaiting, begunCharges, waitingCharges}
+use Rattle.rules.specs.Charge.{Charge, waitingCharges}
 use Rattle.rules.specs.Replan.{latestStartBefore, byLatestStart, onLine, lineByLine}
 use Rattle.rules.proofs.Ranges.{below-or-not}
 use Rattle.rules.proofs.Lists.{length-tabulate, map-tabulate}

@@ -1,10 +1,10 @@
 -- The profile of the begun charges, and the last end of a plan.
-use mathlib.Core.Path.{_≡_, refl, sym, _∙_, ap}
-use Prim.Native.Nat.{ℕ, zero, suc, _+_, _*_, _^_, max, _≤_, _<_}
+use mathlib.Core.Path.{_≡_, refl, ap}
+use Prim.Native.Nat.{ℕ, suc, _+_, max, _≤_, _<_}
 use mathlib.Core.Bool.{Bool, true, false, cond, not}
-use mathlib.Core.List.{List, [], _∷_, _++_, map}
+use mathlib.Core.List.{List, [], _∷_, _++_}
 use native.Mathlib.Omega.{arith}
-use lib.ListN.{length, getD}
+use lib.ListN.{length}
 use borrow.Author.Tests.{lt-ltb, le-ltb}
 use Rattle.rules.specs.Basics.{tabulate, keep}
 use Rattle.rules.specs.Load.{lastUntil}

@@ -1,14 +1,18 @@
 -- The answers of the replans and of one round, as the rules have them.
 use mathlib.Core.Path.{_≡_}
-use Prim.Native.Nat.{ℕ, zero, suc, _≤_, _<_}
+use Prim.Native.Nat.{ℕ, zero, suc, _+_, _≤_, _<_}
+use mathlib.Core.Bool.{cond}
+use lib.Dec.{eqb}
 use mathlib.Core.List.{List}
-use lib.ListN.{take}
+use lib.ListN.{take, getD}
 use Rattle.rules.specs.Replan as rules
-use Rattle.rules.specs.Replan.{Proposal, starts, none, ends, lowers, round}
-use Rattle.rules.specs.Load.{limits}
+use Rattle.rules.specs.Replan.{Proposal, starts, none, largestLine, smallestLine, ends, lowers, round}
+use Rattle.rules.specs.Load.{IsLine, limits}
 use Rattle.rules.specs.Search.{Caps}
 use Rattle.charges.specs.declared.Charges.{Charges}
 use Rattle.charges.specs.Arrays.{chargesOf, Filled}
+use Rattle.profile.specs.declared.Profile.{Profile}
+use Rattle.profile.specs.Shows.{levelOf, levels, Formed}
 use Rattle.profile.specs.declared.caps.LineCaps.{LineCaps}
 use Rattle.profile.specs.Caps.{CapsShown}
 use Rattle.planner.specs.Starts.{waitingCount}
@@ -45,10 +49,21 @@ abbrev pub outcome : Proposal → Outcome → rules.Outcome
 outcome p Ends = ends p
 outcome p (Lowers i t v) = lowers i t v
 
--- what is proposed if no round follows: cause 2 where a cap would have to be lowered
-abbrev pub lastProposal : rules.Outcome → Proposal
-lastProposal (ends p) = p
-lastProposal (lowers i t v) = none 2
+-- what minute t asks for, seen from the profile of a plan and that of its begun charges alone
+abbrev pub askedIn : Profile → Profile → ℕ → ℕ → Outcome
+askedIn p begun t bound =
+    cond (eqb (levelOf p (largestLine (levels p t)) t) (levelOf begun (largestLine (levels p t)) t))
+    Ends
+    (Lowers (largestLine (levels p t)) t (levelOf p (smallestLine (levels p t)) t + bound))
+
+-- both profiles have the minute, and the counts are small
+pub record Comparable (p begun : Profile) (t bound : ℕ) : Type 0 where
+  pub formed : Formed p
+  pub low : getD (p .at) 0 0 ≤ t
+  pub begun-formed : Formed begun
+  pub begun-low : getD (begun .at) 0 0 ≤ t
+  pub small : (l : ℕ) → IsLine l → levelOf p l t ≤ 180
+  pub bound-most : bound ≤ 60
 
 -- the minute is a number of 32 bits, and the cap is not below 1
 abbrev pub Fits : Outcome → Type 0
@@ -62,9 +77,6 @@ pub record Plays (limit bound clock : ℕ) (c : Charges) (caps : LineCaps) (r : 
       → CapsShown caps cap
       → round (limits limit bound) clock (chargesOf c) cap
       ≡ outcome (proposalOf (waitingCount clock c) (r .proposed)) (r .outcome)
-  pub last :
-      lastProposal (outcome (proposalOf (waitingCount clock c) (r .proposed)) (r .outcome))
-      ≡ proposalOf (waitingCount clock c) (r .proposed)
   pub filled : FilledBy (waitingCount clock c) (r .proposed)
   pub fits : Fits (r .outcome)
 

@@ -1,5 +1,5 @@
 -- What the planners ask: of the station, and of the places of waiting charges in the order in which they are taken.
-use Prim.Native.Nat.{ℕ, _+_, _-_, _≤_, _<_}
+use Prim.Native.Nat.{ℕ, _+_, _-_, _≤_}
 use mathlib.Core.List.{List}
 use lib.ListN.{length}
 use Rattle.rules.specs.Basics.{tabulate}

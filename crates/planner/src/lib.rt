@@ -8,20 +8,20 @@ use profile::balance::largest_line;
 use profile::balance::smallest_line;
 use profile::caps::LineCaps;
 ghost use mathlib.Core.Path.{_≡_};
+ghost use Prim.Native.Nat.{_≤_};
+ghost use lib.ListN.{length, take};
 ghost use Rattle.rules.specs.Charge.{begunCharges, waitingCharges, loadsOf};
 ghost use Rattle.rules.specs.Load.{IsLine, limits};
 ghost use Rattle.rules.specs.Replan.{byLines, latest as latestOf, lineByLine};
-ghost use lib.ListN.{length, take};
 ghost use Rattle.rules.specs.Judgement.{restarted};
 ghost use Rattle.charges.specs.Arrays.{Columns, Filled, Holds, chargesOf};
 ghost use Rattle.charges.specs.Held.{Listed};
 ghost use Rattle.charges.specs.Places.{Ordered};
-ghost use Prim.Native.Nat.{_≤_};
 ghost use Rattle.profile.specs.Shows.{Shows, CanStart};
 ghost use Rattle.profile.specs.Caps.{capsOf, CanCap};
 ghost use Rattle.planner.specs.Starts.{WaitingStarts, waitingCount};
 ghost use Rattle.planner.specs.Ready.{begunOf, Ready, Queue};
-ghost use Rattle.planner.specs.Answers.{Plays, Proposes, Replans};
+ghost use Rattle.planner.specs.Answers.{Comparable, Plays, Proposes, Replans, askedIn};
 ghost use Rattle.planner.specs.Judged.{CauseOf, Judges};
 ghost use Rattle.planner.specs.Placed.{Capped, Starts, PlacedBy};
 
@@ -29,14 +29,6 @@ ghost use Rattle.planner.specs.Placed.{Capped, Starts, PlacedBy};
 pub struct Proposed {
     pub cause: u32,
     pub starts: [u32; 180],
-}
-
-// The test of a plan: the cause, the lateness before and after, and the charges that are held then.
-pub struct Judgement {
-    pub cause: u32,
-    pub before: u64,
-    pub after: u64,
-    pub charges: Charges,
 }
 
 impl Proposed {
@@ -64,22 +56,30 @@ pub struct Placement {
     pub starts: [u32; 180],
 }
 
-// What comes of a round: it ends the replan, or the line's cap has to be lowered from the minute on.
+// A round ends the replan, or the line's cap has to be lowered from the minute on.
 pub enum Outcome {
     Ends,
     Lowers { line: u32, minute: u32, cap: u32 },
 }
 
-// With what is proposed if no round follows.
+// What comes of a round, with what is proposed if it ends the replan.
 pub struct Round {
     pub outcome: Outcome,
     pub proposed: Proposed,
 }
 
-// With the rounds made for it.
+// What replan by lines proposes, with the rounds made for it.
 pub struct Replanned {
     pub proposed: Proposed,
     pub rounds: u32,
+}
+
+// The test of a plan: the cause, the lateness before and after, and the charges that are held then.
+pub struct Judgement {
+    pub cause: u32,
+    pub before: u64,
+    pub after: u64,
+    pub charges: Charges,
 }
 
 // The starts of the waiting charges, in ticket order.
@@ -163,6 +163,7 @@ pub fn latest(charges: Charges, clock: u32, limit: u32, bound: u32) -> Proposed
 {
     let queue = charges.by_latest_start(clock);
     let begun = begun_profile(charges, clock);
+    // The rule has caps, but does not look at them.
     let caps = LineCaps::new(limit);
     let rule = Rule {
         capped: false,
@@ -177,6 +178,23 @@ pub fn latest(charges: Charges, clock: u32, limit: u32, bound: u32) -> Proposed
     let placed = placement.starts;
     let starts = waiting_starts(charges, clock, placed);
     Proposed { cause: 0, starts }
+}
+
+// What an unbalanced minute asks for: a lower cap for the line with the largest count, if a placed charge draws there.
+fn unbalanced_in(profile: Profile, begun: Profile, minute: u32, bound: u32) -> Outcome
+    requires { ⌜ Comparable profile begun minute bound ⌝ }
+    ensures { λ r. ⌜ r ≡ askedIn profile begun minute bound ⌝ }
+{
+    let one = profile.level(1, minute);
+    let two = profile.level(2, minute);
+    let three = profile.level(3, minute);
+    let line = largest_line(one, two, three);
+    if profile.level(line, minute) == begun.level(line, minute) {
+        return Outcome::Ends;
+    }
+    let low = smallest_line(one, two, three);
+    let cap = profile.level(low, minute) + bound;
+    Outcome::Lowers { line, minute, cap }
 }
 
 // One round: every waiting charge placed under the caps, and what the first unbalanced minute asks for.
@@ -210,27 +228,13 @@ fn play(
             proposed,
         };
     };
-    let one = profile.level(1, minute);
-    let two = profile.level(2, minute);
-    let three = profile.level(3, minute);
-    let line = largest_line(one, two, three);
-    if profile.level(line, minute) == begun.level(line, minute) {
-        let proposed = Proposed::none(1);
-        return Round {
-            outcome: Outcome::Ends,
-            proposed,
-        };
-    }
-    let low = smallest_line(one, two, three);
-    let cap = profile.level(low, minute) + bound;
-    let proposed = Proposed::none(2);
-    Round {
-        outcome: Outcome::Lowers { line, minute, cap },
-        proposed,
-    }
+    let outcome = unbalanced_in(profile, begun, minute, bound);
+    // Without a placed charge to blame there is no start; where a cap is lowered the cause is not looked at.
+    let proposed = Proposed::none(1);
+    Round { outcome, proposed }
 }
 
-// Replan by lines. An allowance of 0 counts as 1.
+// Replan by lines. At least one round is made, whatever the allowance.
 pub fn by_lines(charges: Charges, clock: u32, limit: u32, bound: u32, allowance: u32) -> Replanned
     requires { ⌜ Ready clock limit bound charges ⌝ }
     ensures { λ r. ⌜ Replans clock charges (byLines (limits limit bound) clock allowance (chargesOf charges)) r ⌝ }
@@ -247,7 +251,11 @@ pub fn by_lines(charges: Charges, clock: u32, limit: u32, bound: u32, allowance:
             return Replanned { proposed, rounds };
         };
         if allowance <= rounds {
-            return Replanned { proposed, rounds };
+            let spent = Proposed::none(2);
+            return Replanned {
+                proposed: spent,
+                rounds,
+            };
         }
         caps = caps.lower(line, minute, cap);
         rounds += 1;

@@ -1,17 +1,13 @@
 use native.Mathlib.Omega.{arith}
 use mathlib.Core.Path.{_≡_}
 use mathlib.Core.Logic.{⊎-elim}
-use Prim.Native.Nat.{ℕ, _≤_, _-_}
+use Prim.Native.Nat.{_≤_, _-_}
 use borrow.Author.Needs.{needs}
 use Rattle.rules.specs.Charge.{loadsOf}
 use Rattle.profile.specs.Shows.{Shows}
 use Rattle.planner.proofs.Showing.{begunBelow, begun-can-add, begun-on, begun-past}
 use Rattle.planner.proofs.begun_profile.Statement.{statement}
 use Rattle.planner.proofs.begun_profile.Tie as tie
-use Rattle.planner.proofs.begun_profile.Reads as reads
-use Rattle.planner.proofs.begun_profile.Lts as lts
-use Rattle.profile.proofs.Profile.add.Reads as add-reads
-use Rattle.profile.proofs.Profile.new.Reads as new-reads
 
 abbrev Inv-loop : tie.InvT-loop
 Inv-loop clock charges n profile₀ i₀ profile i = (i ≤ n) × Shows profile clock (loadsOf (begunBelow clock charges i))

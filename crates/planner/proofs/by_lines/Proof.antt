@@ -1,16 +1,9 @@
 use native.Mathlib.Omega.{arith}
-use Prim.Native.Nat.{ℕ, _-_}
+use Prim.Native.Nat.{_-_}
 use borrow.Author.Needs.{needs}
 use Rattle.planner.proofs.Counting.{Rounds, rounds-capped, rounds-start, rounds-done, rounds-spent, lowers-fit, rounds-next}
 use Rattle.planner.proofs.by_lines.Statement.{statement}
 use Rattle.planner.proofs.by_lines.Tie as tie
-use Rattle.planner.proofs.by_lines.Reads as reads
-use Rattle.planner.proofs.by_lines.Lts as lts
-use Rattle.charges.proofs.Charges.line_by_line.Reads as line-by-line-reads
-use Rattle.planner.proofs.begun_profile.Reads as begun-profile-reads
-use Rattle.planner.proofs.play.Reads as play-reads
-use Rattle.profile.proofs.caps.LineCaps.lower.Reads as lower-reads
-use Rattle.profile.proofs.caps.LineCaps.new.Reads as new-reads
 
 abbrev Inv-loop : tie.InvT-loop
 Inv-loop charges clock limit bound allowance queue begun caps₀ rounds₀ caps rounds = Rounds limit bound clock allowance charges caps rounds
@@ -42,8 +35,11 @@ enum-told c = search needs
 returns : tie.Need-returns Inv-loop μ-loop
 returns c = rounds-done (c .before .before .before .before .loop .inv) (c .before .before .before .play .ensures) (c .enum-told .given .1)
 
+none-requires : tie.Need-none-requires Inv-loop μ-loop
+none-requires c κs = search needs
+
 returns-2 : tie.Need-returns-2 Inv-loop μ-loop
-returns-2 c = rounds-spent (c .before .before .before .before .before .before .loop .inv) (c .before .before .before .before .before .play .ensures) (c .if1 .taken)
+returns-2 c = rounds-spent (c .before .before .before .before .before .before .before .loop .inv) (c .before .before .before .before .before .before .play .ensures) (c .before .before .before .outcome .given .1) (c .before .if1 .taken) (c .none .ensures .0) (c .none .ensures .1)
 
 lower-requires : tie.Need-lower-requires Inv-loop μ-loop
 lower-requires c κs = (c .before .before .before .before .before .before .loop .inv .shown .sizes, lowers-fit (c .before .before .before .before .before .before .loop .inv) (c .before .before .before .before .before .play .ensures) (c .before .before .outcome .given .1) .0)
@@ -71,6 +67,7 @@ by-lines-spec =
     enum-known-outcome
     enum-told
     returns
+    none-requires
     returns-2
     lower-requires
     add-rounds

@@ -1,19 +1,8 @@
-use native.Mathlib.Omega.{arith}
-use mathlib.Core.Path.{_≡_}
-use Prim.Native.Nat.{ℕ}
 use borrow.Author.Tests.{not-true, not-false}
 use Rattle.planner.proofs.Judging.{ends-fit, judges-three, judges-four, judges-five, judges-six, judges-seven, judges-none}
 use borrow.Author.Needs.{needs}
 use Rattle.planner.proofs.cause_of.Statement.{statement}
 use Rattle.planner.proofs.cause_of.Tie as tie
-use Rattle.planner.proofs.cause_of.Reads as reads
-use Rattle.planner.proofs.cause_of.Lts as lts
-use Rattle.charges.proofs.Charges.last_end.Reads as last-end-reads
-use Rattle.charges.proofs.Charges.lateness.Reads as lateness-reads
-use Rattle.charges.proofs.start_below.Reads as start-below-reads
-use Rattle.profile.proofs.Profile.first_unbalanced.Reads as first-unbalanced-reads
-use Rattle.profile.proofs.Profile.of.Reads as of-reads
-use Rattle.profile.proofs.Profile.within_limit.Reads as within-limit-reads
 
 start-below-requires : tie.Need-start-below-requires
 start-below-requires c κs = search needs

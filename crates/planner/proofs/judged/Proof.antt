@@ -1,14 +1,7 @@
-use native.Mathlib.Omega.{arith}
-use Prim.Native.Nat.{ℕ}
 use Rattle.planner.proofs.Judging.{judges-kept, judges-taken}
 use borrow.Author.Needs.{needs}
 use Rattle.planner.proofs.judged.Statement.{statement}
 use Rattle.planner.proofs.judged.Tie as tie
-use Rattle.planner.proofs.judged.Reads as reads
-use Rattle.planner.proofs.judged.Lts as lts
-use Rattle.charges.proofs.Charges.lateness.Reads as lateness-reads
-use Rattle.charges.proofs.Charges.restarted.Reads as restarted-reads
-use Rattle.planner.proofs.cause_of.Reads as cause-of-reads
 
 restarted-requires : tie.Need-restarted-requires
 restarted-requires c κs = (c .before .pre .0 .columns, c .before .pre .1, c .before .pre .2)

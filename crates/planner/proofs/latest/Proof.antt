@@ -1,18 +1,9 @@
-use native.Mathlib.Omega.{arith}
 use borrow.Author.Tests.{not-true, not-false}
 use Rattle.planner.proofs.Queueing.{queue-latest-start}
 use Rattle.planner.proofs.Proposing.{latest-none, latest-starts}
 use borrow.Author.Needs.{needs}
 use Rattle.planner.proofs.latest.Statement.{statement}
 use Rattle.planner.proofs.latest.Tie as tie
-use Rattle.planner.proofs.latest.Reads as reads
-use Rattle.planner.proofs.latest.Lts as lts
-use Rattle.charges.proofs.Charges.by_latest_start.Reads as by-latest-start-reads
-use Rattle.planner.proofs.Proposed.none.Reads as none-reads
-use Rattle.planner.proofs.begun_profile.Reads as begun-profile-reads
-use Rattle.planner.proofs.place_all.Reads as place-all-reads
-use Rattle.planner.proofs.waiting_starts.Reads as waiting-starts-reads
-use Rattle.profile.proofs.caps.LineCaps.new.Reads as new-reads
 
 by-latest-start-requires : tie.Need-by-latest-start-requires
 by-latest-start-requires c κs = search needs

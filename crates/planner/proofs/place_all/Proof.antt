@@ -1,18 +1,14 @@
 use native.Mathlib.Omega.{arith}
-use Prim.Native.Nat.{ℕ, _≤_, _-_}
+use Prim.Native.Nat.{_≤_, _-_}
 use borrow.Author.Needs.{needs}
 use Rattle.rules.specs.Search.{Caps}
 use Rattle.profile.specs.Caps.{CapsShown}
 use Rattle.profile.proofs.Lowerings.{can-cap}
 use Rattle.planner.specs.Ready.{begunOf}
 use Rattle.planner.specs.Placed.{searchOf}
-use Rattle.planner.proofs.Plans.{PlacedSoFar, placed-start, placed-end, next-inside, next-can-start, next-stuck, next-can-add, next-placed}
+use Rattle.planner.proofs.Plans.{PlacedSoFar, placed-start, placed-end, next-inside, next-below, next-can-start, next-stuck, next-can-add, next-placed}
 use Rattle.planner.proofs.place_all.Statement.{statement}
 use Rattle.planner.proofs.place_all.Tie as tie
-use Rattle.planner.proofs.place_all.Reads as reads
-use Rattle.planner.proofs.place_all.Lts as lts
-use Rattle.planner.proofs.smallest_start.Reads as smallest-start-reads
-use Rattle.profile.proofs.Profile.add.Reads as add-reads
 
 abbrev Inv-loop : tie.InvT-loop
 Inv-loop clock rule charges queue n profile₀ starts₀ k₀ profile starts k =
@@ -41,25 +37,25 @@ mul-line : tie.Need-mul-line Inv-loop μ-loop
 mul-line c =
     let l = c .before .before in
     let w = l .before .pre .3 in
-    omega (arith, next-inside (l .before .pre .0) (l .before .pre .1) (l .loop .inv .1 (w .cap) (w .shown)) (c .before .loop-test .taken), l .before .pre .0 .listed .columns .few)
+    omega (arith, next-below (l .before .pre .0) (l .before .pre .1) (l .loop .inv .1 (w .cap) (w .shown)) (c .before .loop-test .taken))
 
 element-copy-out-line : tie.Need-element-copy-out-line Inv-loop μ-loop
 element-copy-out-line c =
     let l = c .before .before in
     let w = l .before .pre .3 in
-    omega (arith, next-inside (l .before .pre .0) (l .before .pre .1) (l .loop .inv .1 (w .cap) (w .shown)) (c .before .loop-test .taken), l .before .pre .0 .listed .columns .few)
+    omega (arith, next-below (l .before .pre .0) (l .before .pre .1) (l .loop .inv .1 (w .cap) (w .shown)) (c .before .loop-test .taken))
 
 mul-time : tie.Need-mul-time Inv-loop μ-loop
 mul-time c =
     let l = c .before .before .before in
     let w = l .before .pre .3 in
-    omega (arith, next-inside (l .before .pre .0) (l .before .pre .1) (l .loop .inv .1 (w .cap) (w .shown)) (c .before .before .loop-test .taken), l .before .pre .0 .listed .columns .few)
+    omega (arith, next-below (l .before .pre .0) (l .before .pre .1) (l .loop .inv .1 (w .cap) (w .shown)) (c .before .before .loop-test .taken))
 
 element-copy-out-time : tie.Need-element-copy-out-time Inv-loop μ-loop
 element-copy-out-time c =
     let l = c .before .before .before in
     let w = l .before .pre .3 in
-    omega (arith, next-inside (l .before .pre .0) (l .before .pre .1) (l .loop .inv .1 (w .cap) (w .shown)) (c .before .before .loop-test .taken), l .before .pre .0 .listed .columns .few)
+    omega (arith, next-below (l .before .pre .0) (l .before .pre .1) (l .loop .inv .1 (w .cap) (w .shown)) (c .before .before .loop-test .taken))
 
 smallest-start-requires : tie.Need-smallest-start-requires Inv-loop μ-loop
 smallest-start-requires c κs =
@@ -103,13 +99,13 @@ mul-starts : tie.Need-mul-starts Inv-loop μ-loop
 mul-starts c =
     let l = c .before .before .before .before .before .before .before .before .before in
     let w = l .before .pre .3 in
-    omega (arith, next-inside (l .before .pre .0) (l .before .pre .1) (l .loop .inv .1 (w .cap) (w .shown)) (c .before .before .before .before .before .before .before .before .loop-test .taken), l .before .pre .0 .listed .columns .few)
+    omega (arith, next-below (l .before .pre .0) (l .before .pre .1) (l .loop .inv .1 (w .cap) (w .shown)) (c .before .before .before .before .before .before .before .before .loop-test .taken))
 
 array-write-starts : tie.Need-array-write-starts Inv-loop μ-loop
 array-write-starts c =
     let l = c .before .before .before .before .before .before .before .before .before in
     let w = l .before .pre .3 in
-    omega (arith, next-inside (l .before .pre .0) (l .before .pre .1) (l .loop .inv .1 (w .cap) (w .shown)) (c .before .before .before .before .before .before .before .before .loop-test .taken), l .before .pre .0 .listed .columns .few)
+    omega (arith, next-below (l .before .pre .0) (l .before .pre .1) (l .loop .inv .1 (w .cap) (w .shown)) (c .before .before .before .before .before .before .before .before .loop-test .taken))
 
 add-k : tie.Need-add-k Inv-loop μ-loop
 add-k c = omega arith

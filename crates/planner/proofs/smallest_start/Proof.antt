@@ -1,12 +1,7 @@
-use native.Mathlib.Omega.{arith}
 use Rattle.planner.proofs.Plans.{starts-under, starts-sound}
 use borrow.Author.Needs.{needs}
 use Rattle.planner.proofs.smallest_start.Statement.{statement}
 use Rattle.planner.proofs.smallest_start.Tie as tie
-use Rattle.planner.proofs.smallest_start.Reads as reads
-use Rattle.planner.proofs.smallest_start.Lts as lts
-use Rattle.profile.proofs.Profile.earliest.Reads as earliest-reads
-use Rattle.profile.proofs.Profile.earliest_under.Reads as earliest-under-reads
 
 earliest-under-requires : tie.Need-earliest-under-requires
 earliest-under-requires c κs = search needs

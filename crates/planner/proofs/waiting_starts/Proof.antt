@@ -4,8 +4,6 @@ use Prim.Native.Nat.{_≤_, _-_}
 use Rattle.planner.proofs.Collecting.{Collecting, collecting-start, collecting-begun, collecting-waiting, collecting-end}
 use Rattle.planner.proofs.waiting_starts.Statement.{statement}
 use Rattle.planner.proofs.waiting_starts.Tie as tie
-use Rattle.planner.proofs.waiting_starts.Reads as reads
-use Rattle.planner.proofs.waiting_starts.Lts as lts
 
 abbrev Inv-loop : tie.InvT-loop
 Inv-loop clock charges starts n listed₀ k₀ i₀ listed k i = (i ≤ n) × (k ≤ i) × Collecting clock charges starts i listed k
