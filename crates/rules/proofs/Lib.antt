@@ -6,3 +6,4 @@ pub mod Sorting
 pub mod Tables
 pub mod Judgements
 pub mod Rounds
+pub mod Validity

@@ -1,4 +1,5 @@
 -- Lists made from a function of the place, and lists of the members that pass a test.
+use mathlib.Core.Logic.{_⊎_, inl, inr}
 use mathlib.Core.Path.{_≡_, refl, ap}
 use Prim.Native.Nat.{ℕ, zero, suc, _+_, _≤_, _<_}
 use mathlib.Core.Bool.{Bool, true, false, cond, not, true≢false}
@@ -7,6 +8,7 @@ use native.Mathlib.Omega.{arith}
 use native.Mathlib.Numerals.{add-one}
 use lib.ListN.{length, getD}
 use Rattle.rules.specs.Basics.{Each, tabulate, keep}
+use Rattle.rules.proofs.Ranges.{below-or-not}
 
 pub length-tabulate : {A : Type 0} (f : ℕ → A) (k a : ℕ) → length (tabulate f k a) ≡ k
 length-tabulate f zero a = refl
@@ -103,3 +105,47 @@ each-map P Q f (a ∷ l) e = (f a (e .0), each-map P Q f l (e .1))
 pub each-append : {A : Type 0} (P : A → Type 0) (l m : List A) → Each P l → Each P m → Each P (l ++ m)
 each-append P [] m d e = e
 each-append P (a ∷ l) m d e = (d .0, each-append P l m (d .1) e)
+
+pub each-keep :
+    {A : Type 0} (P : A → Type 0) (f : A → Bool) (l : List A) → Each P l → Each (λ a. P a × (f a ≡ true)) (keep f l)
+each-keep P f [] e = tt
+each-keep P f (a ∷ l) e = go (f a) refl (each-keep P f l (e .1))
+  where
+    go :
+        (b : Bool)
+        → f a ≡ b
+        → Each (λ a. P a × (f a ≡ true)) (keep f l)
+        → Each (λ a. P a × (f a ≡ true)) (cond b (a ∷ keep f l) (keep f l))
+    go true p r = ((e .0, p), r)
+    go false p r = r
+
+-- what each member of a list made by place has, each place has, and the other way round
+pub each-tabulate :
+    {A : Type 0} (P : A → Type 0) (f : ℕ → A) (k a : ℕ)
+    → ((i : ℕ) → a ≤ i → i < a + k → P (f i))
+    → Each P (tabulate f k a)
+each-tabulate P f zero a h = tt
+each-tabulate P f (suc k) a h =
+    (h a (omega arith) (omega arith), each-tabulate P f k (suc a) (λ i p q. h i (omega arith) (omega arith)))
+
+pub tabulate-each :
+    {A : Type 0} (P : A → Type 0) (f : ℕ → A) (k a : ℕ)
+    → Each P (tabulate f k a)
+    → (i : ℕ)
+    → a ≤ i
+    → i < a + k
+    → P (f i)
+tabulate-each P f zero a e i p q = absurd (omega arith)
+tabulate-each P f (suc k) a e i p q = go (below-or-not a i) (λ h. tabulate-each P f k (suc a) (e .1) i h (omega arith))
+  where
+    go : (a < i) ⊎ (i ≤ a) → (a < i → P (f i)) → P (f i)
+    go (inl h) rest = rest h
+    go (inr h) rest = let same : i ≡ a = omega arith in rw same (e .0)
+
+pub length-keep : {A : Type 0} (f : A → Bool) (l : List A) → length (keep f l) ≤ length l
+length-keep f [] = omega arith
+length-keep f (a ∷ l) = go (f a) (length-keep f l)
+  where
+    go : (b : Bool) → length (keep f l) ≤ length l → length (cond b (a ∷ keep f l) (keep f l)) ≤ suc (length l)
+    go true h = omega arith
+    go false h = omega arith

@@ -205,6 +205,11 @@ moving s target list =
 -- Offer and both replans
 
 -- "Otherwise the station is unchanged. Answer: cause, lateness before and after (equal when kept), rounds used"
+abbrev pub kept : State → ℕ → ℕ → List ℕ → Result
+kept s cause rounds list =
+    record { answer = planned cause (lateness (s .charges)) (lateness (s .charges)) rounds; state = s; list = list }
+
+-- "Cause 0 means taken: the waiting charges get these starts."
 abbrev pub decided : State → ℕ → List ℕ → List ℕ → ℕ → Result
 decided s rounds ss list zero =
     let new : List Charge = restarted (s .clock) (s .charges) ss in
@@ -213,13 +218,12 @@ decided s rounds ss list zero =
       state = holding s (s .clock) new;
       list = list;
     }
-decided s rounds ss list (suc k) =
-    record { answer = planned (suc k) (lateness (s .charges)) (lateness (s .charges)) rounds; state = s; list = list }
+decided s rounds ss list (suc k) = kept s (suc k) rounds list
 
 -- "All three end with the same test."
 abbrev pub tested : State → ℕ → Proposal → List ℕ → Result
 tested s rounds (starts ss) list = decided s rounds ss list (judged (limitsOf s) (s .clock) (s .charges) ss)
-tested s rounds (none cause) list = decided s rounds [] list cause
+tested s rounds (none cause) list = kept s cause rounds list
 
 unfoldable pub offering : State → List ℕ → Result
 offering s ss = tested s 0 (starts ss) ss

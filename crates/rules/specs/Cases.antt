@@ -11,7 +11,7 @@ use Rattle.rules.specs.Charge.{Charge, loadsOf}
 use Rattle.rules.specs.Search.{earliest, earliestUnder, firstUnbalanced}
 use Rattle.rules.specs.Replan.{placeAll, latest, round, roundsFrom, byLines}
 use Rattle.rules.specs.Judgement.{judged}
-use Rattle.rules.specs.Calls.{State, Answer, refused, opened, ordered, moved, planned, waiting, charging, Result, opening, Call, order, move, offer, replanLatest, replanLines, enquire, ordering, moving, offering, replanningLatest, replanningLines, enquiring, step}
+use Rattle.rules.specs.Calls.{State, Answer, refused, opened, ordered, moved, planned, waiting, charging, Result, opening, Call, order, move, offer, replanLatest, replanLines, enquire, ordering, moving, offering, replanningLatest, replanningLines, enquiring, run}
 
 -- what a call gave: the answer, and the lent list whole
 pub record Given : Type 0 where
@@ -42,14 +42,13 @@ pub record Case : Type 0 where
   pub minutes : List Minute
 
 -- what the rules give for an entry
-abbrev givenBy : State → List Call → List Given
-givenBy s [] = []
-givenBy s (c ∷ cs) =
-    let r : Result = step s c in record { answer = r .answer; list = r .list } ∷ givenBy (r .state) cs
+abbrev gave : Result → Given
+gave r = record { answer = r .answer; list = r .list }
 
-abbrev stateAfter : State → List Call → State
+-- the station that the last call left
+abbrev stateAfter : State → List Result → State
 stateAfter s [] = s
-stateAfter s (c ∷ cs) = stateAfter (step s c .state) cs
+stateAfter s (r ∷ rs) = stateAfter (r .state) rs
 
 abbrev countedIn : List Charge → Minute → Minute
 countedIn cs m =
@@ -64,13 +63,15 @@ countedIn cs m =
 
 abbrev computed : Case → Case
 computed e =
+    let opened : Result = opening (e .limit) (e .percent) in
+    let results : List Result = run (opened .state) (e .calls) in
     record {
       limit = e .limit;
       percent = e .percent;
       calls = e .calls;
-      opening = opening (e .limit) (e .percent) .answer;
-      given = givenBy (opening (e .limit) (e .percent) .state) (e .calls);
-      minutes = map (countedIn (stateAfter (opening (e .limit) (e .percent) .state) (e .calls) .charges)) (e .minutes);
+      opening = opened .answer;
+      given = map gave results;
+      minutes = map (countedIn (stateAfter (opened .state) results .charges)) (e .minutes);
     }
 
 -- a report list of 360 places with a 7 in each

@@ -5,4 +5,5 @@ pub mod Search
 pub mod Replan
 pub mod Judgement
 pub mod Calls
+pub mod Valid
 pub mod Cases

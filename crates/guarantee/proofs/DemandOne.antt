@@ -1,0 +1,157 @@
+-- Demand 1.
+use mathlib.Core.Logic.{inl, inr}
+use mathlib.Core.Path.{_≡_, refl, sym, ap, subst, _∙_}
+use Prim.Native.Nat.{ℕ, zero, suc}
+use mathlib.Core.Bool.{Bool, true, false, _||_, true≢false}
+use mathlib.Core.List.{List, [], _∷_}
+use native.Mathlib.Omega.{arith}
+use lib.Dec.{eqb}
+use borrow.Author.Tests.{not-false}
+use Rattle.rules.specs.Basics.{some, firstOf}
+use Rattle.rules.specs.Charge.{Charge, endOf, isBegun}
+use Rattle.rules.specs.Replan.{Proposal, starts, none, latest, Replanned, byLines}
+use Rattle.rules.specs.Judgement.{judged}
+use Rattle.rules.specs.Calls.{State, limitsOf, Answer, refused, opened, planned, Result, answering, boundOf, fresh, openRefusals, opening, Call, order, move, offer, replanLatest, replanLines, enquire, lent, refusals, ordering, moving, decided, tested, offering, replanningLatest, replanningLines, told, enquiring, granted, step}
+use Rattle.rules.specs.Valid.{ValidState}
+use Rattle.rules.proofs.Tables.{firstOf-none, none-firstOf}
+use Rattle.rules.proofs.Validity.{opening-valid, step-valid, order-found}
+use Rattle.guarantee.specs.Past.{isRefused, Past, beginning, extended, after}
+use Rattle.guarantee.specs.Demands.{reached}
+use Rattle.guarantee.specs.DemandOne.{Lowest, NoneApplies, RefusedBy, AnswerTo, DemandOne, DemandOneOpening}
+use Rattle.guarantee.proofs.Tables.{Ascending, ascending-numbered, firstOf-lowest, applies-from, lowest-firstOf, refusals-ascend, openRefusals-ascend}
+
+-- What a table makes of a call
+
+-- a refusal of an answer that is none
+not-refused : (a : Answer) (k : ℕ) → isRefused a ≡ false → a ≡ refused k → ⊥
+not-refused a k e p = true≢false (sym (ap isRefused p) ∙ e)
+
+refused-by :
+    (rows : List (Bool × ℕ)) (kept : State) (list : List ℕ) (r : Result)
+    → Ascending 1 rows
+    → (NoneApplies rows → isRefused (r .answer) ≡ false)
+    → RefusedBy rows kept list (answering (firstOf rows) kept list r)
+refused-by rows kept list r up plain = go (firstOf rows) refl
+  where
+    go : (i : ℕ) → firstOf rows ≡ i → RefusedBy rows kept list (answering i kept list r)
+    go zero e =
+        let free : isRefused (r .answer) ≡ false = plain (firstOf-none rows (ascending-numbered 0 rows up) e) in
+        record {
+          number =
+              λ k. (
+                (λ p. absurd (not-refused (r .answer) k free p)),
+                (λ l. absurd (positive k l (sym (lowest-firstOf 1 k rows up l) ∙ e))),
+              );
+          same-station = λ p. absurd (true≢false (sym p ∙ free));
+          same-list = λ p. absurd (true≢false (sym p ∙ free));
+        }
+      where
+        positive : (k : ℕ) → Lowest rows k → k ≡ 0 → ⊥
+        positive k l z = omega (arith, applies-from 1 k rows up (l .applies))
+    go (suc i) e =
+        record {
+          number =
+              λ k. (
+                (λ p. let same : suc i ≡ k = cc in rw (← same) (firstOf-lowest 1 i rows up e)),
+                (λ l. ap refused (sym e ∙ lowest-firstOf 1 k rows up l)),
+              );
+          same-station = λ p. refl;
+          same-list = λ p. refl;
+        }
+
+-- The answers of a call that is not refused
+
+answer-not-refused : (c : Call) (a : Answer) → AnswerTo c a → isRefused a ≡ false
+answer-not-refused (order line p d) a (t, s, e) = rw e
+answer-not-refused (move target list) a (n, m, e) = rw e
+answer-not-refused (offer ss) a (i, b, c, n, e) = rw e
+answer-not-refused replanLatest a (i, b, c, n, e) = rw e
+answer-not-refused (replanLines allowance) a (i, b, c, n, e) = rw e
+answer-not-refused (enquire ticket) a (inl (s, e)) = rw e
+answer-not-refused (enquire ticket) a (inr (s, u, e)) = rw e
+
+-- a tested plan is answered with a cause
+abbrev Planned : Answer → Type 0
+Planned a = (i : ℕ) × (b : ℕ) × (c : ℕ) × (n : ℕ) × (a ≡ planned i b c n)
+
+decided-planned :
+    (s : State) (rounds : ℕ) (ss list : List ℕ) (j : ℕ) → Planned (decided s rounds ss list j .answer)
+decided-planned s rounds ss list zero = (_, _, _, _, refl)
+decided-planned s rounds ss list (suc j) = (_, _, _, _, refl)
+
+tested-planned : (s : State) (rounds : ℕ) (p : Proposal) (list : List ℕ) → Planned (tested s rounds p list .answer)
+tested-planned s rounds (starts ss) list =
+    decided-planned s rounds ss list (judged (limitsOf s) (s .clock) (s .charges) ss)
+tested-planned s rounds (none cause) list = (_, _, _, _, refl)
+
+-- a held charge is told of
+told-held :
+    (k t : ℕ) (cs : List Charge)
+    → some (λ c. eqb (c .ticket) t) cs ≡ true
+    → AnswerTo (enquire t) (told k cs t)
+told-held k t [] e = absurd (true≢false (sym e))
+told-held k t (c ∷ cs) e = go (eqb (c .ticket) t) refl (isBegun k c) refl e (told-held k t cs)
+  where
+    go :
+        (a : Bool)
+        → eqb (c .ticket) t ≡ a
+        → (b : Bool)
+        → isBegun k c ≡ b
+        → a || some (λ c. eqb (c .ticket) t) cs ≡ true
+        → (some (λ c. eqb (c .ticket) t) cs ≡ true → AnswerTo (enquire t) (told k cs t))
+        → AnswerTo (enquire t) (told k (c ∷ cs) t)
+    go true p true q u later = inr (c .start, endOf c, rw (p, q))
+    go true p false q u later = inl (c .start, rw (p, q))
+    go false p b q u later = rw p (later u)
+
+granted-answer : (s : State) (c : Call) → ValidState s → NoneApplies (refusals s c) → AnswerTo c (granted s c .answer)
+unfolding ordering moving offering replanningLatest replanningLines enquiring
+granted-answer s (order line p d) v q =
+    let f = order-found s line p v in (s .next, f .0, rw (f .1))
+granted-answer s (move target list) v q = (_, _, refl)
+granted-answer s (offer ss) v q = tested-planned s 0 (starts ss) ss
+granted-answer s replanLatest v q = tested-planned s 0 (latest (limitsOf s) (s .clock) (s .charges)) []
+granted-answer s (replanLines allowance) v q =
+    let r : Replanned = byLines (limitsOf s) (s .clock) allowance (s .charges) in
+    tested-planned s (r .rounds) (r .proposal) []
+granted-answer s (enquire ticket) v q =
+    told-held (s .clock) ticket (s .charges)
+    (not-false (some (λ c. eqb (c .ticket) ticket) (s .charges)) (q .0))
+
+-- The demand
+
+valid-demand-one : (s : State) → ValidState s → (call : Call) → DemandOne step s call
+valid-demand-one s v call =
+    record {
+      refused-by =
+          refused-by (refusals s call) s (lent call) (granted s call) (refusals-ascend s call)
+          (λ q. answer-not-refused call (granted s call .answer) (granted-answer s call v q));
+      answered =
+          λ q.
+          subst (λ (i : ℕ). AnswerTo call (answering i s (lent call) (granted s call) .answer))
+          (sym (none-firstOf (refusals s call) q))
+          (granted-answer s call v q);
+    }
+
+-- every station that an opening and calls lead to is valid
+pub reached-valid : (n c : ℕ) (calls : List Call) → ValidState (reached n c calls)
+reached-valid n c calls = after-valid calls (beginning (opening n c .state)) (opening-valid n c)
+  where
+    after-valid : (calls : List Call) (h : Past) → ValidState (h .station) → ValidState (after step h calls .station)
+    after-valid [] h v = v
+    after-valid (x ∷ calls) h v = after-valid calls (extended h x (step (h .station) x)) (step-valid (h .station) x v)
+
+pub demand-one : (n c : ℕ) (calls : List Call) (call : Call) → DemandOne step (reached n c calls) call
+demand-one n c calls call = valid-demand-one (reached n c calls) (reached-valid n c calls) call
+
+pub demand-one-opening : (n c : ℕ) → DemandOneOpening n c
+unfolding opening
+demand-one-opening n c =
+    record {
+      refused-by =
+          refused-by (openRefusals n c) (fresh 1 100) []
+          (record { answer = opened (boundOf n c); state = fresh n c; list = [] })
+          (openRefusals-ascend n c)
+          (λ q. refl);
+      answered = λ q. rw (none-firstOf (openRefusals n c) q) (refl, refl);
+    }

@@ -1,0 +1,131 @@
+-- The history: all accepted orders as charges with their present starts, the dropped ones too. What the calls do to it.
+use mathlib.Core.Path.{_≡_, refl}
+use Prim.Native.Nat.{ℕ, _+_, _≤_, _<_}
+use mathlib.Core.Bool.{Bool, true, false, cond, not}
+use mathlib.Core.List.{List, [], _∷_, map}
+use native.Mathlib.Omega.{arith}
+use borrow.Author.Tests.{ltb-false, leb-true, leb-false, lt-leb}
+use Rattle.rules.specs.Basics.{Each, keep}
+use Rattle.rules.specs.Load.{count}
+use Rattle.rules.specs.Charge.{Charge, starting, endOf, loadOf, loadsOf, isBegun, isFinished, unfinishedCharges, lastEnd}
+use Rattle.rules.specs.Judgement.{restarted}
+use Rattle.rules.proofs.Lists.{each-map, each-keep}
+use Rattle.rules.proofs.Counts.{draws-before}
+use Rattle.rules.proofs.Validity.{lastEnd-each, Restarted, empty, same, other}
+use Rattle.guarantee.specs.Past.{Order}
+
+-- the order that a charge stands for
+abbrev pub orderOf : Charge → Order
+orderOf c = record { ticket = c .ticket; line = c .line; minute = c .orderMinute; time = c .time }
+
+abbrev pub ordersOf : List Charge → List Order
+ordersOf cs = map orderOf cs
+
+-- what holds of each charge of the history at clock k
+pub record Fit (k : ℕ) (c : Charge) : Type 0 where
+  pub lasts : 1 ≤ c .time
+  pub known : c .orderMinute ≤ k
+  pub not-early : c .orderMinute ≤ c .start
+
+-- Unfinished charges
+
+-- what is unfinished at a later clock
+pub unfinished-later :
+    (k m : ℕ) (cs : List Charge) → k ≤ m → unfinishedCharges m (unfinishedCharges k cs) ≡ unfinishedCharges m cs
+unfinished-later k m [] h = refl
+unfinished-later k m (c ∷ cs) h = go (isFinished k c) (isFinished m c) refl refl (unfinished-later k m cs h)
+  where
+    go :
+        (a b : Bool)
+        → isFinished k c ≡ a
+        → isFinished m c ≡ b
+        → unfinishedCharges m (unfinishedCharges k cs) ≡ unfinishedCharges m cs
+        → unfinishedCharges m (unfinishedCharges k (c ∷ cs)) ≡ unfinishedCharges m (c ∷ cs)
+    go true true p q ih = rw (p, q, ih)
+    go true false p q ih =
+        let i : endOf c ≤ k = leb-true (endOf c) k p in
+        let j : m < endOf c = leb-false (endOf c) m q in
+        absurd (omega arith)
+    go false true p q ih = rw (p, q, ih)
+    go false false p q ih = rw (p, q, ih)
+
+pub lastEnd-keep :
+    (f : Charge → Bool) (b : ℕ) (cs : List Charge) → Each (λ c. endOf c ≤ b) cs → lastEnd (keep f cs) ≤ b
+lastEnd-keep f b cs e =
+    lastEnd-each b (keep f cs)
+    (each-map (λ c. (endOf c ≤ b) × (f c ≡ true)) (λ c. endOf c ≤ b) (λ c p. p .0) (keep f cs)
+    (each-keep (λ c. endOf c ≤ b) f cs e))
+
+-- the last end of the unfinished charges bounds each end after the clock
+pub unfinished-lastEnd :
+    (k b : ℕ) (cs : List Charge) → lastEnd (unfinishedCharges k cs) ≤ b → Each (λ c. k < endOf c → endOf c ≤ b) cs
+unfinished-lastEnd k b [] h = tt
+unfinished-lastEnd k b (c ∷ cs) h = go (isFinished k c) refl h (unfinished-lastEnd k b cs)
+  where
+    go :
+        (x : Bool)
+        → isFinished k c ≡ x
+        → lastEnd (cond (not x) (c ∷ unfinishedCharges k cs) (unfinishedCharges k cs)) ≤ b
+        → (lastEnd (unfinishedCharges k cs) ≤ b → Each (λ c. k < endOf c → endOf c ≤ b) cs)
+        → (k < endOf c → endOf c ≤ b) × Each (λ c. k < endOf c → endOf c ≤ b) cs
+    go true p u ih = let q : endOf c ≤ k = leb-true (endOf c) k p in ((λ j. absurd (omega arith)), ih u)
+    go false p u ih = ((λ j. omega arith), ih (omega arith))
+
+-- New starts for waiting charges
+
+restarted-nothing : (k : ℕ) (cs : List Charge) → restarted k cs [] ≡ cs
+restarted-nothing k [] = refl
+restarted-nothing k (c ∷ cs) = refl
+
+pub restarted-orders : {k : ℕ} {cs ds : List Charge} → Restarted k cs ds → ordersOf ds ≡ ordersOf cs
+restarted-orders empty = refl
+restarted-orders (same r) = rw (restarted-orders r)
+restarted-orders (other h j r) = rw (restarted-orders r)
+
+-- minutes gone are not touched
+pub restarted-count :
+    {k : ℕ} {cs ds : List Charge}
+    → Restarted k cs ds
+    → (l t : ℕ)
+    → t < k
+    → count (loadsOf ds) l t ≡ count (loadsOf cs) l t
+restarted-count empty l t h = refl
+restarted-count (same r) l t h = rw (restarted-count r l t h)
+restarted-count (other {c = c} {s = s} i j r) l t h =
+    rw (
+      restarted-count r l t h,
+      draws-before (loadOf c) l t (omega arith),
+      draws-before (loadOf (starting c s)) l t (omega arith),
+    )
+
+-- new starts for the held charges are new starts for the history
+pub restarted-unfinished :
+    (k : ℕ) (cs : List Charge) (ss : List ℕ)
+    → Each (Fit k) cs
+    → Each (λ s. k ≤ s) ss
+    → restarted k (unfinishedCharges k cs) ss ≡ unfinishedCharges k (restarted k cs ss)
+restarted-unfinished k [] ss f e = refl
+restarted-unfinished k (c ∷ cs) [] f e = restarted-nothing k (unfinishedCharges k (c ∷ cs))
+restarted-unfinished k (c ∷ cs) (s ∷ ss) f e =
+    go (isFinished k c) (isBegun k c) refl refl
+    (restarted-unfinished k cs (s ∷ ss) (f .1) e)
+    (restarted-unfinished k cs ss (f .1) (e .1))
+  where
+    go :
+        (b d : Bool)
+        → isFinished k c ≡ b
+        → isBegun k c ≡ d
+        → restarted k (unfinishedCharges k cs) (s ∷ ss) ≡ unfinishedCharges k (restarted k cs (s ∷ ss))
+        → restarted k (unfinishedCharges k cs) ss ≡ unfinishedCharges k (restarted k cs ss)
+        → restarted k (unfinishedCharges k (c ∷ cs)) (s ∷ ss) ≡ unfinishedCharges k (restarted k (c ∷ cs) (s ∷ ss))
+    go true true p q u v = rw (p, q, p, u)
+    go true false p q u v =
+        let j : endOf c ≤ k = leb-true (endOf c) k p in
+        let i : k ≤ c .start = ltb-false (c .start) k q in
+        let o : 1 ≤ c .time = f .0 .lasts in
+        absurd (omega arith)
+    go false true p q u v = rw (p, q, p, u)
+    go false false p q u v =
+        let j : k ≤ s = e .0 in
+        let o : 1 ≤ c .time = f .0 .lasts in
+        rw (p, q, lt-leb (s + c .time) k (omega arith), v)

@@ -1,0 +1,242 @@
+-- What holds after every list of calls, and that an order, a clock move and a taken plan keep it.
+use mathlib.Core.Logic.{_⊎_, inl, inr}
+use mathlib.Core.Path.{_≡_, refl, sym, ap, _∙_}
+use Prim.Native.Nat.{ℕ, suc, _+_, _-_, _≤_, _<_}
+use mathlib.Core.Bool.{true, not}
+use mathlib.Core.List.{List, [], _∷_, _++_}
+use native.Mathlib.Omega.{arith}
+use lib.ListN.{length, length-append}
+use borrow.Author.Tests.{le-ltb}
+use Rattle.rules.specs.Basics.{Each, keep}
+use Rattle.rules.specs.Load.{Limits, counts, lastUntil, sound}
+use Rattle.rules.specs.Charge.{Charge, endOf, loadOf, loadsOf, isFinished, unfinishedCharges, lastEnd}
+use Rattle.rules.specs.Search.{added}
+use Rattle.rules.specs.Judgement.{restarted}
+use Rattle.rules.specs.Calls.{isPassed, startBefore, reported, pairs}
+use Rattle.rules.specs.Valid.{Rising}
+use Rattle.rules.proofs.Ranges.{below-or-not}
+use Rattle.rules.proofs.Lists.{map-append, each-map, each-append}
+use Rattle.rules.proofs.Counts.{Sound, sound-same, sound-from, count-append, draws-before}
+use Rattle.rules.proofs.Judgements.{Meets}
+use Rattle.rules.proofs.Validity.{last-until, rising-append, restarted-rising, Restarted, restarted-is, restarted-each, count-unfinished}
+use Rattle.guarantee.specs.Past.{Order, Report, firstPairs, Numbered, totalTime, lastMinute}
+use Rattle.guarantee.proofs.Each.{each-two}
+use Rattle.guarantee.proofs.History.{orderOf, ordersOf, Fit, lastEnd-keep, unfinished-lastEnd, restarted-unfinished, restarted-orders, restarted-count}
+use Rattle.guarantee.proofs.Reports.{Worth, sumReports, sumBegun, sumReports-append, sumBegun-append, sum-sorted, sum-pairs, sum-passed, sum-restarted}
+
+-- y: limit and bound; k: the clock; os: the accepted orders; hs: the history; rs: the reports
+pub record Invariant (y : Limits) (k : ℕ) (os : List Order) (hs : List Charge) (rs : List Report) : Type 0 where
+  -- the accepted orders
+  pub numbered : Numbered 1 os
+  pub last : lastMinute 0 os ≤ k
+  -- the history has a charge for each, and no other
+  pub orders : ordersOf hs ≡ os
+  pub rising : Rising 1 hs
+  pub given : Each (λ c. c .ticket ≤ length os) hs
+  pub fit : Each (Fit k) hs
+  pub in-time : Each (λ c. endOf c ≤ lastMinute 0 os + totalTime os) hs
+  -- every minute, gone or to come
+  pub always : (t : ℕ) → Sound y (counts (loadsOf hs) t)
+  pub reports : (f : Worth) → sumReports f rs ≡ sumBegun f k hs
+
+-- One order more
+
+numbered-append :
+    (i : ℕ) (os : List Order) (o : Order)
+    → Numbered i os
+    → o .ticket ≡ i + length os
+    → Numbered i (os ++ (o ∷ []))
+numbered-append i [] o n e = (omega arith, tt)
+numbered-append i (x ∷ os) o n e = (n .0, numbered-append (suc i) os o (n .1) (omega arith))
+
+totalTime-append : (os ps : List Order) → totalTime (os ++ ps) ≡ totalTime os + totalTime ps
+totalTime-append [] ps = omega arith
+totalTime-append (o ∷ os) ps = rw (totalTime-append os ps) (omega arith)
+
+lastMinute-append : (m : ℕ) (os : List Order) (o : Order) → lastMinute m (os ++ (o ∷ [])) ≡ o .minute
+lastMinute-append m [] o = refl
+lastMinute-append m (x ∷ os) o = lastMinute-append (x .minute) os o
+
+module _ (y : Limits) (k : ℕ) (os : List Order) (hs : List Charge) (rs : List Report) (inv : Invariant y k os hs rs) where
+  -- An order
+
+  module _
+      (c : Charge)
+      (ticket : c .ticket ≡ suc (length os))
+      (minute : c .orderMinute ≡ k)
+      (lasts : 1 ≤ c .time)
+      (low : k ≤ c .start)
+      (high : c .start < k + suc (lastUntil (loadsOf (unfinishedCharges k hs)) - k))
+      (ok : sound y k (added (loadsOf (unfinishedCharges k hs)) (c .line) (c .time) (c .start)) ≡ true)
+    where
+      order-always : (t : ℕ) → Sound y (counts (loadsOf (hs ++ (c ∷ []))) t)
+      order-always t = rw (map-append loadOf hs (c ∷ [])) (go (below-or-not t k))
+        where
+          go : (t < k) ⊎ (k ≤ t) → Sound y (counts (loadsOf hs ++ (loadOf c ∷ [])) t)
+          go (inl h) =
+              sound-same y (counts (loadsOf hs) t) (counts (loadsOf hs ++ (loadOf c ∷ [])) t)
+              (λ l j.
+              rw (count-append (loadsOf hs) (loadOf c ∷ []) l t, draws-before (loadOf c) l t (omega arith)) (omega arith))
+              (inv .always t)
+          go (inr h) =
+              sound-same y
+              (counts (loadsOf (unfinishedCharges k hs) ++ (loadOf c ∷ [])) t)
+              (counts (loadsOf hs ++ (loadOf c ∷ [])) t)
+              (λ l j.
+              rw (
+                count-append (loadsOf hs) (loadOf c ∷ []) l t,
+                count-append (loadsOf (unfinishedCharges k hs)) (loadOf c ∷ []) l t,
+                count-unfinished k hs l t h,
+              ))
+              (sound-from y k (added (loadsOf (unfinishedCharges k hs)) (c .line) (c .time) (c .start)) ok t h)
+
+      order-last : lastMinute 0 (os ++ (orderOf c ∷ [])) ≡ k
+      order-last = lastMinute-append 0 os (orderOf c) ∙ minute
+
+      order-total : totalTime (os ++ (orderOf c ∷ [])) ≡ totalTime os + c .time
+      order-total = rw (totalTime-append os (orderOf c ∷ [])) (omega arith)
+
+      order-in-time : Each (λ x. endOf x ≤ k + (totalTime os + c .time)) (hs ++ (c ∷ []))
+      order-in-time =
+          let e : lastEnd (unfinishedCharges k hs) ≤ lastMinute 0 os + totalTime os
+          = lastEnd-keep _ (lastMinute 0 os + totalTime os) hs (inv .in-time) in
+          each-append (λ x. endOf x ≤ k + (totalTime os + c .time)) hs (c ∷ [])
+          (each-map
+          (λ x. endOf x ≤ lastMinute 0 os + totalTime os)
+          (λ x. endOf x ≤ k + (totalTime os + c .time))
+          (λ x h. omega (arith, inv .last))
+          hs
+          (inv .in-time))
+          (omega (arith, inv .last, last-until (unfinishedCharges k hs)), tt)
+
+      pub after-order : Invariant y k (os ++ (orderOf c ∷ [])) (hs ++ (c ∷ [])) rs
+      after-order =
+          record {
+            numbered = numbered-append 1 os (orderOf c) (inv .numbered) (omega arith);
+            last = rw order-last (omega arith);
+            orders = map-append orderOf hs (c ∷ []) ∙ ap (λ (l : List Order). l ++ (orderOf c ∷ [])) (inv .orders);
+            rising =
+                rising-append 1 hs c (inv .rising) (omega arith)
+                (each-map (λ x. x .ticket ≤ length os) (λ x. x .ticket < c .ticket) (λ x h. omega arith) hs (inv .given));
+            given =
+                rw (length-append os (orderOf c ∷ []))
+                (each-append (λ x. x .ticket ≤ length os + 1) hs (c ∷ [])
+                (each-map (λ x. x .ticket ≤ length os) (λ x. x .ticket ≤ length os + 1) (λ x h. omega arith) hs (inv .given))
+                (omega arith, tt));
+            fit =
+                each-append (Fit k) hs (c ∷ []) (inv .fit)
+                (record { lasts = lasts; known = omega arith; not-early = omega arith }, tt);
+            in-time = rw (order-last, order-total) order-in-time;
+            always = order-always;
+            reports =
+                λ f. inv .reports f ∙ rw (sumBegun-append f k hs (c ∷ []), le-ltb (c .start) k low) (omega arith);
+          }
+
+  -- A clock move
+
+  pub after-move :
+      (m : ℕ) (rest : List ℕ)
+      → k ≤ m
+      → Invariant y m os hs
+      (rs
+      ++ firstPairs (length (reported k m (unfinishedCharges k hs)))
+      (pairs (reported k m (unfinishedCharges k hs)) ++ rest))
+  after-move m rest h =
+      record {
+        numbered = inv .numbered;
+        last = omega (arith, inv .last);
+        orders = inv .orders;
+        rising = inv .rising;
+        given = inv .given;
+        fit =
+            each-map (Fit k) (Fit m)
+            (λ x f. record { lasts = f .lasts; known = omega arith; not-early = f .not-early })
+            hs
+            (inv .fit);
+        in-time = inv .in-time;
+        always = inv .always;
+        reports =
+            λ f.
+            sumReports-append f rs _
+            ∙ rw (
+              sum-pairs f (reported k m (unfinishedCharges k hs)) rest,
+              sum-sorted f startBefore (keep (isPassed k m) (unfinishedCharges k hs)),
+              inv .reports f,
+            )
+            (sum-passed f k m hs h (inv .fit));
+      }
+
+  -- A plan that is taken
+
+  module _
+      (ss : List ℕ)
+      (ok : Meets y k (unfinishedCharges k hs) ss (restarted k (unfinishedCharges k hs) ss))
+    where
+      pub plan-restarted : Restarted k hs (restarted k hs ss)
+      plan-restarted = restarted-is k hs ss (ok .none-early)
+
+      pub plan-held : restarted k (unfinishedCharges k hs) ss ≡ unfinishedCharges k (restarted k hs ss)
+      plan-held = restarted-unfinished k hs ss (inv .fit) (ok .none-early)
+
+      plan-always : (t : ℕ) → Sound y (counts (loadsOf (restarted k hs ss)) t)
+      plan-always t = go (below-or-not t k)
+        where
+          go : (t < k) ⊎ (k ≤ t) → Sound y (counts (loadsOf (restarted k hs ss)) t)
+          go (inl h) =
+              sound-same y (counts (loadsOf hs) t) (counts (loadsOf (restarted k hs ss)) t)
+              (λ l j. restarted-count plan-restarted l t h)
+              (inv .always t)
+          go (inr h) =
+              sound-same y
+              (counts (loadsOf (restarted k (unfinishedCharges k hs) ss)) t)
+              (counts (loadsOf (restarted k hs ss)) t)
+              (λ l j. rw plan-held (sym (count-unfinished k (restarted k hs ss) l t h)))
+              (record { limit = ok .limit t h; balance = ok .balance t h })
+
+      -- ends of unfinished charges are bounded by the last end, ends of finished ones did not change
+      plan-in-time : (b : ℕ) → Each (λ c. endOf c ≤ b) hs → Each (λ c. endOf c ≤ b) (restarted k hs ss)
+      plan-in-time b e =
+          each-two
+          (λ c. (1 ≤ c .time) × (endOf c ≤ k → endOf c ≤ b))
+          (λ c. k < endOf c → endOf c ≤ b)
+          (λ c. endOf c ≤ b)
+          (λ c p q. go c (below-or-not k (endOf c)) (p .1) q)
+          (restarted k hs ss)
+          (restarted-each
+          (λ c. (1 ≤ c .time) × (endOf c ≤ k → endOf c ≤ b))
+          (λ c s h p. (p .0, λ q. absurd (omega arith)))
+          plan-restarted
+          (each-two (Fit k) (λ c. endOf c ≤ b) (λ c. (1 ≤ c .time) × (endOf c ≤ k → endOf c ≤ b))
+          (λ c f h. (f .lasts, λ q. h))
+          hs
+          (inv .fit)
+          e))
+          (unfinished-lastEnd k b (restarted k hs ss)
+          (rw (← plan-held) (omega (arith, ok .not-later, lastEnd-keep (λ c. not (isFinished k c)) b hs e))))
+        where
+          go :
+              (c : Charge)
+              → (k < endOf c) ⊎ (endOf c ≤ k)
+              → (endOf c ≤ k → endOf c ≤ b)
+              → (k < endOf c → endOf c ≤ b)
+              → endOf c ≤ b
+          go c (inl h) p q = q h
+          go c (inr h) p q = p h
+
+      pub after-plan : Invariant y k os (restarted k hs ss) rs
+      after-plan =
+          record {
+            numbered = inv .numbered;
+            last = inv .last;
+            orders = restarted-orders plan-restarted ∙ inv .orders;
+            rising = restarted-rising 1 plan-restarted (inv .rising);
+            given = restarted-each (λ c. c .ticket ≤ length os) (λ c s h g. g) plan-restarted (inv .given);
+            fit =
+                restarted-each (Fit k)
+                (λ c s h f. record { lasts = f .lasts; known = f .known; not-early = omega (arith, f .known) })
+                plan-restarted
+                (inv .fit);
+            in-time = plan-in-time (lastMinute 0 os + totalTime os) (inv .in-time);
+            always = plan-always;
+            reports = λ f. inv .reports f ∙ sym (sum-restarted f plan-restarted);
+          }

@@ -1,0 +1,13 @@
+pub mod Each
+pub mod Tables
+pub mod History
+pub mod Reports
+pub mod Tickets
+pub mod Invariant
+pub mod Steps
+pub mod DemandThree
+pub mod DemandOne
+pub mod Proposals
+pub mod DemandTwo
+pub mod Demands
+pub mod Refuted

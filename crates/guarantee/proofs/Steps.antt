@@ -1,0 +1,268 @@
+-- One call after another: each keeps the invariant.
+use mathlib.Core.Path.{_≡_, refl, _∙_}
+use Prim.Native.Nat.{ℕ, zero, suc, _+_, _-_, _≤_, _<_}
+use mathlib.Core.Bool.{not}
+use mathlib.Core.List.{List, [], _∷_, _++_, append-nil}
+use native.Mathlib.Omega.{arith}
+use native.Mathlib.Nat.{le-trans}
+use native.Mathlib.Numerals.{add-one}
+use lib.Dec.{ltb}
+use lib.ListN.{length, length-append}
+use borrow.Author.Tests.{ltb-false, lt-leb}
+use Rattle.rules.specs.Basics.{Found, at, nothing, firstOf}
+use Rattle.rules.specs.Load.{lastUntil, sound}
+use Rattle.rules.specs.Charge.{Charge, starting, loadsOf, isFinished, unfinishedCharges}
+use Rattle.rules.specs.Search.{added, earliest}
+use Rattle.rules.specs.Replan.{Proposal, starts, none, latest, byLines}
+use Rattle.rules.specs.Judgement.{restarted, judged}
+use Rattle.rules.specs.Calls.{State, limitsOf, Answer, refused, Result, answering, Call, order, move, offer, replanLatest, replanLines, enquire, lent, refusals, newCharge, orderedAt, ordering, moving, decided, tested, offering, replanningLatest, replanningLines, enquiring, granted, step}
+use Rattle.rules.proofs.Ranges.{or-left, IsFirst}
+use Rattle.rules.proofs.Lists.{keep-append}
+use Rattle.rules.proofs.Searches.{earliest-first}
+use Rattle.rules.proofs.Tables.{NoneHolds, firstOf-none}
+use Rattle.rules.proofs.Judgements.{judged-meets}
+use Rattle.rules.proofs.Validity.{Restarted, empty, same, other}
+use Rattle.guarantee.specs.Past.{Order, Report, nothingNew, learnt, Past, extended, after}
+use Rattle.guarantee.proofs.Tables.{ascending-numbered, refusals-ascend}
+use Rattle.guarantee.proofs.History.{orderOf, unfinished-later}
+use Rattle.guarantee.proofs.Invariant.{Invariant, after-order, after-move, after-plan, plan-restarted, plan-held}
+
+-- the station that is left: s is the one that the opening gave, k the clock, os the accepted orders, hs the history
+abbrev pub stationOf : State → ℕ → List Order → List Charge → State
+stationOf s k os hs =
+    record {
+      limit = s .limit;
+      percent = s .percent;
+      bound = s .bound;
+      clock = k;
+      next = suc (length os);
+      charges = unfinishedCharges k hs;
+    }
+
+-- The history goes on
+
+-- hs goes on as ds; what was begun at clock k has its start
+pub data Grown (k : ℕ) : List Charge → List Charge → Type 0 where
+  more : {ds : List Charge} → Grown k [] ds
+  on :
+      {c d : Charge} {cs ds : List Charge}
+      → orderOf d ≡ orderOf c
+      → (c .start < k → d .start ≡ c .start)
+      → Grown k cs ds
+      → Grown k (c ∷ cs) (d ∷ ds)
+
+grown-append : (k : ℕ) (cs ds : List Charge) → Grown k cs (cs ++ ds)
+grown-append k [] ds = more
+grown-append k (c ∷ cs) ds = on refl (λ h. refl) (grown-append k cs ds)
+
+grown-refl : (k : ℕ) (cs : List Charge) → Grown k cs cs
+grown-refl k [] = more
+grown-refl k (c ∷ cs) = on refl (λ h. refl) (grown-refl k cs)
+
+grown-restarted : {k : ℕ} {cs ds : List Charge} → Restarted k cs ds → Grown k cs ds
+grown-restarted empty = more
+grown-restarted (same r) = on refl (λ h. refl) (grown-restarted r)
+grown-restarted (other {c = c} {s = s} i j r) =
+    on {c = c} {d = starting c s} refl (λ h. absurd (omega arith)) (grown-restarted r)
+
+grown-trans : {k m : ℕ} {cs ds es : List Charge} → k ≤ m → Grown k cs ds → Grown m ds es → Grown k cs es
+grown-trans h more b = more
+grown-trans h (on p q a) (on p' q' b) =
+    on (p' ∙ p) (λ j. q' (let e = q j in omega arith) ∙ q j) (grown-trans h a b)
+
+-- One call
+
+-- what a call with its result leaves
+pub record Next (s : State) (k : ℕ) (os : List Order) (hs : List Charge) (rs : List Report) (c : Call) (r : Result) : Type 0 where
+  pub now : List Charge
+  pub later : k ≤ learnt k c (r .answer) (r .list) .clock
+  pub station :
+      r .state
+      ≡ stationOf s (learnt k c (r .answer) (r .list) .clock) (os ++ learnt k c (r .answer) (r .list) .orders) now
+  pub invariant :
+      Invariant (limitsOf s)
+      (learnt k c (r .answer) (r .list) .clock)
+      (os ++ learnt k c (r .answer) (r .list) .orders)
+      now
+      (rs ++ learnt k c (r .answer) (r .list) .reports)
+  pub grown : Grown k hs now
+
+-- a refusal lets one learn nothing
+refused-learnt : (k j : ℕ) (c : Call) (list : List ℕ) → learnt k c (refused j) list ≡ nothingNew k
+refused-learnt k j (order line p d) list = refl
+refused-learnt k j (move target l) list = refl
+refused-learnt k j (offer ss) list = refl
+refused-learnt k j replanLatest list = refl
+refused-learnt k j (replanLines allowance) list = refl
+refused-learnt k j (enquire ticket) list = refl
+
+module _
+    (s : State) (k : ℕ) (os : List Order) (hs : List Charge) (rs : List Report)
+    (inv : Invariant (limitsOf s) k os hs rs)
+  where
+    -- other starts, and nothing else
+    becomes :
+        (c : Call) (r : Result) (ds : List Charge)
+        → learnt k c (r .answer) (r .list) ≡ nothingNew k
+        → r .state ≡ stationOf s k os ds
+        → Invariant (limitsOf s) k os ds rs
+        → Grown k hs ds
+        → Next s k os hs rs c r
+    becomes c r ds e y i g =
+        record {
+          now = ds;
+          later = rw e (omega arith);
+          station = rw (e, append-nil os) y;
+          invariant = rw (e, append-nil os, append-nil rs) i;
+          grown = g;
+        }
+
+    stays :
+        (c : Call) (r : Result)
+        → learnt k c (r .answer) (r .list) ≡ nothingNew k
+        → r .state ≡ stationOf s k os hs
+        → Next s k os hs rs c r
+    stays c r e y = becomes c r hs e y inv (grown-refl k hs)
+
+    tested-next :
+        (c : Call) (rounds : ℕ) (p : Proposal) (list : List ℕ)
+        → ((a : Answer) → learnt k c a list ≡ nothingNew k)
+        → Next s k os hs rs c (tested (stationOf s k os hs) rounds p list)
+    tested-next c rounds (starts ss) list e = go (judged (limitsOf s) k (unfinishedCharges k hs) ss) refl
+      where
+        go :
+            (j : ℕ)
+            → judged (limitsOf s) k (unfinishedCharges k hs) ss ≡ j
+            → Next s k os hs rs c (decided (stationOf s k os hs) rounds ss list j)
+        go zero q =
+            let ok = judged-meets (limitsOf s) k (unfinishedCharges k hs) ss q in
+            becomes c _ (restarted k hs ss) (e _)
+            (rw (plan-held (limitsOf s) k os hs rs inv ss ok))
+            (after-plan (limitsOf s) k os hs rs inv ss ok)
+            (grown-restarted (plan-restarted (limitsOf s) k os hs rs inv ss ok))
+        go (suc j) q = stays c _ (e _) refl
+    tested-next c rounds (none cause) list e = stays c _ (e _) refl
+
+    order-next :
+        (line p d : ℕ)
+        → 1 ≤ p
+        → (f : Found)
+        → earliest (limitsOf s) k (loadsOf (unfinishedCharges k hs)) line p ≡ f
+        → Next s k os hs rs (order line p d) (orderedAt (stationOf s k os hs) (newCharge (stationOf s k os hs) line p d) f)
+    order-next line p d lasts (at start) e =
+        let new : Charge = newCharge (stationOf s k os hs) line p d start in
+        let r : IsFirst (λ u. sound (limitsOf s) k (added (loadsOf (unfinishedCharges k hs)) line p u))
+        (suc (lastUntil (loadsOf (unfinishedCharges k hs)) - k)) k start
+        = earliest-first (limitsOf s) k (loadsOf (unfinishedCharges k hs)) line p start e in
+        record {
+          now = hs ++ (new ∷ []);
+          later = omega arith;
+          station =
+              rw (
+                keep-append (λ c. not (isFinished k c)) hs (new ∷ []),
+                lt-leb (start + p) k (omega (arith, r .low)),
+                length-append os (orderOf new ∷ []),
+                add-one,
+              );
+          invariant =
+              rw (append-nil rs)
+              (after-order (limitsOf s) k os hs rs inv new refl refl lasts (r .low) (r .high) (r .here));
+          grown = grown-append k hs (new ∷ []);
+        }
+    order-next line p d lasts nothing e = stays (order line p d) _ refl refl
+
+    -- a call that is not refused
+    granted-next :
+        (c : Call)
+        → NoneHolds (refusals (stationOf s k os hs) c)
+        → Next s k os hs rs c (granted (stationOf s k os hs) c)
+    unfolding ordering moving offering replanningLatest replanningLines enquiring
+    granted-next (order line p d) q =
+        order-next line p d (ltb-false p 1 (or-left (ltb p 1) (ltb 1440 p) (q .1 .0))) _ refl
+    granted-next (move target list) q =
+        let h : k ≤ target = ltb-false target k (q .1 .1 .0) in
+        record {
+          now = hs;
+          later = h;
+          station = rw (append-nil os, unfinished-later k target hs h);
+          invariant =
+              rw (append-nil os)
+              (after-move (limitsOf s) k os hs rs inv target _ h);
+          grown = grown-refl k hs;
+        }
+    granted-next (offer ss) q = tested-next (offer ss) 0 (starts ss) ss (λ a. refl)
+    granted-next replanLatest q =
+        tested-next replanLatest 0 (latest (limitsOf s) k (unfinishedCharges k hs)) [] (λ a. refl)
+    granted-next (replanLines allowance) q =
+        tested-next (replanLines allowance)
+        (byLines (limitsOf s) k allowance (unfinishedCharges k hs) .rounds)
+        (byLines (limitsOf s) k allowance (unfinishedCharges k hs) .proposal)
+        []
+        (λ a. refl)
+    granted-next (enquire ticket) q = stays (enquire ticket) _ refl refl
+
+    step-next : (c : Call) → Next s k os hs rs c (step (stationOf s k os hs) c)
+    step-next c =
+        go (firstOf (refusals (stationOf s k os hs) c))
+        (λ e.
+        granted-next c
+        (firstOf-none (refusals (stationOf s k os hs) c)
+        (ascending-numbered 0 (refusals (stationOf s k os hs) c) (refusals-ascend (stationOf s k os hs) c))
+        e))
+      where
+        go :
+            (j : ℕ)
+            → (j ≡ 0 → Next s k os hs rs c (granted (stationOf s k os hs) c))
+            → Next s k os hs rs c
+            (answering j (stationOf s k os hs) (lent c) (granted (stationOf s k os hs) c))
+        go zero f = f refl
+        go (suc j) f = stays c _ (refused-learnt k (suc j) c (lent c)) refl
+
+-- A list of calls
+
+-- what is known after some calls, and the history behind it
+pub record Known (s : State) (h : Past) (hs : List Charge) : Type 0 where
+  pub station : h .station ≡ stationOf s (h .clock) (h .orders) hs
+  pub invariant : Invariant (limitsOf s) (h .clock) (h .orders) hs (h .reports)
+
+-- from one past to a later one
+pub record Reach (s : State) (h : Past) (hs : List Charge) (g : Past) : Type 0 where
+  pub now : List Charge
+  pub known : Known s g now
+  pub later : h .clock ≤ g .clock
+  pub grown : Grown (h .clock) hs now
+
+reach-one :
+    (s : State) (h : Past) (hs : List Charge) (c : Call)
+    → Known s h hs
+    → Reach s h hs (extended h c (step (h .station) c))
+reach-one s h hs c known =
+    let x : Next s (h .clock) (h .orders) hs (h .reports) c (step (h .station) c)
+    = rw (known .station) (step-next s (h .clock) (h .orders) hs (h .reports) (known .invariant) c) in
+    record {
+      now = x .now;
+      known = record { station = x .station; invariant = x .invariant };
+      later = x .later;
+      grown = x .grown;
+    }
+
+pub reach :
+    (s : State) (calls : List Call) (h : Past) (hs : List Charge)
+    → Known s h hs
+    → Reach s h hs (after step h calls)
+reach s [] h hs known = record { now = hs; known = known; later = omega arith; grown = grown-refl (h .clock) hs }
+reach s (c ∷ calls) h hs known =
+    let x : Reach s h hs (extended h c (step (h .station) c)) = reach-one s h hs c known in
+    let r = reach s calls (extended h c (step (h .station) c)) (x .now) (x .known) in
+    record {
+      now = r .now;
+      known = r .known;
+      later = le-trans (x .later) (r .later);
+      grown = grown-trans (x .later) (x .grown) (r .grown);
+    }
+
+-- a first part, then the rest
+pub after-append :
+    (part rest : List Call) (h : Past) → after step h (part ++ rest) ≡ after step (after step h part) rest
+after-append [] rest h = refl
+after-append (c ∷ part) rest h = after-append part rest (extended h c (step (h .station) c))

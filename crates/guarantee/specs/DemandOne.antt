@@ -1,0 +1,47 @@
+-- Demand 1: what is refused, with which number, and that nothing else is.
+use mathlib.Core.Logic.{_⊎_, _↔_}
+use mathlib.Core.Path.{_≡_}
+use Prim.Native.Nat.{ℕ, _≤_}
+use mathlib.Core.Bool.{Bool, true, false, _&&_}
+use mathlib.Core.List.{List, []}
+use lib.Dec.{eqb}
+use Rattle.rules.specs.Basics.{Each, some}
+use Rattle.rules.specs.Calls.{State, Answer, refused, opened, ordered, moved, planned, waiting, charging, Result, boundOf, fresh, openRefusals, opening, Call, order, move, offer, replanLatest, replanLines, enquire, lent, refusals}
+use Rattle.guarantee.specs.Past.{isRefused}
+
+-- "Where several apply, the lowest number": the condition with number k holds, and none with a lower number
+pub record Lowest (rows : List (Bool × ℕ)) (k : ℕ) : Type 0 where
+  pub applies : some (λ row. row .0 && eqb (row .1) k) rows ≡ true
+  pub lowest : Each (λ row. row .0 ≡ true → k ≤ row .1) rows
+
+abbrev pub NoneApplies : List (Bool × ℕ) → Type 0
+NoneApplies rows = Each (λ row. row .0 ≡ false) rows
+
+-- What the listed conditions make of a call; `kept` and `list` are the station and the lent list before it.
+pub record RefusedBy (rows : List (Bool × ℕ)) (kept : State) (list : List ℕ) (r : Result) : Type 0 where
+  -- "Each gets its number": refused with a number exactly when it is the lowest of those that apply
+  pub number : (k : ℕ) → (r .answer ≡ refused k) ↔ Lowest rows k
+  -- "and changes neither the station nor any lent list."
+  pub same-station : isRefused (r .answer) ≡ true → r .state ≡ kept
+  pub same-list : isRefused (r .answer) ≡ true → r .list ≡ list
+
+-- the answers of a call that is not refused
+abbrev pub AnswerTo : Call → Answer → Type 0
+AnswerTo (order line p d) a = (t : ℕ) × (s : ℕ) × (a ≡ ordered t s)
+AnswerTo (move target list) a = (n : ℕ) × (m : ℕ) × (a ≡ moved n m)
+AnswerTo (offer ss) a = (i : ℕ) × (b : ℕ) × (c : ℕ) × (n : ℕ) × (a ≡ planned i b c n)
+AnswerTo replanLatest a = (i : ℕ) × (b : ℕ) × (c : ℕ) × (n : ℕ) × (a ≡ planned i b c n)
+AnswerTo (replanLines allowance) a = (i : ℕ) × (b : ℕ) × (c : ℕ) × (n : ℕ) × (a ≡ planned i b c n)
+AnswerTo (enquire ticket) a = ((s : ℕ) × (a ≡ waiting s)) ⊎ ((s : ℕ) × (e : ℕ) × (a ≡ charging s e))
+
+-- a call to a station that stands: refusals 4 to 15; `gives` is what a call to a station gives
+pub record DemandOne (gives : State → Call → Result) (s : State) (call : Call) : Type 0 where
+  pub refused-by : RefusedBy (refusals s call) s (lent call) (gives s call)
+  -- "No other call is refused, and every call returns."
+  pub answered : NoneApplies (refusals s call) → AnswerTo call (gives s call .answer)
+
+-- an opening: refusals 1 to 3, "beside a refused opening stands the fresh station of 1, 100"
+pub record DemandOneOpening (n c : ℕ) : Type 0 where
+  pub refused-by : RefusedBy (openRefusals n c) (fresh 1 100) [] (opening n c)
+  pub answered :
+      NoneApplies (openRefusals n c) → (opening n c .answer ≡ opened (boundOf n c)) × (opening n c .state ≡ fresh n c)

@@ -1,0 +1,99 @@
+-- Demand 2: when a plan is taken, the start that an order gets, and what offers and replans leave.
+use mathlib.Core.Logic.{_↔_}
+use mathlib.Core.Path.{_≡_}
+use Prim.Native.Nat.{ℕ, _+_, _≤_, _<_}
+use mathlib.Core.Bool.{true}
+use mathlib.Core.List.{List, map}
+use Rattle.rules.specs.Basics.{Each}
+use Rattle.rules.specs.Load.{Load, active, count, IsLine}
+use Rattle.rules.specs.Charge.{Charge, starting, endOf, loadOf, loadsOf, begunCharges, waitingCharges, lastEnd, lateness}
+use Rattle.rules.specs.Search.{added}
+use Rattle.rules.specs.Replan.{Proposal, starts, none, latest, byLines}
+use Rattle.rules.specs.Judgement.{restarted, judged}
+use Rattle.rules.specs.Calls.{State, limitsOf, holding, Answer, ordered, planned, Result, Call, order, offer, replanLatest, replanLines, lent, refusals, newCharge, taking}
+use Rattle.guarantee.specs.DemandOne.{NoneApplies}
+
+-- Constraints III and IV in every minute from the clock on, with the lines as parameters.
+pub record SoundPlan (s : State) (xs : List Load) : Type 0 where
+  -- III: "each count is at most N"
+  pub limit : (l t : ℕ) → IsLine l → s .clock ≤ t → count xs l t ≤ s .limit
+  -- IV: "each two counts differ by at most D"
+  pub balance : (l m t : ℕ) → IsLine l → IsLine m → s .clock ≤ t → count xs l t ≤ count xs m t + s .bound
+
+-- constraint II: a charge is active from its start to its end, and in no other minute
+abbrev pub Unbroken : Charge → Type 0
+Unbroken c = (t : ℕ) → (active (loadOf c) t ≡ true) ↔ ((c .start ≤ t) × (t < endOf c))
+
+-- What demand 2 asks of a list of starts; `new` is the held charges, the waiting ones with these starts.
+pub record Better (s : State) (ss : List ℕ) (new : List Charge) : Type 0 where
+  -- "it starts nothing before the clock,"
+  pub not-before-clock : Each (λ u. s .clock ≤ u) ss
+  -- "meets constraints I to IV of the published paper,"
+  pub not-before-order : Each (λ c. c .orderMinute ≤ c .start) new
+  pub unbroken : Each Unbroken new
+  pub sound : SoundPlan s (loadsOf new)
+  -- "ends no later than the held plan"
+  pub no-later : lastEnd new ≤ lastEnd (s .charges)
+  -- "and is less late"
+  pub less-late : lateness new < lateness (s .charges)
+
+-- "Cause 0 means taken"
+abbrev pub Taken : Answer → Type 0
+Taken a = (before : ℕ) × (after : ℕ) × (rounds : ℕ) × (a ≡ planned 0 before after rounds)
+
+-- "the waiting charges get these starts", and nothing else is changed
+pub record GivenStarts (s : State) (ss : List ℕ) (next : State) : Type 0 where
+  pub waiting-starts : map (λ (c : Charge). c .start) (waitingCharges (s .clock) (next .charges)) ≡ ss
+  pub begun-same : begunCharges (s .clock) (next .charges) ≡ begunCharges (s .clock) (s .charges)
+  -- but for the starts
+  pub charges-same : map (λ c. starting c 0) (next .charges) ≡ map (λ c. starting c 0) (s .charges)
+  pub station-same : next ≡ holding s (s .clock) (next .charges)
+
+-- the cause for keeping the old plan, "first that applies", and 0 for taking the new one
+abbrev pub causeOf : State → Proposal → ℕ
+causeOf s (starts ss) = judged (limitsOf s) (s .clock) (s .charges) ss
+causeOf s (none cause) = cause
+
+-- "All three end with the same test." The result of a call that comes with a list of starts, or with none, after some rounds.
+pub record Tested (s : State) (call : Call) (proposal : Proposal) (rounds : ℕ) (r : Result) : Type 0 where
+  -- "taken exactly when": not refused, and its list is better
+  pub taken :
+      Taken (r .answer)
+      ↔ (NoneApplies (refusals s call)
+      × ((ss : List ℕ) × (proposal ≡ starts ss) × Better s ss (restarted (s .clock) (s .charges) ss)))
+  pub given : (ss : List ℕ) → proposal ≡ starts ss → Taken (r .answer) → GivenStarts s ss (r .state)
+  -- "Otherwise the station is unchanged."
+  pub unchanged : (Taken (r .answer) → ⊥) → r .state ≡ s
+  -- "Answer: cause, lateness before and after (equal when kept), rounds used"
+  pub answer :
+      NoneApplies (refusals s call)
+      → r .answer ≡ planned (causeOf s proposal) (lateness (s .charges)) (lateness (r .state .charges)) rounds
+  pub same-list : r .list ≡ lent call
+
+-- "An order gets the earliest start that these constraints allow with no other start moved"
+pub record OrderStart (s : State) (line p d : ℕ) (r : Result) : Type 0 where
+  pub start : ℕ
+  pub answer : r .answer ≡ ordered (s .next) start
+  -- constraint I: the order minute is the clock
+  pub not-early : s .clock ≤ start
+  pub sound : SoundPlan s (added (loadsOf (s .charges)) line p start)
+  pub earliest : (u : ℕ) → s .clock ≤ u → SoundPlan s (added (loadsOf (s .charges)) line p u) → start ≤ u
+  -- `taking` puts the new charge behind the held ones, which stay as they are
+  pub others-same : r .state ≡ taking s (newCharge s line p d start)
+
+-- `gives` is what a call to a station gives
+pub record DemandTwo (gives : State → Call → Result) (s : State) : Type 0 where
+  pub orders :
+      (line p d : ℕ)
+      → NoneApplies (refusals s (order line p d))
+      → OrderStart s line p d (gives s (order line p d))
+  pub offers : (ss : List ℕ) → Tested s (offer ss) (starts ss) 0 (gives s (offer ss))
+  -- "replans follow the paper as document 01 fixes it": `latest` and `byLines` are its definitions;
+  -- "rounds used (0 but by lines)"
+  pub replans-latest : Tested s replanLatest (latest (limitsOf s) (s .clock) (s .charges)) 0 (gives s replanLatest)
+  pub replans-lines :
+      (allowance : ℕ)
+      → Tested s (replanLines allowance)
+      (byLines (limitsOf s) (s .clock) allowance (s .charges) .proposal)
+      (byLines (limitsOf s) (s .clock) allowance (s .charges) .rounds)
+      (gives s (replanLines allowance))

@@ -1,0 +1,177 @@
+-- What is known after a list of calls, read off the calls, their answers and the lists afterwards
+-- (document 01, "The words of demand 3 go by the calls").
+use mathlib.Core.Path.{_≡_}
+use Prim.Native.Nat.{ℕ, zero, suc, _+_}
+use mathlib.Core.Bool.{Bool, true, false, cond}
+use mathlib.Core.List.{List, [], _∷_, _++_, map}
+use lib.Dec.{eqb}
+use Rattle.rules.specs.Load.{Load, loadFrom, count}
+use Rattle.rules.specs.Calls.{State, Answer, refused, opened, ordered, moved, planned, waiting, charging, Result, Call, order, move, offer, replanLatest, replanLines, enquire, step}
+
+-- An accepted order: its ticket is that of the answer. "Its order minute is the clock at that moment; its line and p are
+-- those passed in."
+pub record Order : Type 0 where
+  pub ticket : ℕ
+  pub line : ℕ
+  pub minute : ℕ
+  pub time : ℕ
+
+-- one pair of a report list: "ticket, start"
+pub record Report : Type 0 where
+  pub ticket : ℕ
+  pub start : ℕ
+
+-- What an answer says
+
+abbrev pub isRefused : Answer → Bool
+isRefused (refused k) = true
+isRefused (opened d) = false
+isRefused (ordered t s) = false
+isRefused (moved n m) = false
+isRefused (planned c b a n) = false
+isRefused (waiting s) = false
+isRefused (charging s e) = false
+
+-- the ticket, where it gives one
+abbrev pub ticketIn : Answer → List ℕ
+ticketIn (refused k) = []
+ticketIn (opened d) = []
+ticketIn (ordered t s) = t ∷ []
+ticketIn (moved n m) = []
+ticketIn (planned c b a n) = []
+ticketIn (waiting s) = []
+ticketIn (charging s e) = []
+
+-- how many were reported
+abbrev pub reportedIn : Answer → ℕ
+reportedIn (refused k) = 0
+reportedIn (opened d) = 0
+reportedIn (ordered t s) = 0
+reportedIn (moved n m) = n
+reportedIn (planned c b a n) = 0
+reportedIn (waiting s) = 0
+reportedIn (charging s e) = 0
+
+-- the start, where an enquiry gives one; 0 where it does not
+abbrev pub startIn : Answer → ℕ
+startIn (refused k) = 0
+startIn (opened d) = 0
+startIn (ordered t s) = 0
+startIn (moved n m) = 0
+startIn (planned c b a n) = 0
+startIn (waiting s) = s
+startIn (charging s e) = s
+
+-- What one call adds
+
+-- the first n pairs of a list
+abbrev pub firstPairs : ℕ → List ℕ → List Report
+firstPairs zero l = []
+firstPairs (suc n) [] = []
+firstPairs (suc n) (t ∷ []) = []
+firstPairs (suc n) (t ∷ s ∷ l) = record { ticket = t; start = s } ∷ firstPairs n l
+
+-- the clock after a call, the order that it accepted, and what it reported
+pub record Learnt : Type 0 where
+  pub clock : ℕ
+  pub orders : List Order
+  pub reports : List Report
+
+abbrev pub nothingNew : ℕ → Learnt
+nothingNew clock = record { clock = clock; orders = []; reports = [] }
+
+-- "The clock is the target of the last move not refused." "An order is accepted when it is answered with a ticket."
+-- A call with its answer and its list afterwards, made at some clock.
+abbrev pub learnt : ℕ → Call → Answer → List ℕ → Learnt
+learnt clock (order line p d) a list =
+    record {
+      clock = clock;
+      orders = map (λ t. record { ticket = t; line = line; minute = clock; time = p }) (ticketIn a);
+      reports = [];
+    }
+learnt clock (move target lent) a list =
+    record { clock = cond (isRefused a) clock target; orders = []; reports = firstPairs (reportedIn a) list }
+learnt clock (offer ss) a list = nothingNew clock
+learnt clock replanLatest a list = nothingNew clock
+learnt clock (replanLines allowance) a list = nothingNew clock
+learnt clock (enquire ticket) a list = nothingNew clock
+
+-- What is known after a list of calls
+
+-- the clock, all accepted orders and all reports, in the order of the calls;
+-- the station left serves for the next call and for enquiries only
+pub record Past : Type 0 where
+  pub clock : ℕ
+  pub orders : List Order
+  pub reports : List Report
+  pub station : State
+
+-- "0 before one"
+abbrev pub beginning : State → Past
+beginning s = record { clock = 0; orders = []; reports = []; station = s }
+
+abbrev pub extended : Past → Call → Result → Past
+extended h c r =
+    let new : Learnt = learnt (h .clock) c (r .answer) (r .list) in
+    record {
+      clock = new .clock;
+      orders = h .orders ++ new .orders;
+      reports = h .reports ++ new .reports;
+      station = r .state;
+    }
+
+-- "Each call gets the station that the last one left"; `gives` is what a call to a station gives: `step` of the rules, and
+-- in specs/Wrong.antt something else.
+abbrev pub after : (State → Call → Result) → Past → List Call → Past
+after gives h [] = h
+after gives h (c ∷ calls) = after gives (extended h c (gives (h .station) c)) calls
+
+abbrev pub past : (State → Call → Result) → State → List Call → Past
+past gives s calls = after gives (beginning s) calls
+
+-- Reports, starts and counts
+
+abbrev pub timesReported : List Report → ℕ → ℕ
+timesReported [] t = 0
+timesReported (r ∷ rs) t = cond (eqb (r .ticket) t) 1 0 + timesReported rs t
+
+-- the start reported with ticket t, s where there is none
+abbrev pub reportedStart : List Report → ℕ → ℕ → ℕ
+reportedStart [] t s = s
+reportedStart (r ∷ rs) t s = cond (eqb (r .ticket) t) (r .start) (reportedStart rs t s)
+
+-- what an enquiry would answer
+abbrev pub enquiry : Past → ℕ → Answer
+enquiry h t = step (h .station) (enquire t) .answer
+
+-- "the start of an order is the one reported by the clock move that passed it, and until then the one that an enquiry would give"
+-- (0 where neither gives one; the fields `reported` and `waits` of demand 3 leave no accepted order so)
+abbrev pub startOf : Past → Order → ℕ
+startOf h o = reportedStart (h .reports) (o .ticket) (startIn (enquiry h (o .ticket)))
+
+-- "Its end is this start + p."
+abbrev pub endOf : Past → Order → ℕ
+endOf h o = startOf h o + o .time
+
+-- "each active from its start as above", unbroken for its full time
+abbrev pub loadOf : Past → Order → Load
+loadOf h o = loadFrom (o .line) (o .time) (startOf h o)
+
+-- "A line's count in a minute takes all accepted orders of the list, dropped ones too."
+abbrev pub countIn : Past → ℕ → ℕ → ℕ
+countIn h l t = count (map (loadOf h) (h .orders)) l t
+
+-- "tickets are 1, 2, 3 and so on in the order of acceptance": here from i on
+abbrev pub Numbered : ℕ → List Order → Type 0
+Numbered i [] = Unit {0}
+Numbered i (o ∷ os) = (o .ticket ≡ i) × Numbered (suc i) os
+
+-- "the charging times of all accepted orders"
+abbrev pub totalTime : List Order → ℕ
+totalTime [] = 0
+totalTime (o ∷ os) = o .time + totalTime os
+
+-- "the order minute of the last accepted order", m without one
+abbrev pub lastMinute : ℕ → List Order → ℕ
+lastMinute m [] = m
+lastMinute m (o ∷ os) = lastMinute (o .minute) os

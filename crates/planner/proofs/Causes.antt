@@ -1,0 +1,99 @@
+-- The test of a plan: one law for each cause, and for the plan that is taken.
+use mathlib.Core.Logic.{_⊎_, inl, inr}
+use mathlib.Core.Path.{_≡_, refl, sym, _∙_}
+use Prim.Native.Nat.{ℕ, zero, suc, _+_, _-_, max, _≤_, _<_}
+use mathlib.Core.Bool.{Bool, true, false, not, true≢false}
+use mathlib.Core.List.{List, [], _∷_}
+use native.Mathlib.Omega.{arith}
+use lib.Dec.{ltb}
+use borrow.Author.Tests.{ltb-true, ltb-false, lt-ltb, le-ltb, not-true, not-false}
+use Rattle.rules.specs.Basics.{tabulate, throughout, Found, at, nothing, first, some}
+use Rattle.rules.specs.Load.{Load, lastUntil, Limits, limitAt, balanceAt, fromOn}
+use Rattle.rules.specs.Charge.{Charge, endOf, loadsOf, lastEnd, lateness}
+use Rattle.rules.specs.Search.{firstUnbalanced}
+use Rattle.rules.specs.Judgement.{restarted, causes, judged}
+use Rattle.rules.proofs.Ranges.{fails, below-or-not, throughout-at, throughout-all, IsFirst, first-found, first-none}
+
+-- Ends
+
+pub last-until-end : (cs : List Charge) → lastUntil (loadsOf cs) ≡ lastEnd cs
+last-until-end [] = refl
+last-until-end (c ∷ cs) = rw (last-until-end cs)
+
+pub end-below-last : (f : ℕ → Charge) (k a i : ℕ) → a ≤ i → i < a + k → endOf (f i) ≤ lastEnd (tabulate f k a)
+end-below-last f zero a i h j = absurd (omega arith)
+end-below-last f (suc k) a i h j = go (below-or-not a i) (λ l. end-below-last f k (suc a) i l (omega arith))
+  where
+    go :
+        (a < i) ⊎ (i ≤ a)
+        → (a < i → endOf (f i) ≤ lastEnd (tabulate f k (suc a)))
+        → endOf (f i) ≤ max (endOf (f a)) (lastEnd (tabulate f k (suc a)))
+    go (inl l) later = omega (arith, later l)
+    go (inr l) later = let same : i ≡ a = omega arith in rw same (omega arith)
+
+pub last-below : (f : ℕ → Charge) (k a b : ℕ) → ((i : ℕ) → a ≤ i → i < a + k → endOf (f i) ≤ b) → lastEnd (tabulate f k a) ≤ b
+last-below f zero a b h = omega arith
+last-below f (suc k) a b h =
+    omega (
+      arith,
+      h a (omega arith) (omega arith),
+      last-below f k (suc a) b (λ i p q. h i (omega arith) (omega arith)),
+    )
+
+-- Balance
+
+-- there is no unbalanced minute exactly when every minute is in balance
+pub none-unbalanced :
+    (y : Limits) (clock : ℕ) (xs : List Load)
+    → firstUnbalanced y clock xs ≡ nothing
+    → fromOn clock xs (balanceAt y xs) ≡ true
+unfolding firstUnbalanced
+none-unbalanced y clock xs e =
+    throughout-all (balanceAt y xs) (lastUntil xs - clock) clock
+    (λ t h j. not-false (balanceAt y xs t) (first-none (λ u. not (balanceAt y xs u)) (lastUntil xs - clock) clock e t h j))
+
+pub some-unbalanced :
+    (y : Limits) (clock : ℕ) (xs : List Load) (t : ℕ)
+    → firstUnbalanced y clock xs ≡ at t
+    → fromOn clock xs (balanceAt y xs) ≡ false
+unfolding firstUnbalanced
+some-unbalanced y clock xs t e =
+    let f = first-found (λ u. not (balanceAt y xs u)) (lastUntil xs - clock) clock t e in
+    fails (fromOn clock xs (balanceAt y xs))
+    (λ h.
+    true≢false
+    (sym (throughout-at (balanceAt y xs) (lastUntil xs - clock) clock h t (f .low) (f .high))
+    ∙ not-true (balanceAt y xs t) (f .here)))
+
+-- Causes
+
+module _ (y : Limits) (clock : ℕ) (held : List Charge) (ss : List ℕ) (new : List Charge) (is : new ≡ restarted clock held ss) where
+  pub cause-three : some (λ s. ltb s clock) ss ≡ true → judged y clock held ss ≡ 3
+  unfolding judged
+  cause-three a = rw a
+
+  module _ (a : some (λ s. ltb s clock) ss ≡ false) where
+    pub cause-four : lastEnd held < lastEnd new → judged y clock held ss ≡ 4
+    unfolding judged
+    cause-four b = rw (a, ← is, lt-ltb (lastEnd held) (lastEnd new) b)
+
+    module _ (b : lastEnd new ≤ lastEnd held) where
+      pub cause-five : fromOn clock (loadsOf new) (limitAt y (loadsOf new)) ≡ false → judged y clock held ss ≡ 5
+      unfolding judged
+      cause-five d = rw (a, ← is, le-ltb (lastEnd held) (lastEnd new) b, d)
+
+      module _ (d : fromOn clock (loadsOf new) (limitAt y (loadsOf new)) ≡ true) where
+        pub cause-six : fromOn clock (loadsOf new) (balanceAt y (loadsOf new)) ≡ false → judged y clock held ss ≡ 6
+        unfolding judged
+        cause-six e = rw (a, ← is, le-ltb (lastEnd held) (lastEnd new) b, d, e)
+
+        module _ (e : fromOn clock (loadsOf new) (balanceAt y (loadsOf new)) ≡ true) where
+          pub cause-seven : lateness held ≤ lateness new → judged y clock held ss ≡ 7
+          unfolding judged
+          cause-seven f =
+              rw (a, ← is, le-ltb (lastEnd held) (lastEnd new) b, d, e, le-ltb (lateness new) (lateness held) f)
+
+          pub cause-none : lateness new < lateness held → judged y clock held ss ≡ 0
+          unfolding judged
+          cause-none f =
+              rw (a, ← is, le-ltb (lastEnd held) (lastEnd new) b, d, e, lt-ltb (lateness new) (lateness held) f)

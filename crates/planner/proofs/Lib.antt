@@ -1,0 +1,10 @@
+pub mod Placing
+pub mod Counting
+pub mod Collecting
+pub mod Causes
+pub mod Showing
+pub mod Queueing
+pub mod Plans
+pub mod Proposing
+pub mod Playing
+pub mod Judging

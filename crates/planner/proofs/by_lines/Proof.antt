@@ -1,0 +1,78 @@
+use native.Mathlib.Omega.{arith}
+use Prim.Native.Nat.{ℕ, _-_}
+use borrow.Author.Needs.{needs}
+use Rattle.planner.proofs.Counting.{Rounds, rounds-capped, rounds-start, rounds-done, rounds-spent, lowers-fit, rounds-next}
+use Rattle.planner.proofs.by_lines.Statement.{statement}
+use Rattle.planner.proofs.by_lines.Tie as tie
+use Rattle.planner.proofs.by_lines.Reads as reads
+use Rattle.planner.proofs.by_lines.Lts as lts
+use Rattle.charges.proofs.Charges.line_by_line.Reads as line-by-line-reads
+use Rattle.planner.proofs.begun_profile.Reads as begun-profile-reads
+use Rattle.planner.proofs.play.Reads as play-reads
+use Rattle.profile.proofs.caps.LineCaps.lower.Reads as lower-reads
+use Rattle.profile.proofs.caps.LineCaps.new.Reads as new-reads
+
+abbrev Inv-loop : tie.InvT-loop
+Inv-loop charges clock limit bound allowance queue begun caps₀ rounds₀ caps rounds = Rounds limit bound clock allowance charges caps rounds
+
+abbrev μ-loop : tie.MeasureT-loop
+μ-loop charges clock limit bound allowance queue begun caps₀ rounds₀ caps rounds = allowance - rounds
+
+line-by-line-requires : tie.Need-line-by-line-requires Inv-loop μ-loop
+line-by-line-requires c κs = search needs
+
+begun-profile-requires : tie.Need-begun-profile-requires Inv-loop μ-loop
+begun-profile-requires c κs = search needs
+
+new-requires : tie.Need-new-requires Inv-loop μ-loop
+new-requires c κs = search needs
+
+loop-holds : tie.Need-loop-holds Inv-loop μ-loop
+loop-holds c = rounds-start (c .before .before .before .args .allowance) (c .before .before .before .pre) (c .new .ensures)
+
+play-requires : tie.Need-play-requires Inv-loop μ-loop
+play-requires c κs = (c .before .before .before .before .pre, c .before .before .before .line-by-line .ensures, c .before .before .begun-profile .ensures, rounds-capped (c .loop .inv))
+
+enum-known-outcome : tie.Need-enum-known-outcome Inv-loop μ-loop
+enum-known-outcome c = search needs
+
+enum-told : tie.Need-enum-told Inv-loop μ-loop
+enum-told c = search needs
+
+returns : tie.Need-returns Inv-loop μ-loop
+returns c = rounds-done (c .before .before .before .before .loop .inv) (c .before .before .before .play .ensures) (c .enum-told .given .1)
+
+returns-2 : tie.Need-returns-2 Inv-loop μ-loop
+returns-2 c = rounds-spent (c .before .before .before .before .before .before .loop .inv) (c .before .before .before .before .before .play .ensures) (c .if1 .taken)
+
+lower-requires : tie.Need-lower-requires Inv-loop μ-loop
+lower-requires c κs = (c .before .before .before .before .before .before .loop .inv .shown .sizes, lowers-fit (c .before .before .before .before .before .before .loop .inv) (c .before .before .before .before .before .play .ensures) (c .before .before .outcome .given .1) .0)
+
+add-rounds : tie.Need-add-rounds Inv-loop μ-loop
+add-rounds c = omega arith
+
+loop-less : tie.Need-loop-less Inv-loop μ-loop
+loop-less c = omega arith
+
+loop-again : tie.Need-loop-again Inv-loop μ-loop
+loop-again c = rounds-next (c .before .before .before .before .before .before .before .loop .inv) (c .before .before .before .before .before .before .play .ensures) (c .before .before .before .outcome .given .1) (c .before .if1 .left) (c .lower .ensures)
+
+pub by-lines-spec : {M : Type 1} → statement M
+by-lines-spec =
+    tie.close
+    (tie.spec
+    Inv-loop
+    μ-loop
+    line-by-line-requires
+    begun-profile-requires
+    new-requires
+    loop-holds
+    play-requires
+    enum-known-outcome
+    enum-told
+    returns
+    returns-2
+    lower-requires
+    add-rounds
+    loop-less
+    loop-again)

@@ -1,0 +1,99 @@
+use native.Mathlib.Omega.{arith}
+use mathlib.Core.Path.{_≡_}
+use Prim.Native.Nat.{ℕ}
+use borrow.Author.Tests.{not-true, not-false}
+use Rattle.planner.proofs.Judging.{ends-fit, judges-three, judges-four, judges-five, judges-six, judges-seven, judges-none}
+use borrow.Author.Needs.{needs}
+use Rattle.planner.proofs.cause_of.Statement.{statement}
+use Rattle.planner.proofs.cause_of.Tie as tie
+use Rattle.planner.proofs.cause_of.Reads as reads
+use Rattle.planner.proofs.cause_of.Lts as lts
+use Rattle.charges.proofs.Charges.last_end.Reads as last-end-reads
+use Rattle.charges.proofs.Charges.lateness.Reads as lateness-reads
+use Rattle.charges.proofs.start_below.Reads as start-below-reads
+use Rattle.profile.proofs.Profile.first_unbalanced.Reads as first-unbalanced-reads
+use Rattle.profile.proofs.Profile.of.Reads as of-reads
+use Rattle.profile.proofs.Profile.within_limit.Reads as within-limit-reads
+
+start-below-requires : tie.Need-start-below-requires
+start-below-requires c κs = search needs
+
+returns : tie.Need-returns
+returns c = judges-three (c .before .before .before .pre .1) (c .before .start-below .ensures) (c .if1 .taken)
+
+last-end-requires : tie.Need-last-end-requires
+last-end-requires c κs = search needs
+
+last-end-requires-2 : tie.Need-last-end-requires-2
+last-end-requires-2 c κs = search needs
+
+returns-2 : tie.Need-returns-2
+returns-2 c = judges-four (c .before .before .before .before .before .before .pre .1) (c .before .before .before .before .start-below .ensures) (c .before .before .before .if1 .left) (c .before .before .last-end .ensures) (c .before .last-end2 .ensures) (c .if2 .taken)
+
+of-requires : tie.Need-of-requires
+of-requires c κs =
+    let s = c .before .before .before .before .before .before .before .before .before .before in (
+      s .pre .1 .columns .few,
+      ends-fit (s .args .t2) (s .pre .0) (c .before .before .before .before .before .before .last-end .ensures) (c .before .before .before .before .before .last-end2 .ensures) (c .before .before .before .before .if2 .left),
+    )
+
+within-limit-requires : tie.Need-within-limit-requires
+within-limit-requires c κs = c .of .ensures .formed
+
+returns-3 : tie.Need-returns-3
+returns-3 c =
+    judges-five (c .before .before .before .before .before .before .before .before .before .before .before .before .before .pre .1) (c .before .before .before .before .before .before .before .before .before .before .before .start-below .ensures) (c .before .before .before .before .before .before .before .before .before .before .if1 .left) (c .before .before .before .before .before .before .before .before .before .last-end .ensures) (c .before .before .before .before .before .before .before .before .last-end2 .ensures) (c .before .before .before .before .before .before .before .if2 .left)
+    (c .before .before .of .ensures) (c .before .within-limit .ensures) (not-true _ (c .if3 .taken))
+
+first-unbalanced-requires : tie.Need-first-unbalanced-requires
+first-unbalanced-requires c κs = c .before .before .of .ensures .formed
+
+enum-told : tie.Need-enum-told
+enum-told c = search needs
+
+returns-4 : tie.Need-returns-4
+returns-4 c =
+    judges-six (c .before .before .before .before .before .before .before .before .before .before .before .before .before .before .before .before .pre .1) (c .before .before .before .before .before .before .before .before .before .before .before .before .before .before .start-below .ensures) (c .before .before .before .before .before .before .before .before .before .before .before .before .before .if1 .left) (c .before .before .before .before .before .before .before .before .before .before .before .before .last-end .ensures) (c .before .before .before .before .before .before .before .before .before .before .before .last-end2 .ensures) (c .before .before .before .before .before .before .before .before .before .before .if2 .left)
+    (c .before .before .before .before .before .of .ensures) (c .before .before .before .before .within-limit .ensures) (not-false _ (c .before .before .before .if3 .left)) (c .before .before .first-unbalanced .ensures) (c .enum-told .given .1)
+
+enum-told-2 : tie.Need-enum-told-2
+enum-told-2 c = search needs
+
+lateness-requires : tie.Need-lateness-requires
+lateness-requires c κs = search needs
+
+lateness-requires-2 : tie.Need-lateness-requires-2
+lateness-requires-2 c κs = search needs
+
+returns-5 : tie.Need-returns-5
+returns-5 c =
+    judges-seven (c .before .before .before .before .before .before .before .before .before .before .before .before .before .before .before .before .before .before .before .pre .1) (c .before .before .before .before .before .before .before .before .before .before .before .before .before .before .before .before .before .start-below .ensures) (c .before .before .before .before .before .before .before .before .before .before .before .before .before .before .before .before .if1 .left) (c .before .before .before .before .before .before .before .before .before .before .before .before .before .before .before .last-end .ensures) (c .before .before .before .before .before .before .before .before .before .before .before .before .before .before .last-end2 .ensures) (c .before .before .before .before .before .before .before .before .before .before .before .before .before .if2 .left)
+    (c .before .before .before .before .before .before .before .before .of .ensures) (c .before .before .before .before .before .before .before .within-limit .ensures) (not-false _ (c .before .before .before .before .before .before .if3 .left)) (c .before .before .before .before .before .first-unbalanced .ensures) (c .before .before .before .enum-told2 .given .1)
+    (c .before .before .lateness .ensures) (c .before .lateness2 .ensures) (c .if4 .taken)
+
+returns-6 : tie.Need-returns-6
+returns-6 c =
+    judges-none (c .before .before .before .before .before .before .before .before .before .before .before .before .before .before .before .before .before .before .before .pre .1) (c .before .before .before .before .before .before .before .before .before .before .before .before .before .before .before .before .before .start-below .ensures) (c .before .before .before .before .before .before .before .before .before .before .before .before .before .before .before .before .if1 .left) (c .before .before .before .before .before .before .before .before .before .before .before .before .before .before .before .last-end .ensures) (c .before .before .before .before .before .before .before .before .before .before .before .before .before .before .last-end2 .ensures) (c .before .before .before .before .before .before .before .before .before .before .before .before .before .if2 .left)
+    (c .before .before .before .before .before .before .before .before .of .ensures) (c .before .before .before .before .before .before .before .within-limit .ensures) (not-false _ (c .before .before .before .before .before .before .if3 .left)) (c .before .before .before .before .before .first-unbalanced .ensures) (c .before .before .before .enum-told2 .given .1)
+    (c .before .before .lateness .ensures) (c .before .lateness2 .ensures) (c .if4 .left)
+
+pub cause-of-spec : {M : Type 1} → statement M
+cause-of-spec =
+    tie.close
+    (tie.spec
+    start-below-requires
+    returns
+    last-end-requires
+    last-end-requires-2
+    returns-2
+    of-requires
+    within-limit-requires
+    returns-3
+    first-unbalanced-requires
+    enum-told
+    returns-4
+    enum-told-2
+    lateness-requires
+    lateness-requires-2
+    returns-5
+    returns-6)

@@ -1,0 +1,74 @@
+-- The answers of the replans and of one round, as the rules have them.
+use mathlib.Core.Path.{_≡_}
+use Prim.Native.Nat.{ℕ, zero, suc, _≤_, _<_}
+use mathlib.Core.List.{List}
+use lib.ListN.{take}
+use Rattle.rules.specs.Replan as rules
+use Rattle.rules.specs.Replan.{Proposal, starts, none, ends, lowers, round}
+use Rattle.rules.specs.Load.{limits}
+use Rattle.rules.specs.Search.{Caps}
+use Rattle.charges.specs.declared.Charges.{Charges}
+use Rattle.charges.specs.Arrays.{chargesOf, Filled}
+use Rattle.profile.specs.declared.caps.LineCaps.{LineCaps}
+use Rattle.profile.specs.Caps.{CapsShown}
+use Rattle.planner.specs.Starts.{waitingCount}
+use Rattle.planner.specs.declared.Proposed.{Proposed}
+use Rattle.planner.specs.declared.Replanned.{Replanned}
+use Rattle.planner.specs.declared.Outcome.{Outcome}
+use Rattle.planner.specs.declared.Outcome.the-variants.{Ends, Lowers}
+use Rattle.planner.specs.declared.Round.{Round}
+
+-- cause 0 has a start for each of n waiting charges, any other cause has none
+abbrev pub proposal : ℕ → ℕ → List ℕ → Proposal
+proposal n zero ss = starts (take n ss)
+proposal n (suc k) ss = none (suc k)
+
+-- how many places of the list are used
+abbrev pub used : ℕ → ℕ → ℕ
+used n zero = n
+used n (suc k) = 0
+
+abbrev pub proposalOf : ℕ → Proposed → Proposal
+proposalOf n r = proposal n (r .cause) (r .starts)
+
+-- unused places are 0
+abbrev pub FilledBy : ℕ → Proposed → Type 0
+FilledBy n r = Filled (used n (r .cause)) (r .starts)
+
+-- the answer is this proposal
+pub record Proposes (clock : ℕ) (c : Charges) (p : Proposal) (r : Proposed) : Type 0 where
+  pub same : p ≡ proposalOf (waitingCount clock c) r
+  pub filled : FilledBy (waitingCount clock c) r
+
+-- what came of a round that proposes p if it ends the replan
+abbrev pub outcome : Proposal → Outcome → rules.Outcome
+outcome p Ends = ends p
+outcome p (Lowers i t v) = lowers i t v
+
+-- what is proposed if no round follows: cause 2 where a cap would have to be lowered
+abbrev pub lastProposal : rules.Outcome → Proposal
+lastProposal (ends p) = p
+lastProposal (lowers i t v) = none 2
+
+-- the minute is a number of 32 bits, and the cap is not below 1
+abbrev pub Fits : Outcome → Type 0
+Fits Ends = Unit {0}
+Fits (Lowers i t v) = (t < 4294967295) × (1 ≤ v)
+
+-- the answer is what came of the round under the caps, whatever they are
+pub record Plays (limit bound clock : ℕ) (c : Charges) (caps : LineCaps) (r : Round) : Type 0 where
+  pub same :
+      (cap : Caps)
+      → CapsShown caps cap
+      → round (limits limit bound) clock (chargesOf c) cap
+      ≡ outcome (proposalOf (waitingCount clock c) (r .proposed)) (r .outcome)
+  pub last :
+      lastProposal (outcome (proposalOf (waitingCount clock c) (r .proposed)) (r .outcome))
+      ≡ proposalOf (waitingCount clock c) (r .proposed)
+  pub filled : FilledBy (waitingCount clock c) (r .proposed)
+  pub fits : Fits (r .outcome)
+
+-- the answer is this proposal, with the rounds made for it
+pub record Replans (clock : ℕ) (c : Charges) (p : rules.Replanned) (r : Replanned) : Type 0 where
+  pub same : p ≡ record { proposal = proposalOf (waitingCount clock c) (r .proposed); rounds = r .rounds }
+  pub filled : FilledBy (waitingCount clock c) (r .proposed)

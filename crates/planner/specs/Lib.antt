@@ -1,0 +1,5 @@
+pub mod Starts
+pub mod Ready
+pub mod Placed
+pub mod Answers
+pub mod Judged

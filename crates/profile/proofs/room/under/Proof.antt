@@ -1,0 +1,22 @@
+-- `profile::room::under` meets its contract.
+use borrow.Author.Needs.{needs}
+use mathlib.Core.Path.{sym}
+use native.Mathlib.Omega.{arith}
+use Rattle.profile.proofs.Lowerings.{past-end}
+use Rattle.profile.proofs.room.under.Statement.{statement}
+use Rattle.profile.proofs.room.under.Tie as tie
+
+mul-result : tie.Need-mul-result
+mul-result c = search needs
+
+element-copy-out-result : tie.Need-element-copy-out-result
+element-copy-out-result c = search needs
+
+returns : tie.Need-returns
+returns c = search needs
+
+returns-2 : tie.Need-returns-2
+returns-2 c = sym (past-end (c .before .args .caps .now) (c .before .args .count) (c .before .pre) (omega arith))
+
+pub under-spec : {M : Type 1} → statement M
+under-spec = tie.close (tie.spec mul-result element-copy-out-result returns returns-2)

@@ -1,0 +1,21 @@
+-- `profile::start::under_cap` meets its contract.
+use borrow.Author.Needs.{needs}
+use Rattle.profile.proofs.Lowerings.{under-search, under-least}
+use Rattle.profile.proofs.start.under_cap.Statement.{statement}
+use Rattle.profile.proofs.start.under_cap.Tie as tie
+
+rooms-under-requires : tie.Need-rooms-under-requires
+rooms-under-requires c κs = search needs
+
+element-copy-out-search : tie.Need-element-copy-out-search
+element-copy-out-search c = search needs
+
+search-requires : tie.Need-search-requires
+search-requires c κs = under-search (c .before .before .before .pre .0) (c .before .before .before .pre .1) (c .before .before .rooms-under .ensures)
+
+returns : tie.Need-returns
+returns c = under-least (c .before .before .before .before .pre .0) (c .before .before .before .before .pre .1) (c .before .before .before .rooms-under .ensures) (c .search .ensures .0) (c .search .ensures .1)
+
+pub under-cap-spec : {M : Type 1} → statement M
+under-cap-spec =
+    tie.close (tie.spec rooms-under-requires element-copy-out-search search-requires returns)

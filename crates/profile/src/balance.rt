@@ -1,0 +1,137 @@
+// Limit and balance, step by step, and the lines with the largest and the smallest count.
+use crate::When;
+use crate::counts::larger;
+use crate::counts::smaller;
+use crate::steps::place;
+ghost use mathlib.Core.Path.{_≡_};
+ghost use Prim.Native.Nat.{_-_, _<_, _≤_, max, min};
+ghost use lib.ListN.{getD};
+ghost use Rattle.rules.specs.Replan.{largestLine, smallestLine};
+ghost use Rattle.profile.specs.Shows.{ofLines, profileOf, levelOf, Formed};
+ghost use Rattle.profile.specs.Balance.{Unbalanced, WithinLimit};
+
+// By how much two counts differ.
+pub fn difference(a: u32, b: u32) -> u32
+    ensures { λ r. ⌜ r ≡ max a b - min a b ⌝ }
+{
+    larger(a, b) - smaller(a, b)
+}
+
+// The count of a line in a step.
+pub fn count_of<'a>(
+    one: &'a [u32; 362],
+    two: &'a [u32; 362],
+    three: &'a [u32; 362],
+    i: usize,
+    line: u32,
+) -> u32
+    requires { ⌜ i < 362 ⌝ }
+    ensures { λ r. ⌜ r ≡ getD (ofLines (now (one .entry)) (now (two .entry)) (now (three .entry)) line) i 0 ⌝ }
+{
+    if line == 1 {
+        return one[i];
+    }
+    if line == 2 {
+        return two[i];
+    }
+    three[i]
+}
+
+// The count of a line in a minute.
+pub fn level<'a>(
+    at: &'a [u32; 362],
+    one: &'a [u32; 362],
+    two: &'a [u32; 362],
+    three: &'a [u32; 362],
+    n: usize,
+    line: u32,
+    t: u32,
+) -> u32
+    requires { ⌜ Formed (profileOf n (now at) (now one) (now two) (now three)) × (getD (now at) 0 0 ≤ t) ⌝ }
+    ensures { λ r. ⌜ r ≡ levelOf (profileOf n (now (at .entry)) (now (one .entry)) (now (two .entry)) (now (three .entry))) line t ⌝ }
+{
+    let i = place(at, n, t);
+    count_of(one, two, three, i, line)
+}
+
+// The first minute in which two counts differ by more than the bound: step by step, and in each line 1 against 2,
+// 2 against 3, 3 against 1.
+pub fn first_unbalanced<'a>(
+    at: &'a [u32; 362],
+    one: &'a [u32; 362],
+    two: &'a [u32; 362],
+    three: &'a [u32; 362],
+    n: usize,
+    bound: u32,
+) -> When
+    requires { ⌜ Formed (profileOf n (now at) (now one) (now two) (now three)) ⌝ }
+    ensures { λ r. ⌜ Unbalanced (profileOf n (now (at .entry)) (now (one .entry)) (now (two .entry)) (now (three .entry))) bound r ⌝ }
+{
+    let mut i = 0;
+    let minute = 'minutes: loop {
+        let mut line = 1;
+        while line <= 3 {
+            let a = count_of(one, two, three, i, line);
+            let b = count_of(one, two, three, i, line % 3 + 1);
+            if bound < difference(a, b) {
+                break 'minutes at[i];
+            }
+            line += 1;
+        }
+        i += 1;
+        if n <= i {
+            return When::Never;
+        }
+    };
+    When::Minute(minute)
+}
+
+// Whether no count is above the limit.
+pub fn within_limit<'a>(
+    at: &'a [u32; 362],
+    one: &'a [u32; 362],
+    two: &'a [u32; 362],
+    three: &'a [u32; 362],
+    n: usize,
+    limit: u32,
+) -> bool
+    requires { ⌜ Formed (profileOf n (now at) (now one) (now two) (now three)) ⌝ }
+    ensures { λ r. ⌜ WithinLimit (profileOf n (now (at .entry)) (now (one .entry)) (now (two .entry)) (now (three .entry))) limit r ⌝ }
+{
+    let mut i = 0;
+    while i < n {
+        if limit < larger(one[i], larger(two[i], three[i])) {
+            return false;
+        }
+        i += 1;
+    }
+    true
+}
+
+// The line with the largest of three counts, the lowest among equals.
+pub fn largest_line(a: u32, b: u32, c: u32) -> u32
+    ensures { λ r. ⌜ r ≡ largestLine (ofLines a b c) ⌝ }
+{
+    let high = larger(a, larger(b, c));
+    if a == high {
+        return 1;
+    }
+    if b == high {
+        return 2;
+    }
+    3
+}
+
+// The line with the smallest of three counts, the lowest among equals.
+pub fn smallest_line(a: u32, b: u32, c: u32) -> u32
+    ensures { λ r. ⌜ r ≡ smallestLine (ofLines a b c) ⌝ }
+{
+    let low = smaller(a, smaller(b, c));
+    if a == low {
+        return 1;
+    }
+    if b == low {
+        return 2;
+    }
+    3
+}

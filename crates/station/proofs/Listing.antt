@@ -1,0 +1,76 @@
+-- The arrays of a valid station hold numbers in range, in ticket order.
+use mathlib.Core.Logic.{_⊎_, inl, inr}
+use mathlib.Core.Path.{_≡_}
+use Prim.Native.Nat.{ℕ, zero, suc, _+_, _≤_, _<_}
+use mathlib.Core.List.{List, [], _∷_}
+use native.Mathlib.Omega.{arith}
+use Rattle.rules.specs.Basics.{Each, tabulate}
+use Rattle.rules.specs.Charge.{Charge, endOf, lastEnd}
+use Rattle.rules.specs.Valid.{ValidCharge, Rising}
+use Rattle.rules.proofs.Ranges.{below-or-not}
+use Rattle.rules.proofs.Lists.{each-map, tabulate-each}
+use Rattle.rules.proofs.Validity.{each-lastEnd}
+use Rattle.charges.specs.Arrays.{chargeAt, chargesOf}
+use Rattle.charges.specs.Held.{Small, Listed}
+use Rattle.station.specs.declared.Station.{Station}
+use Rattle.station.specs.View.{Valid}
+
+rising-from : (i : ℕ) (cs : List Charge) → Rising i cs → Each (λ c. i ≤ c .ticket) cs
+rising-from i [] r = tt
+rising-from i (c ∷ cs) r = (
+  r .0,
+  each-map (λ d. suc (c .ticket) ≤ d .ticket) (λ d. i ≤ d .ticket) (λ d h. omega (arith, r .0)) cs
+      (rising-from (suc (c .ticket)) cs (r .1)),
+)
+
+-- tickets that rise along a list rise from place to place
+rising-places :
+    (f : ℕ → Charge) (low k a : ℕ)
+    → Rising low (tabulate f k a)
+    → (i j : ℕ)
+    → a ≤ i
+    → i < j
+    → j < a + k
+    → f i .ticket < f j .ticket
+rising-places f low zero a r i j h l m = absurd (omega arith)
+rising-places f low (suc k) a r i j h l m =
+    go (below-or-not a i) (λ n. rising-places f (suc (f a .ticket)) k (suc a) (r .1) i j n l (omega arith))
+  where
+    go : (a < i) ⊎ (i ≤ a) → (a < i → f i .ticket < f j .ticket) → f i .ticket < f j .ticket
+    go (inl n) rest = rest n
+    go (inr n) rest =
+        let same : i ≡ a = omega arith in
+        rw same
+        (tabulate-each (λ c. suc (f a .ticket) ≤ c .ticket) f k (suc a)
+        (rising-from (suc (f a .ticket)) (tabulate f k (suc a)) (r .1))
+        j (omega arith) (omega arith))
+
+-- "No held time reaches 100,000,000."
+pub valid-listed : (s : Station) → Valid s → Listed (s .charges)
+valid-listed s v =
+    record {
+      columns = v .columns;
+      small = λ i h. small i h;
+      rising = λ i h. rising-places (chargeAt (s .charges)) 1 (s .charges .held) 0 (v .state .rising) i (i + 1) (omega arith) (omega arith) (omega arith);
+    }
+  where
+    fair : (i : ℕ) → i < s .charges .held → ValidCharge (s .clock) (s .next) (chargeAt (s .charges) i)
+    fair i h =
+        tabulate-each (ValidCharge (s .clock) (s .next)) (chargeAt (s .charges)) (s .charges .held) 0 (v .state .each) i
+        (omega arith) (omega arith)
+
+    ended : (i : ℕ) → i < s .charges .held → endOf (chargeAt (s .charges) i) ≤ lastEnd (chargesOf (s .charges))
+    ended i h =
+        tabulate-each (λ c. endOf c ≤ lastEnd (chargesOf (s .charges))) (chargeAt (s .charges)) (s .charges .held) 0
+        (each-lastEnd (lastEnd (chargesOf (s .charges))) (chargesOf (s .charges)) (omega arith)) i
+        (omega arith) (omega arith)
+
+    small : (i : ℕ) → i < s .charges .held → Small (chargeAt (s .charges) i)
+    small i h =
+        let f : ValidCharge (s .clock) (s .next) (chargeAt (s .charges) i) = fair i h in
+        record {
+          on-line = f .line;
+          time-most = f .time-high;
+          due-most = f .due-high;
+          start-most = omega (arith, ended i h, f .time-low, v .state .ends-high, v .state .clock-high, v .state .next-high);
+        }

@@ -1,0 +1,120 @@
+-- An order: what is known of one that is not refused, and that its result is that of the rules.
+use mathlib.Core.Path.{_≡_, ap, sym, _∙_}
+use Prim.Native.Nat.{ℕ, _+_, _≤_, _<_}
+use mathlib.Core.List.{List, [], _∷_, _++_}
+use native.Mathlib.Omega.{arith}
+use native.Mathlib.Numerals.{add-one}
+use lib.Dec.{ltb}
+use lib.ListN.{length}
+use borrow.Author.Tests.{ltb-false, leb-false}
+use Rattle.rules.specs.Basics.{at, nothing, firstOf}
+use Rattle.rules.specs.Load.{Load, lastUntil, limits}
+use Rattle.rules.specs.Charge.{loadOf, loadsOf}
+use Rattle.rules.specs.Search.{earliest}
+use Rattle.rules.specs.Calls.{refused, ordered, limitsOf, refusals, newCharge, orderedAt, ordering, order, step}
+use Rattle.rules.proofs.Ranges.{or-right}
+use Rattle.rules.proofs.Lists.{length-tabulate, map-tabulate}
+use Rattle.rules.proofs.Tables.{NoneHolds, firstOf-none}
+use Rattle.rules.proofs.Validity.{last-until}
+use Rattle.charges.specs.declared.Charges.{Charges}
+use Rattle.charges.specs.Arrays.{charge, chargeAt, chargesOf, Holds}
+use Rattle.profile.specs.declared.Profile.{Profile}
+use Rattle.profile.specs.Shows.{Shows, loadsIn, EndsFit, CanStart}
+use Rattle.profile.proofs.Starts.{can-start}
+use Rattle.station.specs.declared.Station.{Station}
+use Rattle.station.specs.View.{view, Valid}
+use Rattle.station.specs.Answers.{giving}
+use Rattle.station.proofs.Refusing.{call-granted}
+use Rattle.station.proofs.Listing.{valid-listed}
+
+-- what the charges draw, read off the arrays
+abbrev pub drawn : Charges → List Load
+drawn c = loadsIn (c .lines) (c .times) (c .starts) (c .held)
+
+pub loads-drawn : (c : Charges) → loadsOf (chargesOf c) ≡ drawn c
+loads-drawn c = map-tabulate loadOf (chargeAt c) (c .held) 0
+
+-- no end of a valid station reaches 32 bits
+pub ends-fit : (s : Station) → Valid s → EndsFit (s .charges .times) (s .charges .starts) (s .charges .held)
+ends-fit s v i h =
+    let small = valid-listed s v .small i h in
+    omega (arith, small .time-most, small .start-most)
+
+last-drawn : (s : Station) → Valid s → lastUntil (drawn (s .charges)) ≤ 100000000
+last-drawn s v =
+    omega (
+      arith,
+      ap lastUntil (loads-drawn (s .charges)),
+      last-until (chargesOf (s .charges)),
+      v .state .ends-high,
+      v .state .clock-high,
+      v .state .next-high,
+    )
+
+-- what neither of refusals 4 to 14 turns away
+pub record Orderable (s : Station) (line time due : ℕ) : Type 0 where
+  pub time-most : time ≤ 1440
+  pub room : s .charges .held < 180
+  pub tickets-left : s .next ≤ 65535
+
+pub order-granted :
+    (s : Station) (line time due : ℕ) → firstOf (refusals (view s) (order line time due)) ≡ 0 → Orderable s line time due
+order-granted s line time due e =
+    let p : NoneHolds (refusals (view s) (order line time due))
+    = firstOf-none (refusals (view s) (order line time due)) (omega arith) e in
+    record {
+      time-most = ltb-false 1440 time (or-right (ltb time 1) (ltb 1440 time) (p .1 .0));
+      room =
+          omega (
+            arith,
+            leb-false 180 (length (chargesOf (s .charges))) (p .1 .1 .1 .1 .0),
+            length-tabulate (chargeAt (s .charges)) (s .charges .held) 0,
+          );
+      tickets-left = ltb-false 65535 (s .next) (p .1 .1 .1 .1 .1 .0);
+    }
+
+pub can-search :
+    (s : Station) (p : Profile) (time : ℕ) → Valid s → Shows p (s .clock) (drawn (s .charges)) → time ≤ 1440 → CanStart p time
+can-search s p time v shows h =
+    can-start shows time
+    (omega (
+      arith,
+      length-tabulate (λ i. loadOf (chargeAt (s .charges) i)) (s .charges .held) 0,
+      v .columns .few,
+    ))
+    (omega (arith, last-drawn s v, v .state .clock-high))
+
+abbrev pub orderedStation : Station → Charges → Station
+orderedStation s c =
+    record {
+      limit = s .limit;
+      percent = s .percent;
+      bound = s .bound;
+      clock = s .clock;
+      next = s .next + 1;
+      charges = c;
+    }
+
+module _ (s : Station) (line time due k : ℕ) (e : k ≡ firstOf (refusals (view s) (order line time due))) (z : k ≡ 0) where
+  pub call-ordered :
+      (start : ℕ) (c : Charges)
+      → earliest (limits (s .limit) (s .bound)) (s .clock) (drawn (s .charges)) line time ≡ at start
+      → Holds (chargesOf (s .charges) ++ (charge (s .next) line (s .clock) time due start ∷ [])) c
+      → giving (ordered (s .next) start) (orderedStation s c) [] ≡ step (view s) (order line time due)
+  unfolding ordering
+  call-ordered start c f h =
+      rw (h .charges, add-one (s .next))
+      (sym
+      (call-granted s (order line time due) k e z
+      ∙ ap (orderedAt (view s) (newCharge (view s) line time due))
+      (ap (λ (xs : List Load). earliest (limitsOf (view s)) (s .clock) xs line time) (loads-drawn (s .charges)) ∙ f)))
+
+  pub call-nothing :
+      earliest (limits (s .limit) (s .bound)) (s .clock) (drawn (s .charges)) line time ≡ nothing
+      → giving (refused 0) s [] ≡ step (view s) (order line time due)
+  unfolding ordering
+  call-nothing f =
+      sym
+      (call-granted s (order line time due) k e z
+      ∙ ap (orderedAt (view s) (newCharge (view s) line time due))
+      (ap (λ (xs : List Load). earliest (limitsOf (view s)) (s .clock) xs line time) (loads-drawn (s .charges)) ∙ f))

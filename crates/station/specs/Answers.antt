@@ -1,0 +1,54 @@
+-- The answers of the calls: the number and the values that each case stands for.
+use Prim.Native.Nat.{ℕ}
+use mathlib.Core.Path.{_≡_}
+use mathlib.Core.List.{List}
+use Rattle.rules.specs.Calls.{State, Answer, refused, opened, ordered, moved, planned, waiting, charging, Result, tested}
+use Rattle.rules.specs.Replan.{Proposal}
+use Rattle.charges.specs.Arrays.{Columns}
+use Rattle.station.specs.declared.Station.{Station}
+use Rattle.station.specs.declared.OpenAnswer.{OpenAnswer}
+use Rattle.station.specs.declared.OpenAnswer.the-variants.{Opened, Refused as OpenRefused}
+use Rattle.station.specs.declared.order.OrderAnswer.{OrderAnswer}
+use Rattle.station.specs.declared.order.OrderAnswer.the-variants.{Ordered, Refused as OrderRefused}
+use Rattle.station.specs.declared.clock.MoveAnswer.{MoveAnswer}
+use Rattle.station.specs.declared.clock.MoveAnswer.the-variants.{Moved, Refused as MoveRefused}
+use Rattle.station.specs.declared.plan.PlanAnswer.{PlanAnswer}
+use Rattle.station.specs.declared.plan.PlanAnswer.the-variants.{Planned, Refused as PlanRefused}
+use Rattle.station.specs.declared.enquiry.Enquiry.{Enquiry}
+use Rattle.station.specs.declared.enquiry.Enquiry.the-variants.{Waiting, Charging, Refused as EnquiryRefused}
+use Rattle.station.specs.View.{view, Valid}
+
+-- an answer, the station beside it and the lent list, as a result of the rules
+abbrev pub giving : Answer → Station → List ℕ → Result
+giving answer s list = record { answer = answer; state = view s; list = list }
+
+-- A call gives exactly this result, and a station that is valid again.
+pub record Gives (r : Result) (answer : Answer) (s : Station) (list : List ℕ) : Type 0 where
+  pub result : giving answer s list ≡ r
+  pub valid : Valid s
+
+-- "All three end with the same test": this is what it makes of a proposal, whatever list is lent.
+pub record Tests (s : State) (rounds : ℕ) (p : Proposal) (answer : Answer) (next : Station) : Type 0 where
+  pub result : (list : List ℕ) → giving answer next list ≡ tested s rounds p list
+  pub columns : Columns (next .charges)
+
+abbrev pub openAnswer : OpenAnswer → Answer
+openAnswer (Opened bound) = opened bound
+openAnswer (OpenRefused number) = refused number
+
+abbrev pub orderAnswer : OrderAnswer → Answer
+orderAnswer (Ordered ticket start) = ordered ticket start
+orderAnswer (OrderRefused number) = refused number
+
+abbrev pub moveAnswer : MoveAnswer → Answer
+moveAnswer (Moved reported dropped) = moved reported dropped
+moveAnswer (MoveRefused number) = refused number
+
+abbrev pub planAnswer : PlanAnswer → Answer
+planAnswer (Planned cause before after rounds) = planned cause before after rounds
+planAnswer (PlanRefused number) = refused number
+
+abbrev pub enquiryAnswer : Enquiry → Answer
+enquiryAnswer (Waiting start) = waiting start
+enquiryAnswer (Charging start end) = charging start end
+enquiryAnswer (EnquiryRefused number) = refused number

@@ -1,0 +1,157 @@
+//! One call on a station with so many charges: its scripts and its times.
+
+use super::day::ALLOWANCE;
+use super::pair::{Pair, Times, LONG_ENOUGH};
+use super::states;
+use crate::fast::Station;
+use crate::generate;
+use crate::protocol::{write_call, Call};
+use crate::script::{answers_of, repeated, show, Line};
+
+const MOST_TURNS: usize = 5_000;
+
+/// A station is made by `first`; what `with` costs more than `without` is measured.
+pub struct Measured {
+    first: Vec<Line>,
+    with: Vec<Line>,
+    without: Vec<Line>,
+    /// Calls that `with` has and `without` has not.
+    calls: usize,
+    /// The calls change the station, so it is made anew for each turn.
+    anew: bool,
+    /// Rounds of a replan by lines, else 0.
+    pub rounds: u64,
+}
+
+/// Times of so many calls.
+pub struct Cost {
+    pub times: Times,
+    pub calls: f64,
+}
+
+impl Measured {
+    /// The last of so many orders.
+    fn last_orders(first: Vec<Line>, orders: Vec<Line>) -> Measured {
+        let calls = orders.len();
+        Measured { first, with: orders, without: Vec::new(), calls, anew: true, rounds: 0 }
+    }
+
+    /// The call stands in `first` already once: a plan that is better than the held
+    /// one is taken there, and from then on the call keeps the plan.
+    fn kept(mut first: Vec<Line>, call: Line) -> Measured {
+        first.push(call.clone());
+        let answers = answers_of(Station::fresh(1, 100), &first);
+        let last = show(answers.last().map_or(b"".as_slice(), Vec::as_slice));
+        let rounds = last.rsplit(' ').next().and_then(|word| word.parse().ok()).unwrap_or(0);
+        Measured { first, with: vec![call], without: Vec::new(), calls: 1, anew: false, rounds }
+    }
+
+    /// Scripts with the calls and without them.
+    fn scripts(&self, turns: usize) -> [Vec<Line>; 2] {
+        [&self.with, &self.without].map(|more| match self.anew {
+            true => repeated(&[self.first.as_slice(), more].concat(), turns),
+            false => [self.first.clone(), repeated(more, turns)].concat(),
+        })
+    }
+
+    /// So many turns that the program is busy for long enough.
+    fn turns(&self, pair: &Pair) -> Result<usize, String> {
+        let mut turns = 1;
+        for _ in 0..3 {
+            let seconds = pair.once(&self.scripts(turns)[0])?.max(1e-4);
+            turns = (turns as f64 * LONG_ENOUGH / seconds).ceil() as usize;
+            turns = turns.clamp(1, MOST_TURNS);
+        }
+        Ok(turns)
+    }
+
+    pub fn cost(&self, pair: &Pair) -> Result<Cost, String> {
+        pair.answers(&self.scripts(1)[0])?;
+        let turns = self.turns(pair)?;
+        let [with, without] = self.scripts(turns);
+        let calls = (turns * self.calls) as f64;
+        Ok(Cost { times: pair.difference(&with, &without)?, calls })
+    }
+}
+
+fn lines_call() -> Line {
+    write_call(&Call::Lines { allowance: ALLOWANCE }).into_bytes()
+}
+
+/// An order that is the last of so many and finds room at once.
+pub fn typical_order(held: usize) -> Measured {
+    let first = states::lasting(held - 1);
+    let (with, without) = (states::passing(true), states::passing(false));
+    let calls = states::PASSING as usize;
+    Measured { first, with, without, calls, anew: true, rounds: 0 }
+}
+
+pub fn typical_latest(held: usize) -> Measured {
+    Measured::kept(states::peak(held), b"latest".to_vec())
+}
+
+pub fn typical_lines(held: usize) -> Measured {
+    Measured::kept(states::peak(held), lines_call())
+}
+
+/// The held plan, offered again.
+pub fn typical_offer(held: usize) -> Measured {
+    let mut first = states::peak(held);
+    first.extend((1..=held as u32).map(|ticket| {
+        let call = Call::Enquire { ticket };
+        write_call(&call).into_bytes()
+    }));
+    let answers = answers_of(Station::fresh(1, 100), &first);
+    let start = |answer: &Line| show(answer).strip_prefix("waiting ")?.parse().ok();
+    let starts = answers.iter().filter_map(start).collect();
+    Measured::kept(first, write_call(&Call::Offer { starts }).into_bytes())
+}
+
+pub fn worst_order() -> Measured {
+    Measured::last_orders(states::dense(150).0, states::behind_dense(30))
+}
+
+pub fn worst_latest() -> Measured {
+    Measured::kept(states::queue(180), b"latest".to_vec())
+}
+
+pub fn worst_offer() -> Measured {
+    let (first, offer) = states::dense(180);
+    Measured::kept(first, offer)
+}
+
+/// The opening and the orders of the kind `spent`.
+pub fn worst_lines() -> Result<Measured, String> {
+    let script = generate::script_of_kind("spent", 1, 0).ok_or("no kind spent")?;
+    let first = script.lines.into_iter().take(181).collect();
+    Ok(Measured::kept(first, lines_call()))
+}
+
+#[cfg(test)]
+mod tests {
+    use super::*;
+
+    #[test]
+    fn scripts_differ_by_the_calls() {
+        for measured in [typical_order(18), worst_order(), typical_latest(18)] {
+            let [with, without] = measured.scripts(4);
+            assert_eq!(with.len() - without.len(), 4 * measured.calls);
+        }
+    }
+
+    #[test]
+    fn calls_that_keep_the_plan() {
+        let kept = [typical_latest(180), typical_lines(180), typical_offer(180)];
+        let worst = [worst_latest(), worst_offer()];
+        for measured in kept.iter().chain(&worst) {
+            let answers = answers_of(Station::fresh(1, 100), &measured.scripts(2)[0]);
+            let last = show(&answers[answers.len() - 1]);
+            assert!(last.starts_with("plan 7 "), "{last}");
+        }
+    }
+
+    #[test]
+    fn the_worst_replan_by_lines_makes_a_thousand_rounds() {
+        assert_eq!(worst_lines().map(|measured| measured.rounds), Ok(1_000));
+    }
+}

@@ -1,0 +1,145 @@
+//! Feeds scripts to a program and compares each answer with the reference's.
+//! The answers of the program are also given to the checker of demand 3, which
+//! knows neither station nor reference.
+
+use crate::demand;
+use crate::generate;
+use crate::program::{Answering, Outcome};
+use crate::script::{self, Line, Script};
+use crate::shrink::shrink;
+
+/// So many scripts are fed to one run of the program.
+const BATCH: u64 = 40;
+
+pub struct Choice<'a> {
+    pub scripts: u64,
+    pub seed: u64,
+    pub kind: Option<&'a str>,
+}
+
+/// All answers were as they should be.
+#[derive(Debug, Default)]
+pub struct Summary {
+    pub scripts: u64,
+    pub answers: usize,
+}
+
+/// The first failure, with the shortest script that still shows it.
+#[derive(Debug)]
+pub struct Failure {
+    pub title: String,
+    pub lines: Vec<Line>,
+    pub what: String,
+}
+
+pub fn compare(program: &dyn Answering, choice: &Choice) -> Result<Summary, Failure> {
+    let mut summary = Summary::default();
+    while summary.scripts < choice.scripts {
+        let until = (summary.scripts + BATCH).min(choice.scripts);
+        let batch: Vec<Script> =
+            (summary.scripts..until).map(|number| write(choice, number)).collect();
+        summary.answers += compare_batch(program, &batch, summary.scripts)?;
+        summary.scripts = until;
+    }
+    Ok(summary)
+}
+
+fn write(choice: &Choice, number: u64) -> Script {
+    match choice.kind {
+        None => generate::script(choice.seed, number),
+        Some(kind) => generate::script_of_kind(kind, choice.seed, number)
+            .unwrap_or_else(|| panic!("no kind {kind}")),
+    }
+}
+
+fn compare_batch(program: &dyn Answering, batch: &[Script], first: u64) -> Result<usize, Failure> {
+    let lines: Vec<Line> = batch.iter().flat_map(|script| script.lines.clone()).collect();
+    let expected: Vec<Line> = batch.iter().flat_map(|script| script.answers.clone()).collect();
+    let mut input = script::join(&lines);
+    // "A last line without a line feed counts": every other batch ends so.
+    if first / BATCH % 2 == 1 {
+        input.pop();
+    }
+    let outcome = program.answers(&input);
+    if let Some(difference) = difference(&expected, &outcome) {
+        return Err(difference_found(program, batch, first, difference.place));
+    }
+    check_demand(batch, &outcome.answers, first)?;
+    Ok(expected.len())
+}
+
+/// Where answers differ first, and how.
+pub struct Difference {
+    pub place: usize,
+    pub what: String,
+}
+
+pub fn difference(expected: &[Line], outcome: &Outcome) -> Option<Difference> {
+    let found = &outcome.answers;
+    let length = expected.len().max(found.len());
+    let place = (0..length).find(|place| expected.get(*place) != found.get(*place));
+    if place.is_none() && outcome.trouble.is_none() {
+        return None;
+    }
+    let word = |lines: &[Line], place| {
+        lines.get(place).map_or("(none)".to_string(), |line: &Line| script::show(line))
+    };
+    let mut what = Vec::new();
+    if let Some(place) = place {
+        what.push(format!("answer {} should be: {}", place + 1, word(expected, place)));
+        what.push(format!("but is: {}", word(found, place)));
+    }
+    if let Some(trouble) = &outcome.trouble {
+        what.push(format!("the program: {trouble}"));
+    }
+    Some(Difference { place: place.unwrap_or(length), what: what.join("\n# ") })
+}
+
+fn differs(program: &dyn Answering, lines: &[Line]) -> Option<Difference> {
+    let expected = script::reference_answers(lines);
+    difference(&expected, &program.answers(&script::join(lines)))
+}
+
+/// Names the script with the first difference and shrinks it. Should it be
+/// right on its own, the scripts before it are needed too.
+fn difference_found(
+    program: &dyn Answering,
+    batch: &[Script],
+    first: u64,
+    place: usize,
+) -> Failure {
+    let mut before = 0;
+    let mut number = 0;
+    while number + 1 < batch.len() && before + batch[number].answers.len() <= place {
+        before += batch[number].answers.len();
+        number += 1;
+    }
+    let mut lines = batch[number].lines.clone();
+    if differs(program, &lines).is_none() {
+        lines = batch[..=number].iter().flat_map(|script| script.lines.clone()).collect();
+    }
+    let lines = shrink(&lines, |lines| differs(program, lines).is_some());
+    let what = differs(program, &lines).map_or_else(
+        || "the difference is gone when the script is run again".to_string(),
+        |difference| difference.what,
+    );
+    Failure { title: title(batch, first, number), lines, what }
+}
+
+fn title(batch: &[Script], first: u64, number: usize) -> String {
+    format!("script {} of kind {}", first + number as u64, batch[number].kind)
+}
+
+/// Demand 3 for each script on its own: each begins with an opening.
+fn check_demand(batch: &[Script], answers: &[Line], first: u64) -> Result<(), Failure> {
+    let mut rest = answers;
+    for (number, script) in batch.iter().enumerate() {
+        let (own, others) = rest.split_at(script.answers.len());
+        rest = others;
+        if let Err(broken) = demand::check(&script.lines, own) {
+            let title = title(batch, first, number);
+            return Err(Failure { title, lines: script.lines.clone(), what: broken.to_string() });
+        }
+    }
+    Ok(())
+}

@@ -1,0 +1,277 @@
+//! Demand 3 from calls and answers alone: "Demand 3 is a single claim about the
+//! list of calls". There is no station here; what is known of it is what the
+//! answers say. Each part quotes the sentence of document 01 that it checks.
+//!
+//! Starts of waiting orders are known from enquiries, so before a station is
+//! left every order that was not reported has to be asked for.
+
+use crate::protocol::{read_call, Call};
+use crate::script::{self, Line};
+use std::fmt;
+
+/// What is wrong, and with which answer (the first is 1) it came out.
+#[derive(Debug, PartialEq, Eq)]
+pub struct Broken {
+    pub answer: usize,
+    pub what: String,
+}
+
+impl fmt::Display for Broken {
+    fn fmt(&self, out: &mut fmt::Formatter) -> fmt::Result {
+        write!(out, "demand 3 fails at answer {}: {}", self.answer, self.what)
+    }
+}
+
+/// "An order is accepted when it is answered with a ticket. Its order minute is
+/// the clock at that moment; its line and p are those passed in."
+struct Order {
+    line: u32,
+    time: u64,
+    order: u64,
+    /// "the one reported by the clock move that passed it"
+    reported: Option<u64>,
+    /// "and until then the one that an enquiry would give": known only since the
+    /// last call that was not an enquiry.
+    waiting: Option<u64>,
+}
+
+impl Order {
+    fn start(&self) -> Option<u64> {
+        self.reported.or(self.waiting)
+    }
+}
+
+/// What the calls and answers since an opening say.
+struct Trace {
+    limit: u64,
+    bound: u64,
+    clock: u64,
+    orders: Vec<Order>,
+    /// Whether an enquiry was answered since the last other call.
+    asked: bool,
+}
+
+/// Checks the answers to a script.
+pub fn check(lines: &[Line], answers: &[Line]) -> Result<(), Broken> {
+    let mut trace = Trace::from_opening(1, 100, true);
+    let mut answer = 0;
+    for line in script::answered(lines) {
+        let text = answers.get(answer).map(|text| script::show(text));
+        answer += 1;
+        let step = match (read_call(line), text) {
+            (_, None) => Err("there is no answer".to_string()),
+            (Ok(Some(call)), Some(text)) => trace.step(&call, &Answer::of(&text)),
+            (_, Some(_)) => Ok(()),
+        };
+        step.map_err(|what| Broken { answer, what })?;
+    }
+    trace.settle().map_err(|what| Broken { answer, what })
+}
+
+/// The words of an answer that are not numbers, and its numbers.
+struct Answer {
+    words: String,
+    numbers: Vec<u64>,
+}
+
+impl Answer {
+    fn of(text: &str) -> Answer {
+        let is_number = |word: &&str| word.parse::<u64>().is_ok();
+        let words: Vec<&str> = text.split(' ').filter(|word| !is_number(word)).collect();
+        let numbers = text.split(' ').filter_map(|word| word.parse().ok()).collect();
+        Answer { words: words.join(" "), numbers }
+    }
+
+    fn refused(&self) -> bool {
+        self.words == "refused"
+    }
+}
+
+type Checked = Result<(), String>;
+
+/// One check: the words say what is wrong if it fails.
+fn ensure(holds: bool, what: impl FnOnce() -> String) -> Checked {
+    if holds {
+        Ok(())
+    } else {
+        Err(what())
+    }
+}
+
+impl Trace {
+    /// "limit and bound are that station's N and D", "also from the one beside a
+    /// refusal", which is the station of 1, 100.
+    fn from_opening(limit: u32, percent: u32, refused: bool) -> Trace {
+        let (limit, percent) = if refused { (1, 100) } else { (limit.into(), percent.into()) };
+        let bound = limit * percent / 100;
+        Trace { limit, bound, clock: 0, orders: Vec::new(), asked: false }
+    }
+
+    fn step(&mut self, call: &Call, answer: &Answer) -> Checked {
+        if let Call::Enquire { ticket } = call {
+            self.asked = true;
+            return self.enquiry(*ticket, answer);
+        }
+        self.leave(matches!(call, Call::Open { .. }))?;
+        match (call, answer.refused()) {
+            (Call::Open { limit, percent }, refused) => {
+                *self = Trace::from_opening(*limit, *percent, refused);
+                Ok(())
+            }
+            (Call::Order { line, time, .. }, false) => self.accepted(*line, *time, answer),
+            (Call::Move { target, .. }, false) => self.moved(u64::from(*target), answer),
+            _ => Ok(()),
+        }
+    }
+
+    /// Every first part of a list is a list: wherever the enquiries happen to
+    /// show all starts, the claim is checked. Before an opening it has to be.
+    fn leave(&mut self, opening: bool) -> Checked {
+        if opening || (self.asked && self.all_starts_known()) {
+            self.settle()?;
+        }
+        if self.asked {
+            self.orders.iter_mut().for_each(|order| order.waiting = None);
+        }
+        self.asked = false;
+        Ok(())
+    }
+
+    fn all_starts_known(&self) -> bool {
+        self.orders.iter().all(|order| order.start().is_some())
+    }
+
+    /// "tickets are 1, 2, 3 and so on in the order of acceptance"
+    fn accepted(&mut self, line: u32, time: u32, answer: &Answer) -> Checked {
+        ensure(answer.words == "ticket start" && answer.numbers.len() == 2, || {
+            format!("an order is answered with '{}'", answer.words)
+        })?;
+        let ticket = self.orders.len() as u64 + 1;
+        ensure(answer.numbers[0] == ticket, || {
+            format!("ticket {} where {ticket} is next", answer.numbers[0])
+        })?;
+        let (time, order) = (u64::from(time), self.clock);
+        self.orders.push(Order { line, time, order, reported: None, waiting: None });
+        Ok(())
+    }
+
+    /// "The clock is the target of the last move not refused"
+    fn moved(&mut self, target: u64, answer: &Answer) -> Checked {
+        ensure(answer.words == "moved dropped" && answer.numbers.len() >= 2, || {
+            format!("a move is answered with '{}'", answer.words)
+        })?;
+        let pairs = &answer.numbers[2..];
+        ensure(answer.numbers[0] as usize * 2 == pairs.len(), || {
+            format!("{} reported with {} numbers", answer.numbers[0], pairs.len())
+        })?;
+        for pair in pairs.chunks(2) {
+            self.report(pair[0], pair[1], target)?;
+        }
+        self.clock = target;
+        Ok(())
+    }
+
+    /// "No ticket but theirs has been reported", each at most once, and by "the
+    /// clock move that passed it".
+    fn report(&mut self, ticket: u64, start: u64, target: u64) -> Checked {
+        let clock = self.clock;
+        let order = self.order(ticket).ok_or(format!("ticket {ticket} reported, not given"))?;
+        ensure(order.reported.is_none(), || format!("ticket {ticket} reported again"))?;
+        ensure(clock <= start && start < target, || {
+            format!(
+                "ticket {ticket} with start {start} reported by a move from {clock} to {target}"
+            )
+        })?;
+        order.reported = Some(start);
+        Ok(())
+    }
+
+    fn order(&mut self, ticket: u64) -> Option<&mut Order> {
+        let place = usize::try_from(ticket.checked_sub(1)?).ok()?;
+        self.orders.get_mut(place)
+    }
+
+    /// "An enquiry finds a begun order charging until it is finished, with its
+    /// reported start, and that start + p as the end; for a finished one the
+    /// answer is refusal 15." "Any other order has never been reported, and an
+    /// enquiry finds it waiting."
+    fn enquiry(&mut self, ticket: u32, answer: &Answer) -> Checked {
+        let clock = self.clock;
+        let Some(order) = self.order(u64::from(ticket)) else {
+            return ensure(answer.refused(), || format!("ticket {ticket} found, not given"));
+        };
+        let found = || format!("ticket {ticket}: {} {:?}", answer.words, answer.numbers);
+        match (order.reported, answer.words.as_str(), answer.numbers.as_slice()) {
+            (None, "waiting", [start]) => {
+                let same = order.waiting.is_none_or(|before| before == *start);
+                ensure(*start >= clock && same, found)?;
+                order.waiting = Some(*start);
+                Ok(())
+            }
+            (Some(start), "charging", [shown, end]) => {
+                let right = *shown == start && *end == start + order.time && clock < *end;
+                ensure(right, found)
+            }
+            (Some(start), "refused", [15]) => ensure(start + order.time <= clock, found),
+            _ => Err(found()),
+        }
+    }
+
+    /// The claim over the whole list, once all starts are known.
+    fn settle(&self) -> Checked {
+        for (place, order) in self.orders.iter().enumerate() {
+            let ticket = place + 1;
+            let start =
+                order.start().ok_or(format!("ticket {ticket} neither reported nor found"))?;
+            ensure(order.order <= start, || {
+                format!("ticket {ticket} ordered in {} starts in {start}", order.order)
+            })?;
+        }
+        self.check_ends()?;
+        self.check_counts()
+    }
+
+    /// "No charge ends later than the last minute in which an order was accepted
+    /// plus the charging times of all accepted orders."
+    fn check_ends(&self) -> Checked {
+        let Some(last) = self.orders.last() else { return Ok(()) };
+        let ceiling = last.order + self.orders.iter().map(|order| order.time).sum::<u64>();
+        for (place, order) in self.orders.iter().enumerate() {
+            let end = order.start().unwrap_or(0) + order.time;
+            ensure(end <= ceiling, || {
+                format!("ticket {} ends in {end}, after {ceiling}", place + 1)
+            })?;
+        }
+        Ok(())
+    }
+
+    /// "in every minute, gone or to come under the plan held, no line has more
+    /// than its limit charging and no two lines differ by more than the bound";
+    /// "A line's count in a minute takes all accepted orders of the list, dropped
+    /// ones too". Counts change only where an order starts or ends, so these
+    /// minutes stand for all.
+    fn check_counts(&self) -> Checked {
+        let mut changes = Vec::new();
+        for order in &self.orders {
+            let start = order.start().unwrap_or(0);
+            changes.push((start, order.line as usize - 1, 1));
+            changes.push((start + order.time, order.line as usize - 1, -1));
+        }
+        changes.sort_unstable();
+        let mut counts = [0i64; 3];
+        for (place, (minute, line, change)) in changes.iter().enumerate() {
+            counts[*line] += change;
+            let last_of_minute = changes.get(place + 1).is_none_or(|next| next.0 != *minute);
+            ensure(!last_of_minute || self.sound(&counts), || {
+                format!("minute {minute} has counts {counts:?}")
+            })?;
+        }
+        Ok(())
+    }
+
+    fn sound(&self, counts: &[i64; 3]) -> bool {
+        let largest = counts.iter().max().copied().unwrap_or(0);
+        let smallest = counts.iter().min().copied().unwrap_or(0);
+        largest <= self.limit as i64 && largest - smallest <= self.bound as i64
+    }
+}

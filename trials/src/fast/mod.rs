@@ -1,0 +1,16 @@
+//! The same rules for speed: the baseline for run times. It goes over the minutes
+//! in which something changes and not over all of them. Its algorithms are those of
+//! the proved program, so that a ratio of run times measures the language and not
+//! the method.
+//!
+//! - `profile`: the counts as a sorted step function with its searches
+//! - `station`: the station and its calls
+//! - `plan`: the common test of a plan, and the replan by latest start
+//! - `lines`: the replan by lines with caps as arrays of minutes
+
+mod lines;
+mod plan;
+mod profile;
+mod station;
+
+pub use station::Station;

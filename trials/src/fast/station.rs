@@ -1,0 +1,167 @@
+//! The station and its calls. Like the proved station it holds its charges and no
+//! profile: each call that looks at minutes makes the profile anew. A station that
+//! kept it from call to call would save that; docs/BENCHMARKS.md says how much.
+
+use super::profile::{Load, Profile, Rules};
+use crate::yard::{Found, Moved, Ordered, Planned, Refusal, Yard};
+
+const PLACES: usize = 180;
+const LAST_TICKET: u32 = 65_535;
+const LAST_CLOCK: u32 = 1_000_000;
+
+#[derive(Clone, Copy)]
+pub struct Charge {
+    pub ticket: u32,
+    pub line: usize,
+    pub time: u32,
+    pub due: u32,
+    pub start: u32,
+}
+
+impl Charge {
+    pub fn end(&self) -> u32 {
+        self.start + self.time
+    }
+
+    pub fn load(&self) -> Load {
+        Load { line: self.line, from: self.start, until: self.end() }
+    }
+
+    /// The key of latest-start order; charges lie in ticket order already.
+    pub fn latest_start(&self) -> u32 {
+        self.due - self.time
+    }
+}
+
+pub struct Station {
+    pub rules: Rules,
+    pub clock: u32,
+    next_ticket: u32,
+    pub charges: Vec<Charge>,
+}
+
+impl Station {
+    pub fn fresh(limit: u32, percent: u32) -> Station {
+        Station {
+            rules: Rules { limit: limit as u8, bound: (limit * percent / 100) as u8 },
+            clock: 0,
+            next_ticket: 1,
+            charges: Vec::with_capacity(PLACES),
+        }
+    }
+
+    fn check_order(&self, line: u32, time: u32, due: u32) -> Result<(), Refusal> {
+        if !(1..=3).contains(&line) {
+            return Err(4);
+        }
+        if !(1..=1_440).contains(&time) {
+            return Err(5);
+        }
+        if due > 2_000_000 {
+            return Err(6);
+        }
+        if due < self.clock + time {
+            return Err(7);
+        }
+        if self.charges.len() == PLACES {
+            return Err(13);
+        }
+        if self.next_ticket > LAST_TICKET {
+            return Err(14);
+        }
+        Ok(())
+    }
+
+    pub fn waiting(&self) -> impl Iterator<Item = &Charge> {
+        let clock = self.clock;
+        self.charges.iter().filter(move |charge| charge.start >= clock)
+    }
+
+    pub fn begun(&self) -> impl Iterator<Item = &Charge> {
+        let clock = self.clock;
+        self.charges.iter().filter(move |charge| charge.start < clock)
+    }
+}
+
+impl Yard for Station {
+    fn open(&mut self, limit: u32, percent: u32) -> Result<u32, Refusal> {
+        let refusal = if !(1..=60).contains(&limit) {
+            1
+        } else if percent > 100 {
+            2
+        } else if percent * limit < 100 {
+            3
+        } else {
+            *self = Station::fresh(limit, percent);
+            return Ok(u32::from(self.rules.bound));
+        };
+        *self = Station::fresh(1, 100);
+        Err(refusal)
+    }
+
+    fn order(&mut self, line: u32, time: u32, due: u32) -> Result<Ordered, Refusal> {
+        self.check_order(line, time, due)?;
+        let line = line as usize - 1;
+        let profile = Profile::of(self.charges.iter().map(Charge::load), self.clock);
+        let start = profile.earliest(line, time, self.clock, self.rules);
+        let ticket = self.next_ticket;
+        self.charges.push(Charge { ticket, line, time, due, start });
+        self.next_ticket += 1;
+        Ok(Ordered { ticket, start: u64::from(start) })
+    }
+
+    fn move_clock(&mut self, target: u32, report: &mut [u32]) -> Result<Moved, Refusal> {
+        if target > LAST_CLOCK {
+            return Err(8);
+        }
+        if report.len() < 2 * PLACES {
+            return Err(9);
+        }
+        if target < self.clock {
+            return Err(12);
+        }
+        let mut passed: Vec<(u32, u32)> = self
+            .waiting()
+            .filter(|charge| charge.start < target)
+            .map(|charge| (charge.start, charge.ticket))
+            .collect();
+        passed.sort_unstable();
+        for (pair, (start, ticket)) in report.chunks_exact_mut(2).zip(&passed) {
+            pair[0] = *ticket;
+            pair[1] = *start;
+        }
+        let held = self.charges.len();
+        self.charges.retain(|charge| charge.end() > target);
+        self.clock = target;
+        Ok(Moved { reported: passed.len(), dropped: held - self.charges.len() })
+    }
+
+    fn offer(&mut self, starts: &[u32]) -> Result<Planned, Refusal> {
+        if starts.len() != self.waiting().count() {
+            return Err(10);
+        }
+        Ok(self.take_or_keep(starts, 0))
+    }
+
+    fn replan_by_latest_start(&mut self) -> Planned {
+        self.by_latest_start()
+    }
+
+    fn replan_by_lines(&mut self, allowance: u32) -> Result<Planned, Refusal> {
+        if !(1..=1_000).contains(&allowance) {
+            return Err(11);
+        }
+        Ok(self.by_lines(allowance))
+    }
+
+    fn enquire(&self, ticket: u32) -> Result<Found, Refusal> {
+        let place = self.charges.binary_search_by_key(&ticket, |charge| charge.ticket);
+        let charge = &self.charges[place.map_err(|_| 15u32)?];
+        let start = u64::from(charge.start);
+        Ok(if charge.start >= self.clock {
+            Found::Waiting { start }
+        } else {
+            Found::Charging { start, end: u64::from(charge.end()) }
+        })
+    }
+}

@@ -1,0 +1,116 @@
+//! Writes a script line by line and carries the reference along, so that the
+//! next line can be chosen by what the station holds.
+//!
+//! Before a station is left, for another opening or at the end, the author asks
+//! for its tickets: "until then the one that an enquiry would give" is how the
+//! checker of demand 3 learns the starts of waiting orders.
+
+use crate::interpret::Interpreter;
+use crate::protocol::{read_call, write_call, Call};
+use crate::random::Random;
+use crate::reference::Station;
+use crate::script::Script;
+
+/// Enough places for every move that is meant to succeed.
+pub const PLACES: u32 = 360;
+/// Up to so many orders every ticket is asked for; past it only the held ones
+/// and some others.
+const ALL_TICKETS: u32 = 400;
+
+pub struct Author {
+    pub random: Random,
+    interpreter: Interpreter<Station>,
+    script: Script,
+}
+
+impl Author {
+    pub fn new(kind: &'static str, random: Random) -> Author {
+        let interpreter = Interpreter::new(Station::fresh(1, 100));
+        Author { random, interpreter, script: Script { kind, ..Script::default() } }
+    }
+
+    pub fn station(&self) -> &Station {
+        self.interpreter.yard()
+    }
+
+    /// Writes a line as it stands.
+    pub fn line(&mut self, line: Vec<u8>) {
+        if matches!(read_call(&line), Ok(Some(Call::Open { .. }))) {
+            self.ask_for_tickets();
+        }
+        let mut answer = Vec::new();
+        if self.interpreter.answer(&line, &mut answer) {
+            self.script.answers.push(answer);
+        }
+        self.script.lines.push(line);
+    }
+
+    pub fn call(&mut self, call: Call) {
+        self.line(write_call(&call).into_bytes());
+    }
+
+    pub fn open(&mut self, limit: u32, percent: u32) {
+        self.call(Call::Open { limit, percent });
+    }
+
+    pub fn order(&mut self, line: u32, time: u32, due: u32) {
+        self.call(Call::Order { line, time, due });
+    }
+
+    pub fn move_to(&mut self, target: u32) {
+        self.call(Call::Move { target, places: PLACES });
+    }
+
+    pub fn move_on(&mut self, minutes: u64) {
+        let target = self.clock() + minutes as u32;
+        self.move_to(target);
+    }
+
+    pub fn offer(&mut self, starts: Vec<u32>) {
+        self.call(Call::Offer { starts });
+    }
+
+    pub fn latest(&mut self) {
+        self.call(Call::Latest);
+    }
+
+    pub fn lines(&mut self, allowance: u32) {
+        self.call(Call::Lines { allowance });
+    }
+
+    pub fn enquire(&mut self, ticket: u32) {
+        self.call(Call::Enquire { ticket });
+    }
+
+    pub fn clock(&self) -> u32 {
+        self.station().clock as u32
+    }
+
+    pub fn held(&self) -> usize {
+        self.station().charges.len()
+    }
+
+    /// Asks for the tickets given, for 0 and for the one not yet given.
+    pub fn ask_for_tickets(&mut self) {
+        let next = self.station().next_ticket;
+        if next == 1 {
+            return;
+        }
+        let asked: Vec<u32> = if next <= ALL_TICKETS {
+            (0..=next).collect()
+        } else {
+            let others = (0..50).map(|_| self.random.below(u64::from(next) + 1) as u32);
+            let others: Vec<u32> = others.collect();
+            let held = self.station().charges.iter().map(|charge| charge.ticket);
+            held.chain(others).chain([0, next]).collect()
+        };
+        for ticket in asked {
+            self.enquire(ticket);
+        }
+    }
+
+    pub fn finish(mut self) -> Script {
+        self.ask_for_tickets();
+        self.script
+    }
+}

@@ -1,0 +1,32 @@
+//! Orders as the kinds share them.
+
+use super::author::Author;
+
+/// A due minute that is not refused for the clock: tight, loose or in between.
+pub fn due(author: &mut Author, time: u32) -> u32 {
+    let slack = match author.random.below(4) {
+        0 => 0,
+        1 => author.random.below(5),
+        2 => author.random.below(40),
+        _ => author.random.below(400),
+    };
+    (author.clock() + time + slack as u32).min(2_000_000)
+}
+
+/// An order that is refused, if at all, for what the station holds.
+pub fn order(author: &mut Author, line: u32, longest: u64) {
+    let time = author.random.between(1, longest) as u32;
+    let due = due(author, time);
+    author.order(line, time, due);
+}
+
+/// An opening with this limit and a bound of at least 1.
+pub fn open(author: &mut Author, limit: u64) {
+    let least = 100u64.div_ceil(limit);
+    let percent = match author.random.below(3) {
+        0 => least,
+        1 => author.random.between(least, (2 * least).min(100)),
+        _ => author.random.between(least, 100),
+    };
+    author.open(limit as u32, percent as u32);
+}

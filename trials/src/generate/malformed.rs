@@ -1,0 +1,126 @@
+//! Lines that are no calls, between calls that are: an error "changes nothing,
+//! and the program goes on".
+
+use super::author::Author;
+use super::{due, mixed};
+use crate::protocol::LONGEST_LINE;
+
+const SAMPLES: [&str; 44] = [
+    "",
+    "#",
+    "# order 1 1 1",
+    " ",
+    " latest",
+    "latest ",
+    "latest 0",
+    "latest\r",
+    "\r",
+    "latestt",
+    "Latest",
+    "LATEST",
+    "late",
+    "\tlatest",
+    "open",
+    "open 5",
+    "open 5 ",
+    "open  5 20",
+    "open 5 20 ",
+    "open 5 20 0",
+    "open five 20",
+    "open 5 20\r",
+    "open 4294967296 20",
+    "open 99999999999999999999999999 20",
+    "order 1 10",
+    "order 1 10 -1",
+    "order 1 10 +60",
+    "order 1 10 6O",
+    "order 1 1.0 60",
+    "order 1\t10 60",
+    "order 4294967296 x 60",
+    "order x 4294967296 60",
+    "order 18446744073709551616 1 1",
+    "order 001 0000000000000002 4294967295",
+    "move 1",
+    "move 1 360 1",
+    "move 0x1 360",
+    "offer ",
+    "offer  1",
+    "offer 1 ",
+    "lines",
+    "lines 1 1",
+    "enquire",
+    "enquire 1 x",
+];
+
+fn broken(author: &mut Author) -> Vec<u8> {
+    let mut line = match author.random.below(3) {
+        0 => b"order 1 10 600".to_vec(),
+        1 => b"move 3 360".to_vec(),
+        _ => b"offer 1 2 3".to_vec(),
+    };
+    for _ in 0..author.random.between(1, 2) {
+        let place = author.random.below(line.len() as u64) as usize;
+        match author.random.below(4) {
+            0 => line.insert(place, b' '),
+            1 => line[place] = other_byte(author),
+            2 => line.insert(place, other_byte(author)),
+            _ => {
+                line.remove(place);
+            }
+        }
+    }
+    line
+}
+
+/// Any byte but the line feed, which would make two lines of one.
+fn other_byte(author: &mut Author) -> u8 {
+    match author.random.below(256) as u8 {
+        b'\n' => b'\r',
+        byte => byte,
+    }
+}
+
+/// Lines of just the longest length and past it.
+fn long(author: &mut Author) -> Vec<u8> {
+    let past = if author.random.percent(3) { 70_000 } else { author.random.pick(&[0, 0, 1, 900]) };
+    let length = LONGEST_LINE + past;
+    let head: &[u8] = author.random.pick(&[&b"enquire 0"[..], b"order ", b"#", b"x", b"lines "]);
+    let fill = if head == b"x" { b'y' } else { b'0' };
+    let mut line = head.to_vec();
+    line.resize(length - 1, fill);
+    line.push(b'1');
+    line
+}
+
+/// Lists of about as many starts as a line may have.
+fn long_offer(author: &mut Author) -> Vec<u8> {
+    let count = author.random.pick(&[179, 180, 181, 200]);
+    let mut line = b"offer".to_vec();
+    for place in 0..count {
+        let last = place + 1 == count;
+        let bad = last && author.random.percent(30);
+        line.extend_from_slice(if bad { b" x" } else { b" 7" });
+    }
+    line
+}
+
+fn bad_line(author: &mut Author) -> Vec<u8> {
+    match author.random.below(10) {
+        0..=5 => author.random.pick(&SAMPLES).as_bytes().to_vec(),
+        6..=7 => broken(author),
+        8 => long(author),
+        _ => long_offer(author),
+    }
+}
+
+pub fn write(author: &mut Author) {
+    let limit = author.random.between(1, 4);
+    due::open(author, limit);
+    for _ in 0..author.random.between(5, 25) {
+        let line = bad_line(author);
+        author.line(line);
+        if author.random.percent(60) {
+            mixed::one_call(author, 10);
+        }
+    }
+}

@@ -1,0 +1,88 @@
+//! Scripts made from a seed, in kinds that each look for trouble of their own.
+//! Every script begins with an opening, so many of them can follow each other
+//! in one run of a program.
+
+mod author;
+pub mod cars;
+mod due;
+mod edges;
+mod evening;
+mod far;
+mod full;
+mod leaning;
+mod malformed;
+mod mixed;
+mod offers;
+mod plans;
+mod rounds;
+mod spent;
+mod tickets;
+
+use crate::random::Random;
+use crate::script::Script;
+use author::Author;
+
+/// A kind of script: its name, how many of a hundred scripts are of it, and who
+/// writes it.
+pub struct Kind {
+    pub name: &'static str,
+    share: u64,
+    write: fn(&mut Author),
+}
+
+pub const KINDS: [Kind; 11] = [
+    Kind { name: "edges", share: 15, write: edges::write },
+    Kind { name: "mixed", share: 24, write: mixed::write },
+    Kind { name: "offers", share: 15, write: offers::write },
+    Kind { name: "leaning", share: 20, write: leaning::write },
+    Kind { name: "malformed", share: 12, write: malformed::write },
+    Kind { name: "rounds", share: 5, write: rounds::write },
+    Kind { name: "evening", share: 4, write: evening::write },
+    Kind { name: "full", share: 3, write: full::write },
+    Kind { name: "far", share: 2, write: far::write },
+    // These two are long and come once in a thousand, at turns of their own.
+    Kind { name: "tickets", share: 0, write: tickets::write },
+    Kind { name: "spent", share: 0, write: spent::write },
+];
+
+const THOUSAND: u64 = 1_000;
+const TICKETS_TURN: u64 = 99;
+const SPENT_TURN: u64 = 199;
+
+/// The script with this number among those of a seed.
+pub fn script(seed: u64, number: u64) -> Script {
+    let mut random = Random::of_script(seed, number);
+    let kind = choose(&mut random, number);
+    write(kind, random)
+}
+
+/// A script of one kind.
+pub fn script_of_kind(name: &str, seed: u64, number: u64) -> Option<Script> {
+    Some(write(named(name)?, Random::of_script(seed, number)))
+}
+
+fn named(name: &str) -> Option<&'static Kind> {
+    KINDS.iter().find(|kind| kind.name == name)
+}
+
+fn choose(random: &mut Random, number: u64) -> &'static Kind {
+    match number % THOUSAND {
+        TICKETS_TURN => return named("tickets").expect("a kind of the table"),
+        SPENT_TURN => return named("spent").expect("a kind of the table"),
+        _ => (),
+    }
+    let mut draw = random.below(KINDS.iter().map(|kind| kind.share).sum());
+    for kind in &KINDS {
+        if draw < kind.share {
+            return kind;
+        }
+        draw -= kind.share;
+    }
+    unreachable!("the draw is below the sum of all shares")
+}
+
+fn write(kind: &Kind, random: Random) -> Script {
+    let mut author = Author::new(kind.name, random);
+    (kind.write)(&mut author);
+    author.finish()
+}

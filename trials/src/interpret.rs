@@ -1,0 +1,126 @@
+//! Carries a station through the lines of a script and writes the answers.
+//! "Before the first `open` the station is that of 1, 100" is the yard's part:
+//! every yard here begins with that station.
+
+use crate::protocol::{self, Call, LONGEST_LINE, MOST_PLACES};
+use crate::yard::{Refusal, Yard};
+use std::io::{self, Read, Write};
+
+/// What every place of a lent list holds before a clock move.
+const UNTOUCHED: u32 = u32::MAX;
+
+pub struct Interpreter<Y> {
+    yard: Y,
+    /// Kept between calls so that no move has to ask for memory.
+    list: Vec<u32>,
+}
+
+impl<Y: Yard> Interpreter<Y> {
+    pub fn new(yard: Y) -> Self {
+        Interpreter { yard, list: Vec::with_capacity(MOST_PLACES as usize) }
+    }
+
+    pub fn yard(&self) -> &Y {
+        &self.yard
+    }
+
+    /// Appends the answer to `text`, without a line feed. Says whether there
+    /// was one: lines passed over have none.
+    pub fn answer(&mut self, text: &[u8], out: &mut Vec<u8>) -> bool {
+        match protocol::read_call(text) {
+            Ok(None) => return false,
+            Ok(Some(call)) => self.carry_out(&call, out),
+            Err(fault) => protocol::write_fault(out, fault),
+        }
+        true
+    }
+
+    fn carry_out(&mut self, call: &Call, out: &mut Vec<u8>) {
+        if let Err(refusal) = self.try_call(call, out) {
+            protocol::write_refusal(out, refusal);
+        }
+    }
+
+    fn try_call(&mut self, call: &Call, out: &mut Vec<u8>) -> Result<(), Refusal> {
+        let yard = &mut self.yard;
+        match call {
+            Call::Open { limit, percent } => {
+                protocol::write_opened(out, yard.open(*limit, *percent)?);
+            }
+            Call::Order { line, time, due } => {
+                protocol::write_ordered(out, yard.order(*line, *time, *due)?);
+            }
+            Call::Move { target, places } => {
+                self.list.clear();
+                self.list.resize((*places).min(MOST_PLACES) as usize, UNTOUCHED);
+                let moved = yard.move_clock(*target, &mut self.list)?;
+                protocol::write_moved(out, moved, &self.list);
+            }
+            Call::Offer { starts } => protocol::write_planned(out, yard.offer(starts)?),
+            Call::Latest => protocol::write_planned(out, yard.replan_by_latest_start()),
+            Call::Lines { allowance } => {
+                protocol::write_planned(out, yard.replan_by_lines(*allowance)?);
+            }
+            Call::Enquire { ticket } => protocol::write_found(out, yard.enquire(*ticket)?),
+        }
+        Ok(())
+    }
+}
+
+/// The yard as a program. Answers go out after each piece of input read, so a
+/// caller who waits for an answer before the next call gets it.
+pub fn serve<Y: Yard>(yard: Y, mut input: impl Read, mut output: impl Write) -> io::Result<()> {
+    let mut interpreter = Interpreter::new(yard);
+    let mut piece = vec![0; 1 << 16];
+    let mut line = Vec::with_capacity(LONGEST_LINE + 1);
+    let mut out = Vec::with_capacity(1 << 17);
+    loop {
+        let read = input.read(&mut piece)?;
+        if read == 0 {
+            break;
+        }
+        take_lines(&mut interpreter, &piece[..read], &mut line, &mut out);
+        output.write_all(&out)?;
+        output.flush()?;
+        out.clear();
+    }
+    // A last line without a line feed counts.
+    if !line.is_empty() {
+        answer_line(&mut interpreter, &line, &mut out);
+    }
+    output.write_all(&out)?;
+    output.flush()
+}
+
+/// Splits a piece of input at its line feeds; `line` keeps what is unfinished.
+fn take_lines<Y: Yard>(
+    interpreter: &mut Interpreter<Y>,
+    piece: &[u8],
+    line: &mut Vec<u8>,
+    out: &mut Vec<u8>,
+) {
+    let mut rest = piece;
+    while let Some(feed) = rest.iter().position(|byte| *byte == b'\n') {
+        if line.is_empty() && feed <= LONGEST_LINE {
+            answer_line(interpreter, &rest[..feed], out);
+        } else {
+            keep(line, &rest[..feed]);
+            answer_line(interpreter, line, out);
+            line.clear();
+        }
+        rest = &rest[feed + 1..];
+    }
+    keep(line, rest);
+}
+
+/// One byte more than the longest line is enough to know that it is too long.
+fn keep(line: &mut Vec<u8>, more: &[u8]) {
+    let room = LONGEST_LINE + 1 - line.len();
+    line.extend_from_slice(&more[..more.len().min(room)]);
+}
+
+fn answer_line<Y: Yard>(interpreter: &mut Interpreter<Y>, line: &[u8], out: &mut Vec<u8>) {
+    if interpreter.answer(line, out) {
+        out.push(b'\n');
+    }
+}

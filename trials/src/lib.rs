@@ -1,0 +1,20 @@
+//! Trials of the charging yard of document 01: a second implementation of its
+//! rules, a generator of scripts, a comparison with any program that speaks the
+//! line protocol, and a checker of demand 3 that sees calls and answers only.
+//!
+//! "further trials are executed against another implementation of these rules"
+
+pub mod benchmark;
+pub mod compare;
+pub mod coverage;
+pub mod demand;
+pub mod fast;
+pub mod generate;
+pub mod interpret;
+pub mod program;
+pub mod protocol;
+pub mod random;
+pub mod reference;
+pub mod script;
+pub mod shrink;
+pub mod yard;

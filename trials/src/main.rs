@@ -1,0 +1,160 @@
+//! The commands; README.md lists them.
+
+use std::collections::HashMap;
+use std::io::{self, Write};
+use std::process::ExitCode;
+use std::time::{Duration, Instant};
+use trials::compare::{compare, Choice, Failure};
+use trials::program::Program;
+use trials::{benchmark, coverage, demand, fast, generate, interpret, reference, script};
+
+const USAGE: &str = "\
+trials answers < SCRIPT                      answers of the reference
+trials fast < SCRIPT                         answers of the fast program
+trials generate [--kind KIND] [--seed S] [--scripts K]
+trials compare PROGRAM [--scripts K] [--seed S] [--kind KIND] [--patience SECONDS]
+trials coverage [--scripts K] [--seed S] [--kind KIND]
+trials benchmark PROGRAM [--repeat R] [--days D]
+                                             run times beside those of the fast program
+trials demand SCRIPT ANSWERS                 demand 3 from calls and answers alone";
+
+type Outcome = Result<(), String>;
+
+/// The words of the command line: those after a name with two dashes, and the
+/// others.
+struct Words {
+    named: HashMap<String, String>,
+    others: Vec<String>,
+}
+
+impl Words {
+    fn read() -> Result<Words, String> {
+        let mut words = Words { named: HashMap::new(), others: Vec::new() };
+        let mut arguments = std::env::args().skip(1);
+        while let Some(word) = arguments.next() {
+            match word.strip_prefix("--") {
+                Some(name) => {
+                    let value = arguments.next().ok_or(format!("--{name} needs a value"))?;
+                    words.named.insert(name.to_string(), value);
+                }
+                None => words.others.push(word),
+            }
+        }
+        Ok(words)
+    }
+
+    fn number(&self, name: &str, usual: u64) -> Result<u64, String> {
+        match self.named.get(name) {
+            None => Ok(usual),
+            Some(value) => value.parse().map_err(|_| format!("--{name} {value} is no number")),
+        }
+    }
+
+    fn choice(&self, scripts: u64) -> Result<Choice<'_>, String> {
+        let kind = self.named.get("kind").map(String::as_str);
+        let known = |name: &str| generate::KINDS.iter().any(|kind| kind.name == name);
+        if let Some(name) = kind.filter(|name| !known(name)) {
+            let names: Vec<&str> = generate::KINDS.iter().map(|kind| kind.name).collect();
+            return Err(format!("no kind {name}; there are {}", names.join(", ")));
+        }
+        Ok(Choice {
+            scripts: self.number("scripts", scripts)?,
+            seed: self.number("seed", 1)?,
+            kind,
+        })
+    }
+}
+
+fn main() -> ExitCode {
+    match Words::read().and_then(|words| run(&words)) {
+        Ok(()) => ExitCode::SUCCESS,
+        Err(what) => {
+            eprintln!("{what}");
+            ExitCode::FAILURE
+        }
+    }
+}
+
+fn run(words: &Words) -> Outcome {
+    match words.others.first().map(String::as_str) {
+        Some("answers") => serve(reference::Station::fresh(1, 100)),
+        Some("fast") => serve(fast::Station::fresh(1, 100)),
+        Some("generate") => print_scripts(&words.choice(1)?),
+        Some("compare") => run_comparison(words),
+        Some("coverage") => print_coverage(&words.choice(1_000)?),
+        Some("benchmark") => run_benchmark(words),
+        Some("demand") => check_files(&words.others[1..]),
+        _ => Err(USAGE.to_string()),
+    }
+}
+
+fn serve(yard: impl trials::yard::Yard) -> Outcome {
+    let (input, output) = (io::stdin().lock(), io::stdout().lock());
+    interpret::serve(yard, input, output).map_err(|error| error.to_string())
+}
+
+fn print_scripts(choice: &Choice) -> Outcome {
+    for number in 0..choice.scripts {
+        let script = match choice.kind {
+            None => generate::script(choice.seed, number),
+            Some(kind) => generate::script_of_kind(kind, choice.seed, number).ok_or("no kind")?,
+        };
+        print_lines(&script.lines)?;
+    }
+    Ok(())
+}
+
+fn print_lines(lines: &[script::Line]) -> Outcome {
+    io::stdout().write_all(&script::join(lines)).map_err(|error| error.to_string())
+}
+
+fn print_coverage(choice: &Choice) -> Outcome {
+    for (sort, times) in coverage::coverage(choice) {
+        println!("{times:>9}  {sort}");
+    }
+    Ok(())
+}
+
+fn run_benchmark(words: &Words) -> Outcome {
+    let command = words.others.get(1).or(words.named.get("program")).ok_or(USAGE)?;
+    benchmark::run(command, words.number("repeat", 5)? as usize, words.number("days", 5)?)
+}
+
+fn run_comparison(words: &Words) -> Outcome {
+    let command = words.others.get(1).or(words.named.get("program")).ok_or(USAGE)?;
+    let choice = words.choice(1_000)?;
+    let patience = Duration::from_secs(words.number("patience", 60)?);
+    let begun = Instant::now();
+    match compare(&Program::new(command, patience), &choice) {
+        Ok(summary) => {
+            let (scripts, answers) = (summary.scripts, summary.answers);
+            let seconds = begun.elapsed().as_secs_f64();
+            println!(
+                "{scripts} scripts, {answers} answers, all as they should be ({seconds:.1} s)"
+            );
+            Ok(())
+        }
+        Err(failure) => {
+            print_failure(&failure)?;
+            Err(format!("the comparison failed, seed {}", choice.seed))
+        }
+    }
+}
+
+/// As comments around the script, so that the whole can be kept as a script.
+fn print_failure(failure: &Failure) -> Outcome {
+    println!("# {}", failure.title);
+    print_lines(&failure.lines)?;
+    println!("# {}", failure.what);
+    Ok(())
+}
+
+fn check_files(paths: &[String]) -> Outcome {
+    let [calls, answers] = paths else { return Err(USAGE.to_string()) };
+    let read = |path: &String| std::fs::read(path).map_err(|error| format!("{path}: {error}"));
+    let lines = script::split(&read(calls)?);
+    let answers = script::split(&read(answers)?);
+    demand::check(&lines, &answers).map_err(|broken| broken.to_string())?;
+    println!("demand 3 holds");
+    Ok(())
+}

@@ -1,0 +1,201 @@
+//! The line protocol: one call in a line, one answer in a line.
+//!
+//! | line | answer |
+//! | --- | --- |
+//! | `open N c` | `open 0 D`, or `refused K` |
+//! | `order line p d` | `ticket T start S`, or `refused K` |
+//! | `move target places` | `moved R dropped X T S T S ..`, or `refused K` |
+//! | `offer s1 s2 ..` | `plan CAUSE BEFORE AFTER ROUNDS`, or `refused 10` |
+//! | `latest` | `plan ..` |
+//! | `lines allowance` | `plan ..`, or `refused 11` |
+//! | `enquire T` | `waiting S`, `charging S E`, or `refused 15` |
+//!
+//! Words are separated by exactly one space byte. Empty lines and lines that
+//! begin with `#` get no answer. Anything else gets `error` and a reason.
+
+use crate::yard::{Found, Moved, Ordered, Planned, Refusal};
+
+/// More bytes than these in a line, without the line feed, are too many.
+pub const LONGEST_LINE: usize = 4096;
+/// More places than these are never lent to a clock move.
+pub const MOST_PLACES: u32 = 4096;
+/// More starts than the station has places are not read from a line.
+pub const MOST_STARTS: usize = 180;
+
+#[derive(Clone, Debug, PartialEq, Eq)]
+pub enum Call {
+    Open { limit: u32, percent: u32 },
+    Order { line: u32, time: u32, due: u32 },
+    Move { target: u32, places: u32 },
+    Offer { starts: Vec<u32> },
+    Latest,
+    Lines { allowance: u32 },
+    Enquire { ticket: u32 },
+}
+
+#[derive(Clone, Copy, Debug, PartialEq, Eq)]
+pub enum Fault {
+    UnknownCall,
+    NotANumber,
+    NumberTooLarge,
+    MissingNumber,
+    ExtraNumber,
+    LineTooLong,
+}
+
+impl Fault {
+    pub fn reason(self) -> &'static str {
+        match self {
+            Fault::UnknownCall => "unknown call",
+            Fault::NotANumber => "not a number",
+            Fault::NumberTooLarge => "number too large",
+            Fault::MissingNumber => "missing number",
+            Fault::ExtraNumber => "extra number",
+            Fault::LineTooLong => "line too long",
+        }
+    }
+}
+
+/// Reads one line (without its line feed). `Ok(None)` is a line passed over.
+/// The length is judged first, so that an endless comment is an error too.
+pub fn read_call(text: &[u8]) -> Result<Option<Call>, Fault> {
+    if text.len() > LONGEST_LINE {
+        return Err(Fault::LineTooLong);
+    }
+    if text.is_empty() || text[0] == b'#' {
+        return Ok(None);
+    }
+    let mut words = text.split(|byte| *byte == b' ');
+    let call = match words.next().unwrap_or(b"") {
+        b"open" => numbers(words).map(|[limit, percent]| Call::Open { limit, percent }),
+        b"order" => numbers(words).map(|[line, time, due]| Call::Order { line, time, due }),
+        b"move" => numbers(words).map(|[target, places]| Call::Move { target, places }),
+        b"offer" => starts(words).map(|starts| Call::Offer { starts }),
+        b"latest" => numbers(words).map(|[]| Call::Latest),
+        b"lines" => numbers(words).map(|[allowance]| Call::Lines { allowance }),
+        b"enquire" => numbers(words).map(|[ticket]| Call::Enquire { ticket }),
+        _ => Err(Fault::UnknownCall),
+    };
+    call.map(Some)
+}
+
+/// Exactly `K` numbers, judged from left to right.
+fn numbers<'a, const K: usize>(
+    mut words: impl Iterator<Item = &'a [u8]>,
+) -> Result<[u32; K], Fault> {
+    let mut values = [0; K];
+    for value in &mut values {
+        *value = number(words.next().ok_or(Fault::MissingNumber)?)?;
+    }
+    match words.next() {
+        Some(_) => Err(Fault::ExtraNumber),
+        None => Ok(values),
+    }
+}
+
+/// Any number of starts up to the places of a station.
+fn starts<'a>(words: impl Iterator<Item = &'a [u8]>) -> Result<Vec<u32>, Fault> {
+    let mut values = Vec::new();
+    for word in words {
+        if values.len() == MOST_STARTS {
+            return Err(Fault::ExtraNumber);
+        }
+        values.push(number(word)?);
+    }
+    Ok(values)
+}
+
+/// A decimal number of 32 bits. Leading zeros don't count, so the digits alone
+/// say nothing about the size; the value is watched instead.
+fn number(word: &[u8]) -> Result<u32, Fault> {
+    if word.is_empty() || !word.iter().all(u8::is_ascii_digit) {
+        return Err(Fault::NotANumber);
+    }
+    let mut value: u64 = 0;
+    for digit in word {
+        value = value * 10 + u64::from(digit - b'0');
+        if value > u64::from(u32::MAX) {
+            return Err(Fault::NumberTooLarge);
+        }
+    }
+    Ok(value as u32)
+}
+
+/// Writes the line of a call; `read_call` reads it back.
+pub fn write_call(call: &Call) -> String {
+    match call {
+        Call::Open { limit, percent } => format!("open {limit} {percent}"),
+        Call::Order { line, time, due } => format!("order {line} {time} {due}"),
+        Call::Move { target, places } => format!("move {target} {places}"),
+        Call::Offer { starts } => {
+            let words: Vec<String> = starts.iter().map(|start| format!(" {start}")).collect();
+            format!("offer{}", words.concat())
+        }
+        Call::Latest => "latest".to_string(),
+        Call::Lines { allowance } => format!("lines {allowance}"),
+        Call::Enquire { ticket } => format!("enquire {ticket}"),
+    }
+}
+
+/// Appends a word and numbers to an answer, separated by single spaces.
+fn words(out: &mut Vec<u8>, word: &str, values: &[u64]) {
+    out.extend_from_slice(word.as_bytes());
+    for value in values {
+        out.push(b' ');
+        digits(out, *value);
+    }
+}
+
+/// Written by hand, because the fast program spends much of its time here.
+fn digits(out: &mut Vec<u8>, mut value: u64) {
+    let mut buffer = [0; 20];
+    let mut place = buffer.len();
+    loop {
+        place -= 1;
+        buffer[place] = b'0' + (value % 10) as u8;
+        value /= 10;
+        if value == 0 {
+            break;
+        }
+    }
+    out.extend_from_slice(&buffer[place..]);
+}
+
+pub fn write_fault(out: &mut Vec<u8>, fault: Fault) {
+    out.extend_from_slice(b"error ");
+    out.extend_from_slice(fault.reason().as_bytes());
+}
+
+pub fn write_refusal(out: &mut Vec<u8>, refusal: Refusal) {
+    words(out, "refused", &[u64::from(refusal)]);
+}
+
+pub fn write_opened(out: &mut Vec<u8>, bound: u32) {
+    words(out, "open", &[0, u64::from(bound)]);
+}
+
+pub fn write_ordered(out: &mut Vec<u8>, ordered: Ordered) {
+    words(out, "ticket", &[u64::from(ordered.ticket)]);
+    words(out, " start", &[ordered.start]);
+}
+
+/// The pairs are read from the lent list, as a caller would.
+pub fn write_moved(out: &mut Vec<u8>, moved: Moved, report: &[u32]) {
+    words(out, "moved", &[moved.reported as u64]);
+    words(out, " dropped", &[moved.dropped as u64]);
+    for value in &report[..2 * moved.reported] {
+        words(out, "", &[u64::from(*value)]);
+    }
+}
+
+pub fn write_planned(out: &mut Vec<u8>, planned: Planned) {
+    let Planned { cause, before, after, rounds } = planned;
+    words(out, "plan", &[u64::from(cause), before, after, u64::from(rounds)]);
+}
+
+pub fn write_found(out: &mut Vec<u8>, found: Found) {
+    match found {
+        Found::Waiting { start } => words(out, "waiting", &[start]),
+        Found::Charging { start, end } => words(out, "charging", &[start, end]),
+    }
+}

@@ -1,0 +1,97 @@
+//! The calls and what they refuse: "Where several apply, the lowest number. A
+//! refusal returns its number alone; the station and every list stay."
+
+use super::search::smallest_start;
+use super::station::{Charge, Station, PLACES};
+use crate::yard::{Found, Moved, Ordered, Planned, Refusal, Yard};
+
+/// The refusals of a call, each with the condition for it, in rising order.
+fn refuse_first(refusals: &[(Refusal, bool)]) -> Result<(), Refusal> {
+    match refusals.iter().find(|(_, applies)| *applies) {
+        Some((number, _)) => Err(*number),
+        None => Ok(()),
+    }
+}
+
+impl Yard for Station {
+    /// "Beside a refused opening stands the fresh station of 1, 100."
+    fn open(&mut self, limit: u32, percent: u32) -> Result<u32, Refusal> {
+        let (limit, percent) = (u64::from(limit), u64::from(percent));
+        *self = Station::fresh(1, 100);
+        refuse_first(&[
+            (1, !(1..=60).contains(&limit)),
+            (2, percent > 100),
+            (3, percent * limit < 100),
+        ])?;
+        *self = Station::fresh(limit, percent);
+        Ok(self.bound as u32)
+    }
+
+    fn order(&mut self, line: u32, time: u32, due: u32) -> Result<Ordered, Refusal> {
+        let (time, due) = (u64::from(time), u64::from(due));
+        refuse_first(&[
+            (4, !(1..=3).contains(&line)),
+            (5, !(1..=1_440).contains(&time)),
+            (6, due > 2_000_000),
+            (7, due < self.clock + time),
+            (13, self.charges.len() == PLACES),
+            (14, self.next_ticket > 65_535),
+        ])?;
+        let (ticket, order) = (self.next_ticket, self.clock);
+        let charge = Charge { ticket, line, order, time, due, start: order };
+        let start = smallest_start(&self.charges, &charge, self.clock, self.rules())
+            .expect("the held plan is sound, so its last end is a start");
+        self.charges.push(charge.starting_at(start));
+        self.next_ticket += 1;
+        Ok(Ordered { ticket, start })
+    }
+
+    /// "Charges with start at or above the old clock and below the target are
+    /// reported: ticket, start, ticket, start, ordered by start, then ticket.
+    /// Places after them keep what they held. Then finished charges are dropped."
+    fn move_clock(&mut self, target: u32, report: &mut [u32]) -> Result<Moved, Refusal> {
+        let target = u64::from(target);
+        refuse_first(&[
+            (8, target > 1_000_000),
+            (9, report.len() < 2 * PLACES),
+            (12, target < self.clock),
+        ])?;
+        let passed = self.clock..target;
+        let mut reported: Vec<Charge> =
+            self.charges.iter().copied().filter(|charge| passed.contains(&charge.start)).collect();
+        reported.sort_by_key(|charge| (charge.start, charge.ticket));
+        for (pair, charge) in report.chunks_mut(2).zip(&reported) {
+            pair[0] = charge.ticket;
+            pair[1] = charge.start as u32;
+        }
+        let held = self.charges.len();
+        self.clock = target;
+        self.charges.retain(|charge| !charge.finished(target));
+        Ok(Moved { reported: reported.len(), dropped: held - self.charges.len() })
+    }
+
+    fn offer(&mut self, starts: &[u32]) -> Result<Planned, Refusal> {
+        refuse_first(&[(10, starts.len() != self.waiting().len())])?;
+        let starts: Vec<u64> = starts.iter().map(|start| u64::from(*start)).collect();
+        Ok(self.take_or_keep(&starts, 0))
+    }
+
+    fn replan_by_latest_start(&mut self) -> Planned {
+        self.by_latest_start()
+    }
+
+    fn replan_by_lines(&mut self, allowance: u32) -> Result<Planned, Refusal> {
+        refuse_first(&[(11, !(1..=1_000).contains(&allowance))])?;
+        Ok(self.by_lines(allowance))
+    }
+
+    fn enquire(&self, ticket: u32) -> Result<Found, Refusal> {
+        let charge = self.charges.iter().find(|charge| charge.ticket == ticket).ok_or(15u32)?;
+        let start = charge.start;
+        Ok(if charge.begun(self.clock) {
+            Found::Charging { start, end: charge.end() }
+        } else {
+            Found::Waiting { start }
+        })
+    }
+}

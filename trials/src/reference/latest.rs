@@ -1,0 +1,42 @@
+//! "Keep the begun charges. Take the waiting ones by d − p, then ticket. Give
+//! each the smallest start, not below the clock, after which the begun charges
+//! and those placed so far, itself included, are sound in every minute from the
+//! clock on. If one has no such start: cause 1."
+
+use super::judge::NO_START;
+use super::search::smallest_start;
+use super::station::{Charge, Station};
+use crate::yard::Planned;
+
+/// "by d − p, then ticket"
+pub fn latest_start_order(mut waiting: Vec<Charge>) -> Vec<Charge> {
+    waiting.sort_by_key(|charge| (charge.due as i64 - charge.time as i64, charge.ticket));
+    waiting
+}
+
+/// The starts of placed charges as an offer lists them: "in ticket order".
+pub fn in_ticket_order(mut placed: Vec<Charge>) -> Vec<u64> {
+    placed.sort_by_key(|charge| charge.ticket);
+    placed.iter().map(|charge| charge.start).collect()
+}
+
+impl Station {
+    pub fn by_latest_start(&mut self) -> Planned {
+        match self.place_in_turn(&latest_start_order(self.waiting())) {
+            None => self.keep(NO_START, 0),
+            Some(starts) => self.take_or_keep(&starts, 0),
+        }
+    }
+
+    /// Starts, in ticket order, when the waiting charges are placed in this turn.
+    pub fn place_in_turn(&self, waiting: &[Charge]) -> Option<Vec<u64>> {
+        let mut plan = self.begun();
+        let mut placed = Vec::new();
+        for charge in waiting {
+            let start = smallest_start(&plan, charge, self.clock, self.rules())?;
+            plan.push(charge.starting_at(start));
+            placed.push(charge.starting_at(start));
+        }
+        Some(in_ticket_order(placed))
+    }
+}

@@ -1,0 +1,52 @@
+//! "The **count** of a line in a minute is the number of its active charges. A
+//! plan is **sound** when in every minute from the clock on each count is at most
+//! N and each two counts differ by at most D."
+//!
+//! Counts stand in an array with one place for each minute, the clock's minute
+//! first: minutes themselves can be near 100,000,000.
+
+use super::station::Charge;
+
+/// The counts of lines 1, 2 and 3 in one minute.
+pub type Counts = [u64; 3];
+
+/// The limit N and the bound D.
+#[derive(Clone, Copy, Debug)]
+pub struct Rules {
+    pub limit: u64,
+    pub bound: u64,
+}
+
+impl Rules {
+    /// "each count is at most N"
+    pub fn within_limit(&self, counts: &Counts) -> bool {
+        counts.iter().all(|count| *count <= self.limit)
+    }
+
+    /// "each two counts differ by at most D": all pairs, 1 and 3 too.
+    pub fn balanced(&self, counts: &Counts) -> bool {
+        counts.iter().all(|one| counts.iter().all(|other| one.abs_diff(*other) <= self.bound))
+    }
+
+    pub fn sound_in(&self, counts: &Counts) -> bool {
+        self.within_limit(counts) && self.balanced(counts)
+    }
+}
+
+/// Counts in the minutes from `from` on, as many as asked for.
+pub fn counts(charges: &[Charge], from: u64, minutes: u64) -> Vec<Counts> {
+    let mut counts = vec![[0; 3]; minutes as usize];
+    for charge in charges {
+        count_charge(&mut counts, charge, from);
+    }
+    counts
+}
+
+/// Counts one more charge in each of its active minutes that the array has.
+pub fn count_charge(counts: &mut [Counts], charge: &Charge, from: u64) {
+    let line = charge.line as usize - 1;
+    let until = charge.end().min(from + counts.len() as u64);
+    for minute in charge.start.max(from)..until {
+        counts[(minute - from) as usize][line] += 1;
+    }
+}

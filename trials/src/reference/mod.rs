@@ -1,0 +1,21 @@
+//! The second implementation of all rules of document 01, written minute by
+//! minute and straight from its sentences. It is meant to be read beside the
+//! document, so it is plain where it could be fast.
+//!
+//! - `station`: the words: charge, station, begun, finished, lateness
+//! - `minutes`: counts in every minute, and when a plan is sound
+//! - `search`: the smallest start
+//! - `judge`: the test that offers and both replans end with
+//! - `latest`, `lines`: the two replans
+//! - `calls`: the calls with their refusals
+
+mod calls;
+mod judge;
+mod latest;
+mod lines;
+pub mod minutes;
+pub mod search;
+mod station;
+
+pub use latest::latest_start_order;
+pub use station::{Charge, Station};

@@ -1,0 +1,104 @@
+//! "A **station** holds a limit N, a percentage c, a bound D, a clock, the next
+//! ticket and up to 180 charges". "A **charge** has a ticket, a line, an order
+//! minute, a charging time p, a due minute d and a start s."
+
+use super::minutes::Rules;
+
+/// "up to 180 charges"
+pub const PLACES: usize = 180;
+
+#[derive(Clone, Copy, Debug, PartialEq, Eq)]
+pub struct Charge {
+    pub ticket: u32,
+    pub line: u32,
+    pub order: u64,
+    pub time: u64,
+    pub due: u64,
+    pub start: u64,
+}
+
+impl Charge {
+    /// "Its end is s + p." In 64 bits, because an offered start is any u32.
+    pub fn end(&self) -> u64 {
+        self.start + self.time
+    }
+
+    /// "It is active in minutes s to s + p − 1."
+    pub fn active_in(&self, minute: u64) -> bool {
+        self.start <= minute && minute < self.end()
+    }
+
+    /// "It is *begun* when s is below the clock, else *waiting*"
+    pub fn begun(&self, clock: u64) -> bool {
+        self.start < clock
+    }
+
+    /// "A charge whose end is at or below the clock is finished"
+    pub fn finished(&self, clock: u64) -> bool {
+        self.end() <= clock
+    }
+
+    /// max(0, end − d)
+    pub fn lateness(&self) -> u64 {
+        self.end().saturating_sub(self.due)
+    }
+
+    pub fn starting_at(mut self, start: u64) -> Charge {
+        self.start = start;
+        self
+    }
+}
+
+#[derive(Clone, Debug, PartialEq, Eq)]
+pub struct Station {
+    pub limit: u64,
+    pub percent: u64,
+    pub bound: u64,
+    pub clock: u64,
+    pub next_ticket: u32,
+    /// In ticket order: orders append, and dropping keeps the order.
+    pub charges: Vec<Charge>,
+}
+
+impl Station {
+    /// "A fresh station: clock 0, next ticket 1, no charges." "D is c × N / 100
+    /// rounded down."
+    pub fn fresh(limit: u64, percent: u64) -> Station {
+        let bound = percent * limit / 100;
+        Station { limit, percent, bound, clock: 0, next_ticket: 1, charges: Vec::new() }
+    }
+
+    pub fn rules(&self) -> Rules {
+        Rules { limit: self.limit, bound: self.bound }
+    }
+
+    pub fn begun(&self) -> Vec<Charge> {
+        self.charges.iter().copied().filter(|charge| charge.begun(self.clock)).collect()
+    }
+
+    pub fn waiting(&self) -> Vec<Charge> {
+        self.charges.iter().copied().filter(|charge| !charge.begun(self.clock)).collect()
+    }
+
+    /// The held charges with other starts for the waiting ones, in ticket order.
+    pub fn with_starts(&self, starts: &[u64]) -> Vec<Charge> {
+        let mut starts = starts.iter();
+        let mut charges = self.charges.clone();
+        for charge in &mut charges {
+            if !charge.begun(self.clock) {
+                charge.start = *starts.next().expect("one start for each waiting charge");
+            }
+        }
+        charges
+    }
+}
+
+/// "**Lateness** is the sum of max(0, end − d) over the charges held"
+pub fn lateness(charges: &[Charge]) -> u64 {
+    charges.iter().map(Charge::lateness).sum()
+}
+
+/// "the last end of held charges (0 if none)"
+pub fn last_end(charges: &[Charge]) -> u64 {
+    charges.iter().map(Charge::end).max().unwrap_or(0)
+}

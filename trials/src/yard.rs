@@ -1,0 +1,49 @@
+//! The calls of document 01, "The calls", as one trait, so that the reference,
+//! the fast program and the faulty ones of the tests answer the same protocol.
+
+/// The number of a refusal: "A refusal returns its number alone".
+pub type Refusal = u32;
+
+/// Answer of an order: "ticket and start".
+#[derive(Clone, Copy, Debug, PartialEq, Eq)]
+pub struct Ordered {
+    pub ticket: u32,
+    pub start: u64,
+}
+
+/// Answer of a clock move: "how many were reported, how many dropped".
+#[derive(Clone, Copy, Debug, PartialEq, Eq)]
+pub struct Moved {
+    pub reported: usize,
+    pub dropped: usize,
+}
+
+/// Answer of an offer and of both replans: "cause, lateness before and after
+/// (equal when kept), rounds used (0 but by lines)".
+#[derive(Clone, Copy, Debug, PartialEq, Eq)]
+pub struct Planned {
+    pub cause: u32,
+    pub before: u64,
+    pub after: u64,
+    pub rounds: u32,
+}
+
+/// Answer of an enquiry: "waiting with its start, charging with start and end".
+#[derive(Clone, Copy, Debug, PartialEq, Eq)]
+pub enum Found {
+    Waiting { start: u64 },
+    Charging { start: u64, end: u64 },
+}
+
+/// A place where a station stands; every call works on that station.
+pub trait Yard {
+    /// Puts a fresh station in place and answers its bound. Beside a refusal
+    /// the fresh station of 1, 100 is put in place.
+    fn open(&mut self, limit: u32, percent: u32) -> Result<u32, Refusal>;
+    fn order(&mut self, line: u32, time: u32, due: u32) -> Result<Ordered, Refusal>;
+    fn move_clock(&mut self, target: u32, report: &mut [u32]) -> Result<Moved, Refusal>;
+    fn offer(&mut self, starts: &[u32]) -> Result<Planned, Refusal>;
+    fn replan_by_latest_start(&mut self) -> Planned;
+    fn replan_by_lines(&mut self, allowance: u32) -> Result<Planned, Refusal>;
+    fn enquire(&self, ticket: u32) -> Result<Found, Refusal>;
+}

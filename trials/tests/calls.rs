@@ -1,0 +1,202 @@
+//! The refusals with their order, what they leave alone, and single rules where
+//! one could miss them.
+
+mod common;
+
+use common::{expect, fast, reference};
+use trials::yard::{Moved, Yard};
+
+const WORD: &str = "4294967295";
+
+#[test]
+fn openings_refused() {
+    expect(
+        "open 0 100\nopen 61 101\nopen 1 101\nopen 60 101",
+        &["refused 1", "refused 1", "refused 2", "refused 2"],
+    );
+    expect(
+        "open 1 99\nopen 60 1\nopen 60 2\nopen 59 0",
+        &["refused 3", "refused 3", "open 0 1", "refused 3"],
+    );
+    expect(&format!("open {WORD} {WORD}\nopen 60 {WORD}"), &["refused 1", "refused 2"]);
+}
+
+/// "Beside a refused opening stands the fresh station of 1, 100."
+#[test]
+fn a_refused_opening_leaves_the_small_station() {
+    let text =
+        "open 60 100\norder 1 5 5\norder 1 5 5\nopen 60 101\norder 1 5 5\norder 1 5 9\nenquire 3";
+    let expected = [
+        "open 0 60",
+        "ticket 1 start 0",
+        "ticket 2 start 0",
+        "refused 2",
+        "ticket 1 start 0",
+        "ticket 2 start 5",
+        "refused 15",
+    ];
+    expect(text, &expected);
+}
+
+#[test]
+fn orders_refused_by_the_lowest_number() {
+    let text = format!(
+        "open 1 100\norder 0 0 {WORD}\norder 4 1 1\norder 1 0 {WORD}\norder 1 1441 0\n\
+         order 1 1440 2000001\norder 1 1440 1439\norder 1 {WORD} {WORD}\norder 1 1440 1440"
+    );
+    let expected = [
+        "open 0 1",
+        "refused 4",
+        "refused 4",
+        "refused 5",
+        "refused 5",
+        "refused 6",
+        "refused 7",
+        "refused 5",
+        "ticket 1 start 0",
+    ];
+    expect(&text, &expected);
+}
+
+#[test]
+fn moves_refused() {
+    let text = format!(
+        "move 5 360\nmove 1000001 0\nmove {WORD} 360\nmove 4 359\nmove 5 359\nmove 4 360\nmove 5 360\n\
+         move 6 4097\nmove 7 {WORD}\nmove 1000000 360"
+    );
+    let moved = "moved 0 dropped 0";
+    let expected = [
+        moved,
+        "refused 8",
+        "refused 8",
+        "refused 9",
+        "refused 9",
+        "refused 12",
+        moved,
+        moved,
+        moved,
+        moved,
+    ];
+    expect(&text, &expected);
+}
+
+#[test]
+fn lists_allowances_and_tickets_refused() {
+    let text = format!(
+        "open 1 100\norder 1 10 60\noffer\noffer 0 0\nlines 0\nlines 1001\nlines {WORD}\n\
+         enquire 0\nenquire 2\nenquire {WORD}\nenquire 1\nmove 10 360\nenquire 1"
+    );
+    let expected = [
+        "open 0 1",
+        "ticket 1 start 0",
+        "refused 10",
+        "refused 10",
+        "refused 11",
+        "refused 11",
+        "refused 11",
+        "refused 15",
+        "refused 15",
+        "refused 15",
+        "waiting 0",
+        "moved 1 dropped 1 1 0",
+        "refused 15",
+    ];
+    expect(&text, &expected);
+}
+
+/// "the station and every list stay", and "Places after them keep what they held".
+fn report_list<Y: Yard>(mut yard: Y) {
+    yard.open(2, 50).unwrap();
+    yard.order(1, 5, 9).unwrap();
+    yard.order(2, 5, 9).unwrap();
+    let untouched: Vec<u32> = (0..400).map(|place| 7 * place + 1).collect();
+    let mut list = untouched.clone();
+    assert_eq!(yard.move_clock(1_000_001, &mut list), Err(8));
+    assert_eq!(yard.move_clock(1, &mut list[..359]), Err(9));
+    assert_eq!(yard.move_clock(0, &mut list), Ok(Moved { reported: 0, dropped: 0 }));
+    assert_eq!(list, untouched);
+    assert_eq!(yard.move_clock(1, &mut list), Ok(Moved { reported: 2, dropped: 0 }));
+    assert_eq!(list[..4], [1, 0, 2, 0]);
+    assert_eq!(list[4..], untouched[4..]);
+    assert_eq!(yard.move_clock(0, &mut list), Err(12));
+    assert_eq!(list[4..], untouched[4..]);
+}
+
+#[test]
+fn report_lists_are_left_alone() {
+    report_list(reference());
+    report_list(fast());
+}
+
+/// "ordered by start, then ticket", and charges reported and dropped at once.
+#[test]
+fn a_move_over_everything() {
+    let text = "open 1 100\norder 1 3 9\norder 1 3 9\norder 2 3 9\nmove 7 360\nmove 7 360";
+    let expected = [
+        "open 0 1",
+        "ticket 1 start 0",
+        "ticket 2 start 3",
+        "ticket 3 start 0",
+        "moved 3 dropped 3 1 0 3 0 2 3",
+        "moved 0 dropped 0",
+    ];
+    expect(text, &expected);
+}
+
+/// Cause 3 is about all starts and comes before 4; a start near 2^32 has an end
+/// of more than 32 bits; 5 anywhere comes before 6 anywhere.
+#[test]
+fn causes_of_offers_in_their_order() {
+    let text = format!(
+        "open 2 50\norder 1 5 5\norder 1 5 5\norder 1 5 5\nmove 1 360\n\
+         offer 0 {WORD}\noffer {WORD} 10\noffer 4294967290 10\noffer 11 10\n\
+         offer 5 5\noffer 1 5\noffer 5 6\noffer 1 1\noffer 10 5\noffer 5 10"
+    );
+    let expected = [
+        "open 0 1",
+        "ticket 1 start 0",
+        "ticket 2 start 5",
+        "ticket 3 start 10",
+        "moved 1 dropped 0 1 0",
+        "plan 3 15 15 0",
+        "plan 4 15 15 0",
+        "plan 4 15 15 0",
+        "plan 4 15 15 0",
+        "plan 6 15 15 0",
+        "plan 6 15 15 0",
+        "plan 6 15 15 0",
+        "plan 5 15 15 0",
+        "plan 7 15 15 0",
+        "plan 7 15 15 0",
+    ];
+    expect(&text, &expected);
+}
+
+/// A difference in an early minute and a count too high in a late one: cause 5.
+#[test]
+fn a_late_count_beats_an_early_difference() {
+    let text = "open 2 50\norder 1 5 5\norder 1 5 5\norder 1 5 5\norder 1 5 5\norder 1 5 5\n\
+                offer 0 0 10 10 10";
+    let last = trials::script::reference_answers(&common::lines(text)).pop().unwrap();
+    assert_eq!(trials::script::show(&last), "plan 5 50 50 0");
+}
+
+/// Cause 1 by lines: the begun charges of line 1 lean on ticket 3, which a round
+/// starts too early, and nothing of line 1 was placed.
+#[test]
+fn by_lines_without_a_placed_charge() {
+    let text = "open 6 17\norder 1 9 9\norder 2 2 2\norder 2 7 7\norder 3 9 9\norder 1 9 9\n\
+                move 1 360\nlines 1\nlines 1000";
+    let expected = [
+        "open 0 1",
+        "ticket 1 start 0",
+        "ticket 2 start 0",
+        "ticket 3 start 2",
+        "ticket 4 start 0",
+        "ticket 5 start 0",
+        "moved 4 dropped 0 1 0 2 0 4 0 5 0",
+        "plan 1 2 2 1",
+        "plan 1 2 2 1",
+    ];
+    expect(text, &expected);
+}

@@ -1,0 +1,109 @@
+//! Cases a to l of document 01, and the scripts that ship with the trials.
+
+mod common;
+
+use common::{answers, expect, fast, lines, reference};
+use trials::demand;
+use trials::script;
+
+const E: &str = "open 2 50
+order 1 10 60
+order 3 10 60
+order 2 5 60
+order 2 5 60
+order 2 5 20
+order 1 10 60
+";
+
+const H: &str = "open 1 100
+order 1 10 60
+order 1 10 15
+";
+
+/// Case h's opening and orders with more lines, and the answers to those.
+fn after_h(more: &str, expected: &[&str]) {
+    let mut all = vec!["open 0 1", "ticket 1 start 0", "ticket 2 start 10"];
+    all.extend_from_slice(expected);
+    expect(&format!("{H}{more}"), &all);
+}
+
+#[test]
+fn a_to_d_open() {
+    expect("open 5 20", &["open 0 1"]);
+    expect("open 10 10", &["open 0 1"]);
+    expect("open 9 11", &["refused 3"]);
+    expect("open 60 100\nopen 61 100", &["open 0 60", "refused 1"]);
+}
+
+#[test]
+fn e_to_g_begun_charges_lean_on_a_waiting_one() {
+    let more = "move 1 360\norder 3 3 10\nlatest\nenquire 5\nenquire 7";
+    let expected = [
+        "open 0 1",
+        "ticket 1 start 0",
+        "ticket 2 start 0",
+        "ticket 3 start 0",
+        "ticket 4 start 0",
+        "ticket 5 start 5",
+        "ticket 6 start 0",
+        "moved 5 dropped 0 1 0 2 0 3 0 4 0 6 0",
+        "ticket 7 start 1",
+        "plan 1 0 0 0",
+        "waiting 5",
+        "waiting 1",
+    ];
+    expect(&format!("{E}{more}"), &expected);
+}
+
+#[test]
+fn h_both_replans_are_taken() {
+    after_h("latest\nenquire 1\nenquire 2", &["plan 0 5 0 0", "waiting 10", "waiting 0"]);
+    after_h("lines 1000\nenquire 1\nenquire 2", &["plan 0 5 0 1", "waiting 10", "waiting 0"]);
+    after_h("lines 1", &["plan 0 5 0 1"]);
+}
+
+#[test]
+fn i_moved_before_the_replan() {
+    after_h("move 1 360\nlatest", &["moved 1 dropped 0 1 0", "plan 7 5 5 0"]);
+    after_h("move 1 360\nlines 1000", &["moved 1 dropped 0 1 0", "plan 7 5 5 1"]);
+}
+
+#[test]
+fn j_offers() {
+    after_h("offer 10 0", &["plan 0 5 0 0"]);
+    after_h("offer 10 1", &["plan 5 5 5 0"]);
+    after_h("offer 11 0", &["plan 4 5 5 0"]);
+}
+
+#[test]
+fn k_rounds() {
+    let k = "open 2 50\norder 1 10 60\norder 1 10 60\n";
+    let opened = ["open 0 1", "ticket 1 start 0", "ticket 2 start 10"];
+    expect(&format!("{k}lines 2"), &[&opened[..], &["plan 7 0 0 2"]].concat());
+    expect(&format!("{k}lines 1"), &[&opened[..], &["plan 2 0 0 1"]].concat());
+}
+
+#[test]
+fn l_nothing_waits() {
+    for open in ["", "open 2 50\n", "open 60 100\n"] {
+        let opened = answers(reference(), open);
+        let mut expected: Vec<&str> = opened.iter().map(String::as_str).collect();
+        expected.extend(["plan 7 0 0 0", "plan 7 0 0 1", "plan 7 0 0 0"]);
+        expect(&format!("{open}latest\nlines 5\noffer"), &expected);
+    }
+}
+
+/// The files in scripts/ and the answers beside them.
+#[test]
+fn shipped_scripts() {
+    let cases = (include_str!("../scripts/cases.txt"), include_str!("../scripts/cases.answers"));
+    let evening =
+        (include_str!("../scripts/evening.txt"), include_str!("../scripts/evening.answers"));
+    for (text, expected) in [cases, evening] {
+        let expected: Vec<&str> = expected.lines().collect();
+        assert_eq!(answers(reference(), text), expected);
+        assert_eq!(answers(fast(), text), expected);
+    }
+    let calls = lines(evening.0);
+    assert_eq!(demand::check(&calls, &script::reference_answers(&calls)), Ok(()));
+}

@@ -1,0 +1,40 @@
+//! What the tests share. Not every test uses all of it.
+#![allow(dead_code)]
+
+pub mod literal;
+
+use trials::program::{Answering, Outcome};
+use trials::script::{self, answers_of, Line};
+use trials::yard::Yard;
+
+/// Lines from text; the text ends with a line feed or not.
+pub fn lines(text: &str) -> Vec<Line> {
+    script::split(text.as_bytes())
+}
+
+pub fn answers<Y: Yard>(yard: Y, text: &str) -> Vec<String> {
+    answers_of(yard, &lines(text)).iter().map(|line| script::show(line)).collect()
+}
+
+pub fn reference() -> trials::reference::Station {
+    trials::reference::Station::fresh(1, 100)
+}
+
+pub fn fast() -> trials::fast::Station {
+    trials::fast::Station::fresh(1, 100)
+}
+
+/// The reference and the fast program both give these answers.
+pub fn expect(text: &str, expected: &[&str]) {
+    assert_eq!(answers(reference(), text), expected, "reference:\n{text}");
+    assert_eq!(answers(fast(), text), expected, "fast:\n{text}");
+}
+
+/// A yard in the place of a program.
+pub struct Inside<F>(pub F);
+
+impl<Y: Yard, F: Fn() -> Y> Answering for Inside<F> {
+    fn answers(&self, input: &[u8]) -> Outcome {
+        Outcome { answers: answers_of((self.0)(), &script::split(input)), trouble: None }
+    }
+}

@@ -1,0 +1,144 @@
+//! The checker of demand 3 accepts true answers and finds falsified ones.
+
+mod common;
+
+use common::lines;
+use trials::demand;
+use trials::script::{self, Line};
+
+const SCRIPT: &str = "open 2 50
+order 1 10 60
+order 1 10 15
+order 2 5 60
+move 4 360
+order 3 4 60
+move 12 360
+order 1 3 20
+order 1 3 20
+enquire 0
+enquire 1
+enquire 2
+enquire 3
+enquire 4
+enquire 5
+enquire 6
+enquire 7
+";
+
+fn true_answers() -> Vec<Line> {
+    script::reference_answers(&lines(SCRIPT))
+}
+
+/// The script's answers with one of them replaced; what the checker says.
+fn falsified(right: &str, wrong: &str) -> String {
+    let mut answers = true_answers();
+    let place = answers.iter().position(|answer| script::show(answer) == right);
+    let place = place.unwrap_or_else(|| panic!("no answer '{right}'"));
+    answers[place] = wrong.as_bytes().to_vec();
+    demand::check(&lines(SCRIPT), &answers).expect_err(wrong).what
+}
+
+#[test]
+fn true_answers_hold() {
+    let shown: Vec<String> = true_answers().iter().map(|answer| script::show(answer)).collect();
+    let expected = [
+        "open 0 1",
+        "ticket 1 start 0",
+        "ticket 2 start 10",
+        "ticket 3 start 0",
+        "moved 2 dropped 0 1 0 3 0",
+        "ticket 4 start 4",
+        "moved 2 dropped 3 4 4 2 10",
+        "ticket 5 start 20",
+        "ticket 6 start 23",
+        "refused 15",
+        "refused 15",
+        "charging 10 20",
+        "refused 15",
+        "refused 15",
+        "waiting 20",
+        "waiting 23",
+        "refused 15",
+    ];
+    assert_eq!(shown, expected);
+    assert_eq!(demand::check(&lines(SCRIPT), &true_answers()), Ok(()));
+}
+
+#[test]
+fn reports() {
+    let moved = "moved 2 dropped 3 4 4 2 10";
+    // One left out: the enquiry finds the order charging that was never reported.
+    assert!(falsified(moved, "moved 1 dropped 3 4 4").contains("charging"));
+    // A start one later: the enquiry shows another one.
+    assert!(falsified(moved, "moved 2 dropped 3 4 4 2 11").contains("charging"));
+    assert!(falsified(moved, "moved 3 dropped 3 4 4 2 10 1 5").contains("again"));
+    assert!(falsified(moved, "moved 3 dropped 3 4 4 2 10 9 5").contains("not given"));
+    assert!(falsified(moved, "moved 3 dropped 3 4 4 2 10 0 5").contains("not given"));
+    assert!(falsified(moved, "moved 2 dropped 3 4 3 2 10").contains("from 4 to 12"));
+    assert!(falsified(moved, "moved 2 dropped 3 4 12 2 10").contains("from 4 to 12"));
+    assert!(falsified(moved, "moved 3 dropped 3 4 4 2 10").contains("numbers"));
+    assert!(falsified(moved, "refused 8").contains("ticket 1"));
+}
+
+#[test]
+fn tickets() {
+    assert!(falsified("ticket 2 start 10", "ticket 3 start 10").contains("where 2 is next"));
+    assert!(falsified("ticket 1 start 0", "refused 13").contains("where 1 is next"));
+    assert!(falsified("ticket 6 start 23", "refused 13").contains("not given"));
+}
+
+#[test]
+fn enquiries() {
+    assert!(falsified("charging 10 20", "charging 11 21").contains("ticket 2"));
+    assert!(falsified("charging 10 20", "charging 10 21").contains("ticket 2"));
+    assert!(falsified("charging 10 20", "refused 15").contains("ticket 2"));
+    assert!(falsified("charging 10 20", "waiting 12").contains("ticket 2"));
+    assert!(falsified("waiting 20", "refused 15").contains("ticket 5"));
+    assert!(falsified("waiting 20", "charging 11 14").contains("ticket 5"));
+    assert!(falsified("waiting 20", "waiting 11").contains("ticket 5"));
+}
+
+#[test]
+fn counts_and_ends() {
+    // Ticket 6 in the same minutes as ticket 5 leaves line 3 two behind.
+    assert!(falsified("waiting 23", "waiting 22").contains("counts"));
+    // Last order minute 12 and 35 minutes of charging: 47 is the last end.
+    let mut answers = true_answers();
+    let place = answers.len() - 2;
+    answers[place] = b"waiting 44".to_vec();
+    assert_eq!(demand::check(&lines(SCRIPT), &answers), Ok(()));
+    answers[place] = b"waiting 45".to_vec();
+    let broken = demand::check(&lines(SCRIPT), &answers).unwrap_err();
+    assert_eq!(broken.what, "ticket 6 ends in 48, after 47");
+}
+
+/// Dropped orders count too: a falsified report far back makes a minute unsound
+/// that is long gone.
+#[test]
+fn minutes_gone() {
+    let text = "open 1 100\norder 1 5 5\norder 1 5 10\nmove 20 360\nenquire 1\nenquire 2";
+    let mut answers = script::reference_answers(&lines(text));
+    assert_eq!(demand::check(&lines(text), &answers), Ok(()));
+    answers[3] = b"moved 2 dropped 2 1 0 2 4".to_vec();
+    let broken = demand::check(&lines(text), &answers).unwrap_err();
+    assert_eq!(broken.what, "minute 4 has counts [2, 0, 0]");
+}
+
+/// An order that was neither reported nor asked for leaves the claim open.
+#[test]
+fn unknown_starts() {
+    let text = "order 1 5 5";
+    let answers = script::reference_answers(&lines(text));
+    let broken = demand::check(&lines(text), &answers).unwrap_err();
+    assert_eq!(broken.what, "ticket 1 neither reported nor found");
+    assert!(demand::check(&lines(text), &[]).is_err());
+}
+
+/// Each opening ends the claim about the station before it.
+#[test]
+fn stations_one_after_the_other() {
+    let text = "order 1 5 5\nenquire 1\nopen 61 1\norder 2 5 5\norder 2 5 9\nmove 5 360\n\
+                enquire 1\nenquire 2\nopen 60 100\norder 3 1 1\nenquire 1";
+    let answers = script::reference_answers(&lines(text));
+    assert_eq!(demand::check(&lines(text), &answers), Ok(()));
+}

@@ -1,0 +1,91 @@
+//! The generator brings about every answer that the rules know, the fast program
+//! agrees with the reference on its scripts, and shrinking does its part.
+
+mod common;
+
+use common::{fast, lines, Inside};
+use trials::compare::{compare, Choice};
+use trials::coverage::coverage;
+use trials::generate;
+use trials::shrink::shrink;
+
+fn choice(scripts: u64, seed: u64) -> Choice<'static> {
+    Choice { scripts, seed, kind: None }
+}
+
+#[test]
+fn the_same_seed_gives_the_same_scripts() {
+    for number in 0..40 {
+        assert_eq!(generate::script(5, number).lines, generate::script(5, number).lines);
+    }
+    assert_ne!(generate::script(5, 0).lines, generate::script(6, 0).lines);
+}
+
+#[test]
+fn every_script_begins_with_an_opening() {
+    for kind in &generate::KINDS {
+        let script = generate::script_of_kind(kind.name, 1, 0).unwrap();
+        assert!(script.lines[0].starts_with(b"open "), "{}", kind.name);
+    }
+}
+
+const REFUSALS: [(&str, &[u32]); 6] = [
+    ("open", &[1, 2, 3]),
+    ("order", &[4, 5, 6, 7, 13, 14]),
+    ("move", &[8, 9, 12]),
+    ("offer", &[10]),
+    ("lines", &[11]),
+    ("enquire", &[15]),
+];
+
+/// The other causes cannot happen to these calls.
+const CAUSES: [(&str, &[u32]); 3] =
+    [("offer", &[0, 3, 4, 5, 6, 7]), ("latest", &[0, 1, 4, 7]), ("lines", &[0, 1, 2, 4, 7])];
+
+const OTHERS: [&str; 11] = [
+    "open: open",
+    "order: ticket",
+    "move: moved",
+    "enquire: waiting",
+    "enquire: charging",
+    "error unknown call",
+    "error not a number",
+    "error number too large",
+    "error missing number",
+    "error extra number",
+    "error line too long",
+];
+
+#[test]
+fn every_answer_occurs() {
+    let totals = coverage(&choice(600, 1));
+    let mut wanted: Vec<String> = OTHERS.iter().map(|sort| sort.to_string()).collect();
+    for (call, numbers) in REFUSALS {
+        wanted.extend(numbers.iter().map(|number| format!("{call}: refused {number:>2}")));
+    }
+    for (call, numbers) in CAUSES {
+        wanted.extend(numbers.iter().map(|number| format!("{call}: cause {number}")));
+    }
+    for sort in wanted {
+        assert!(totals.contains_key(&sort), "no '{sort}' in {totals:#?}");
+    }
+}
+
+#[test]
+fn the_fast_program_agrees() {
+    let summary = compare(&Inside(fast), &choice(400, 11)).map_err(|failure| failure.what);
+    assert_eq!(summary.map(|summary| summary.scripts), Ok(400));
+}
+
+#[test]
+fn shrinking_leaves_what_fails() {
+    let script = lines("open 5 20\norder 1 10 60\norder 2 11 60\nmove 900 360\nlatest\nlatest");
+    let fails = |lines: &[Vec<u8>]| {
+        let move_far =
+            |line: &Vec<u8>| line.starts_with(b"move") && line.len() >= b"move 90 360".len();
+        lines.iter().any(move_far) && lines.last().is_some_and(|line| line == b"latest")
+    };
+    let left = shrink(&script, fails);
+    assert_eq!(left.len(), 2);
+    assert_eq!(left[1], b"latest");
+}

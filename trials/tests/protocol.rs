@@ -1,0 +1,147 @@
+//! The line protocol: what is a call, what is an error, and which error.
+
+mod common;
+
+use common::{expect, reference};
+use trials::interpret;
+use trials::protocol::{read_call, write_call, Call, Fault};
+
+fn fault(text: &[u8]) -> Fault {
+    read_call(text).expect_err(&String::from_utf8_lossy(text))
+}
+
+#[test]
+fn unknown_calls() {
+    for text in ["x", " latest", " ", "Latest", "latest\r", "\r", "latest\t1", "opens 1 100", "-"] {
+        assert_eq!(fault(text.as_bytes()), Fault::UnknownCall, "{text:?}");
+    }
+    assert_eq!(fault(b"\xff\x00"), Fault::UnknownCall);
+}
+
+#[test]
+fn words_that_are_no_numbers() {
+    for text in [
+        "open x 1",
+        "open  1 1",
+        "open 1 ",
+        "open 1 20\r",
+        "open +1 20",
+        "open -1 20",
+        "open 1_0 20",
+        "offer ",
+        "offer 1 ",
+        "offer 1  2",
+        "lines 0x1",
+        "enquire 99999999999x",
+        "enquire \u{661}",
+    ] {
+        assert_eq!(fault(text.as_bytes()), Fault::NotANumber, "{text:?}");
+    }
+}
+
+#[test]
+fn numbers_of_more_than_32_bits() {
+    for text in [
+        "enquire 4294967296",
+        "enquire 99999999999999999999999999999999",
+        "enquire 00000000000000004294967296",
+        "enquire 18446744073709551617",
+        "offer 1 4294967296",
+    ] {
+        assert_eq!(fault(text.as_bytes()), Fault::NumberTooLarge, "{text:?}");
+    }
+    let largest = read_call(b"enquire 0004294967295").unwrap();
+    assert_eq!(largest, Some(Call::Enquire { ticket: u32::MAX }));
+}
+
+/// Words are judged from left to right, and one too many is not judged.
+#[test]
+fn the_first_fault_counts() {
+    assert_eq!(fault(b"order 4294967296 x"), Fault::NumberTooLarge);
+    assert_eq!(fault(b"order x 4294967296"), Fault::NotANumber);
+    assert_eq!(fault(b"order 1 2"), Fault::MissingNumber);
+    assert_eq!(fault(b"order"), Fault::MissingNumber);
+    assert_eq!(fault(b"order 1 2 3 x"), Fault::ExtraNumber);
+    assert_eq!(fault(b"order 1 2 3 "), Fault::ExtraNumber);
+    assert_eq!(fault(b"latest "), Fault::ExtraNumber);
+    assert_eq!(fault(b"latest x"), Fault::ExtraNumber);
+}
+
+#[test]
+fn lists_of_180_starts() {
+    let offer = |count: usize| [b"offer".to_vec(), b" 7".repeat(count)].concat();
+    assert_eq!(read_call(&offer(180)), Ok(Some(Call::Offer { starts: vec![7; 180] })));
+    assert_eq!(fault(&offer(181)), Fault::ExtraNumber);
+    assert_eq!(fault(&[offer(180), b" x".to_vec()].concat()), Fault::ExtraNumber);
+    assert_eq!(fault(&[offer(179), b" x 7".to_vec()].concat()), Fault::NotANumber);
+    assert_eq!(read_call(b"offer"), Ok(Some(Call::Offer { starts: vec![] })));
+}
+
+/// The length is judged first, even in a comment.
+#[test]
+fn lines_of_4096_bytes() {
+    let enquire = |zeros: usize| [b"enquire ".to_vec(), vec![b'0'; zeros], b"9".to_vec()].concat();
+    assert_eq!(read_call(&enquire(4087)), Ok(Some(Call::Enquire { ticket: 9 })));
+    assert_eq!(fault(&enquire(4088)), Fault::LineTooLong);
+    assert_eq!(read_call(&[b'#'; 4096]), Ok(None));
+    assert_eq!(fault(&[b'#'; 4097]), Fault::LineTooLong);
+    assert_eq!(fault(&[b'x'; 4096]), Fault::UnknownCall);
+}
+
+#[test]
+fn written_calls_are_read_back() {
+    for call in [
+        Call::Open { limit: 0, percent: u32::MAX },
+        Call::Order { line: 1, time: 10, due: 100 },
+        Call::Move { target: 7, places: 360 },
+        Call::Offer { starts: vec![] },
+        Call::Offer { starts: vec![1, u32::MAX] },
+        Call::Latest,
+        Call::Lines { allowance: 1_000 },
+        Call::Enquire { ticket: 65_536 },
+    ] {
+        assert_eq!(read_call(write_call(&call).as_bytes()), Ok(Some(call)));
+    }
+}
+
+/// "Before the first `open` the station is that of 1, 100", and errors change
+/// nothing.
+#[test]
+fn errors_change_nothing() {
+    let text = "order 1 5 5\n\n# comment\norder 1 5\nopen 2 50 0\norder 1 5 10";
+    let expected =
+        ["ticket 1 start 0", "error missing number", "error extra number", "ticket 2 start 5"];
+    expect(text, &expected);
+}
+
+/// Input that arrives one byte at a time.
+struct Slow<'a>(&'a [u8]);
+
+impl std::io::Read for Slow<'_> {
+    fn read(&mut self, buffer: &mut [u8]) -> std::io::Result<usize> {
+        let Some((first, rest)) = self.0.split_first() else { return Ok(0) };
+        buffer[0] = *first;
+        self.0 = rest;
+        Ok(1)
+    }
+}
+
+fn served(input: impl std::io::Read) -> String {
+    let mut output = Vec::new();
+    interpret::serve(reference(), input, &mut output).unwrap();
+    String::from_utf8(output).unwrap()
+}
+
+/// A line cut anywhere by the reading, a line far too long, and a last line
+/// without a line feed.
+#[test]
+fn pieces_of_input() {
+    let mut input = b"order 1 5 5\n\n".to_vec();
+    input.extend(vec![b'z'; 200_000]);
+    input.extend(b"\nlatest\nenquire 1");
+    let expected = "ticket 1 start 0\nerror line too long\nplan 7 0 0 0\nwaiting 0\n";
+    assert_eq!(served(&input[..]), expected);
+    assert_eq!(served(Slow(&input)), expected);
+    assert_eq!(served(&b""[..]), "");
+    assert_eq!(served(&b"\n\n"[..]), "");
+}
