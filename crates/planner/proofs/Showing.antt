@@ -15,7 +15,7 @@ use Rattle.charges.specs.Arrays.{chargeAt, chargesOf}
 use Rattle.charges.specs.Held.{Listed}
 use Rattle.charges.proofs.Walking.{keep-hit, keep-miss, keep-length}
 use Rattle.profile.specs.declared.Profile.{Profile}
-use Rattle.profile.specs.Shows.{Shows, Added, CanAdd}
+use Rattle.profile.specs.Shows.{profileOf, Shows, Added, CanAdd}
 use Rattle.profile.proofs.Adds.{can-add}
 use Rattle.planner.proofs.Causes.{last-below, last-until-end}
 
@@ -66,6 +66,18 @@ begun-end-most {c} h clock =
       last-kept (isBegun clock) (chargesOf c),
       last-end-most h,
     )
+
+-- Profiles with the same parts are the same
+
+pub same-parts :
+    {n n′ : ℕ} {ats ats′ one one′ two two′ three three′ : List ℕ}
+    → n ≡ n′
+    → ats ≡ ats′
+    → one ≡ one′
+    → two ≡ two′
+    → three ≡ three′
+    → profileOf n ats one two three ≡ profileOf n′ ats′ one′ two′ three′
+same-parts e f g h i = rw (e, f, g, h, i)
 
 -- The begun ones among the first i charges
 

@@ -41,6 +41,10 @@ abbrev pub PlacedIf : Bool → (List Charge → Charge → Found) → ℕ → Ch
 PlacedIf true find clock c queue n p starts = AllPlaced find clock c queue n p starts
 PlacedIf false find clock c queue n p starts = placeAll find [] queue ≡ stuck
 
+-- a rule from its parts
+abbrev pub ruleOf : Bool → ℕ → ℕ → LineCaps → Rule
+ruleOf capped limit bound caps = record { capped = capped; limit = limit; bound = bound; caps = caps }
+
 -- the rule of replan by latest start, and that of replan by lines
 abbrev pub soundRule : ℕ → ℕ → LineCaps → Rule
 soundRule limit bound caps = record { capped = false; limit = limit; bound = bound; caps = caps }

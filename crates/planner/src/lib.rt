@@ -7,6 +7,9 @@ use profile::When;
 use profile::balance::largest_line;
 use profile::balance::smallest_line;
 use profile::caps::LineCaps;
+use profile::loads::add;
+use profile::start::earliest;
+use profile::start::earliest_under;
 ghost use mathlib.Core.Path.{_≡_};
 ghost use Prim.Native.Nat.{_≤_};
 ghost use lib.ListN.{length, take};
@@ -17,13 +20,13 @@ ghost use Rattle.rules.specs.Judgement.{restarted};
 ghost use Rattle.charges.specs.Arrays.{Columns, Filled, Holds, chargesOf};
 ghost use Rattle.charges.specs.Held.{Listed};
 ghost use Rattle.charges.specs.Places.{Ordered};
-ghost use Rattle.profile.specs.Shows.{Shows, CanStart};
-ghost use Rattle.profile.specs.Caps.{capsOf, CanCap};
+ghost use Rattle.profile.specs.Shows.{profileOf, Shows, CanStart};
+ghost use Rattle.profile.specs.Caps.{capsIn, capsOf, CanCap};
 ghost use Rattle.planner.specs.Starts.{WaitingStarts, waitingCount};
 ghost use Rattle.planner.specs.Ready.{begunOf, Ready, Queue};
 ghost use Rattle.planner.specs.Answers.{Comparable, Plays, Proposes, Replans, askedIn};
 ghost use Rattle.planner.specs.Judged.{CauseOf, Judges};
-ghost use Rattle.planner.specs.Placed.{Capped, Starts, PlacedBy};
+ghost use Rattle.planner.specs.Placed.{ruleOf, Capped, Starts, PlacedBy};
 
 // Cause 0 with a start for each waiting charge, in ticket order, or the cause for having none.
 pub struct Proposed {
@@ -105,25 +108,69 @@ fn begun_profile(charges: Charges, clock: u32) -> Profile
     ensures { λ r. ⌜ Shows r clock (loadsOf (begunCharges clock (chargesOf charges))) ⌝ }
 {
     let n = charges.held;
-    let mut profile = Profile::new(clock);
+    let empty = Profile::new(clock);
+    let mut steps = empty.steps;
+    let mut at = empty.at;
+    let mut one = empty.one;
+    let mut two = empty.two;
+    let mut three = empty.three;
     for i in 0..n {
         if charges.starts[i] < clock {
-            profile = profile.add(charges.lines[i], charges.times[i], charges.starts[i]);
+            steps = add(
+                &mut at,
+                &mut one,
+                &mut two,
+                &mut three,
+                steps,
+                charges.lines[i],
+                charges.times[i],
+                charges.starts[i],
+            );
         }
     }
-    profile
+    Profile {
+        steps,
+        at,
+        one,
+        two,
+        three,
+    }
 }
 
 // The smallest start that the rule allows.
-fn smallest_start(profile: Profile, rule: Rule, line: u32, time: u32) -> When
-    requires { ⌜ CanStart profile time × (1 ≤ rule .limit) × (1 ≤ rule .bound) × IsLine line × CanCap (capsOf (rule .caps) line) ⌝ }
-    ensures { λ r. ⌜ Starts profile rule line time r ⌝ }
+fn smallest_start<'a>(
+    at: &'a [u32; 362],
+    one: &'a [u32; 362],
+    two: &'a [u32; 362],
+    three: &'a [u32; 362],
+    n: usize,
+    capped: bool,
+    limit: u32,
+    bound: u32,
+    first: &'a [u32; 61],
+    second: &'a [u32; 61],
+    third: &'a [u32; 61],
+    line: u32,
+    time: u32,
+) -> When
+    requires { ⌜ CanStart (profileOf n (now at) (now one) (now two) (now three)) time × (1 ≤ limit) × (1 ≤ bound) × IsLine line × CanCap (capsOf (capsIn (now first) (now second) (now third)) line) ⌝ }
+    ensures { λ r. ⌜ Starts (profileOf n (now (at .entry)) (now (one .entry)) (now (two .entry)) (now (three .entry))) (ruleOf capped limit bound (capsIn (now (first .entry)) (now (second .entry)) (now (third .entry)))) line time r ⌝ }
 {
-    if rule.capped {
-        let caps = rule.caps;
-        return When::Minute(profile.earliest_under(caps, line, time));
+    if capped {
+        return When::Minute(earliest_under(
+            at,
+            one,
+            two,
+            three,
+            n,
+            first,
+            second,
+            third,
+            line,
+            time,
+        ));
     }
-    profile.earliest(rule.limit, rule.bound, line, time)
+    earliest(at, one, two, three, n, limit, bound, line, time)
 }
 
 // Places the charges of the queue, each at the smallest start that the rule allows.
@@ -132,23 +179,65 @@ fn place_all(charges: Charges, clock: u32, rule: Rule, queue: Places, begun: Pro
     ensures { λ r. ⌜ PlacedBy rule clock charges queue r ⌝ }
 {
     let n = queue.count;
-    let mut profile = begun;
+    let caps = rule.caps;
+    let mut steps = begun.steps;
+    let mut at = begun.at;
+    let mut one = begun.one;
+    let mut two = begun.two;
+    let mut three = begun.three;
     let mut starts = [0; 180];
     for k in 0..n {
         let i = queue.places[k];
         let line = charges.lines[i];
         let time = charges.times[i];
-        let found = smallest_start(profile, rule, line, time);
+        let found = smallest_start(
+            &at,
+            &one,
+            &two,
+            &three,
+            steps,
+            rule.capped,
+            rule.limit,
+            rule.bound,
+            &caps.one,
+            &caps.two,
+            &caps.three,
+            line,
+            time,
+        );
         let When::Minute(s) = found else {
+            let profile = Profile {
+                steps,
+                at,
+                one,
+                two,
+                three,
+            };
             return Placement {
                 complete: false,
                 profile,
                 starts,
             };
         };
-        profile = profile.add(line, time, s);
+        steps = add(
+            &mut at,
+            &mut one,
+            &mut two,
+            &mut three,
+            steps,
+            line,
+            time,
+            s,
+        );
         starts[i] = s;
     }
+    let profile = Profile {
+        steps,
+        at,
+        one,
+        two,
+        three,
+    };
     Placement {
         complete: true,
         profile,

@@ -4,22 +4,23 @@ use mathlib.Core.Logic.{⊎-elim}
 use Prim.Native.Nat.{_≤_, _-_}
 use borrow.Author.Needs.{needs}
 use Rattle.rules.specs.Charge.{loadsOf}
-use Rattle.profile.specs.Shows.{Shows}
-use Rattle.planner.proofs.Showing.{begunBelow, begun-can-add, begun-on, begun-past}
+use Rattle.profile.specs.Shows.{profileOf, Shows}
+use Rattle.planner.proofs.Showing.{begunBelow, begun-can-add, begun-on, begun-past, same-parts}
 use Rattle.planner.proofs.begun_profile.Statement.{statement}
 use Rattle.planner.proofs.begun_profile.Tie as tie
 
 abbrev Inv-loop : tie.InvT-loop
-Inv-loop clock charges n profile₀ i₀ profile i = (i ≤ n) × Shows profile clock (loadsOf (begunBelow clock charges i))
+Inv-loop clock charges n steps₀ at₀ one₀ two₀ three₀ i₀ steps at one two three i =
+    (i ≤ n) × Shows (profileOf steps at one two three) clock (loadsOf (begunBelow clock charges i))
 
 abbrev μ-loop : tie.MeasureT-loop
-μ-loop clock charges n profile₀ i₀ profile i = n - i
+μ-loop clock charges n steps₀ at₀ one₀ two₀ three₀ i₀ steps at one two three i = n - i
 
 new-requires : tie.Need-new-requires Inv-loop μ-loop
 new-requires c κs = search needs
 
 loop-holds : tie.Need-loop-holds Inv-loop μ-loop
-loop-holds c = (omega arith, c .new .ensures)
+loop-holds c = (omega arith, c .before .before .before .before .new .ensures)
 
 mul-if1 : tie.Need-mul-if1 Inv-loop μ-loop
 mul-if1 c = omega arith
@@ -47,8 +48,8 @@ element-copy-out-add-3 c = omega arith
 
 add-requires : tie.Need-add-requires Inv-loop μ-loop
 add-requires c κs =
-    let l = c .before .before .before .before .before .before in
-    begun-can-add (l .before .before .pre) (l .loop .inv .1) (omega arith)
+    let l = c .before .before .before .before .before .before .before .before .before .before in
+    begun-can-add (l .before .before .before .before .before .before .pre) (l .loop .inv .1) (omega arith)
 
 add-i : tie.Need-add-i Inv-loop μ-loop
 add-i c = omega arith
@@ -60,14 +61,22 @@ loop-again : tie.Need-loop-again Inv-loop μ-loop
 loop-again c =
     let l = c .before .before .before in
     ⊎-elim
-    (λ w. (omega arith, begun-on (l .before .before .pre) (l .loop .inv .1) (omega arith) (w .0 .taken) (w .4 .ensures) (w .5)))
-    (λ w. (omega arith, begun-past (l .before .before .pre) (l .loop .inv .1) (omega arith) (w .0 .left) (w .1)))
+    (λ w. (
+      omega arith,
+      begun-on (l .before .before .before .before .before .before .pre) (l .loop .inv .1) (omega arith) (w .0 .taken) (w .8 .ensures)
+          (same-parts (w .9) (w .10) (w .11) (w .12) (w .13)),
+    ))
+    (λ w. (
+      omega arith,
+      begun-past (l .before .before .before .before .before .before .pre) (l .loop .inv .1) (omega arith) (w .0 .left)
+          (same-parts (w .1) (w .2) (w .3) (w .4) (w .5)),
+    ))
     (c .if1 .came)
 
 returns : tie.Need-returns Inv-loop μ-loop
 returns c =
     let l = c .before in
-    let e : l .loop .i ≡ l .before .before .args .t1 .held = omega arith in
+    let e : l .loop .i ≡ l .before .before .before .before .before .before .args .t1 .held = omega arith in
     rw (← e) (l .loop .inv .1)
 
 pub begun-profile-spec : {M : Type 1} → statement M

@@ -7,7 +7,7 @@ earliest-under-requires : tie.Need-earliest-under-requires
 earliest-under-requires c κs = search needs
 
 returns : tie.Need-returns
-returns c = starts-under (c .before .before .if1 .taken) (c .earliest-under .ensures)
+returns c = starts-under (c .before .if1 .taken) (c .earliest-under .ensures)
 
 earliest-requires : tie.Need-earliest-requires
 earliest-requires c κs = search needs
