@@ -8,22 +8,19 @@ use borrow.Author.Tests.{ltb-false}
 use lib.Dec.{ltb}
 use lib.ListN.{length, take, drop, replicate, length-replicate}
 use lib.Seq.{take-at}
-use Rattle.rules.specs.Charge.{Charge}
 use Rattle.rules.specs.Basics.{keep, sortedBy}
 use Rattle.rules.specs.Calls.{State, Answer, refused, opened, ordered, moved, planned, waiting, charging, move, Result, step, moving, reported, isPassed, startBefore}
-use Rattle.rules.proofs.Lists.{length-tabulate, length-keep}
+use Rattle.rules.proofs.Lists.{length-keep}
 use Rattle.charges.proofs.Sorting.{length-sorted}
-use Rattle.charges.specs.Arrays.{chargeAt}
 use Rattle.protocol.specs.Answers.{Printed, answerLine}
 use Rattle.station.specs.declared.Station.{Station}
 use Rattle.station.specs.View.{view, Valid}
-use Rattle.station.specs.Answers.{Gives, moveAnswer}
+use Rattle.station.specs.Answers.{Gives, moveAnswer, planAnswer}
 use Rattle.station.specs.declared.clock.MoveAnswer.{MoveAnswer}
 use Rattle.station.specs.declared.clock.MoveAnswer.the-variants.{Moved}
 use Rattle.protocol.specs.Lines.{readLine, meaning, lentList}
 use Rattle.protocol.specs.declared.request.Line.{Line}
 use Rattle.console.specs.Reply.{told, reply, Replied}
-use Rattle.station.specs.Answers.{planAnswer}
 use Rattle.station.specs.declared.plan.PlanAnswer.{PlanAnswer}
 use Rattle.station.specs.declared.plan.PlanAnswer.the-variants.{Planned, Refused}
 
@@ -42,9 +39,6 @@ pub plan-line : (a : PlanAnswer) (list : List ℕ) → answerLine (planAnswer a)
 unfolding answerLine
 plan-line (Planned cause before after rounds) list = refl
 plan-line (Refused number) list = refl
-
-pub few-held : (s : Station) → Valid s → length (view s .charges) ≤ 180
-few-held s v = omega (arith, length-tabulate (chargeAt (s .charges)) (s .charges .held) 0, v .columns .few)
 
 countOf : Answer → ℕ
 countOf (refused k) = 0
@@ -105,5 +99,5 @@ pub moved-few :
     → (r ≤ 180) × (2 * r ≤ lent)
 moved-few s target lent places r x v e g q =
     let f : (r ≤ 180) × (360 ≤ length (lentList places)) =
-    few-reported (view s) target (lentList places) r x (few-held s v) (sym (ap (λ (y : Result). y .answer) (g .result)) ∙ ap moveAnswer q) in
+    few-reported (view s) target (lentList places) r x (v .state .few) (sym (ap (λ (y : Result). y .answer) (g .result)) ∙ ap moveAnswer q) in
     (f .0, omega (arith, f .0, f .1, e, length-replicate {A = ℕ} (min places 4096) 4294967295))

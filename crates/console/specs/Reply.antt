@@ -2,7 +2,7 @@
 use Prim.Native.Nat.{ℕ}
 use mathlib.Core.Path.{_≡_}
 use mathlib.Core.List.{List, []}
-use Rattle.rules.specs.Calls.{State, Result, step}
+use Rattle.rules.specs.Calls.{State, Result}
 use Rattle.rules.specs.Calls as calls
 use Rattle.protocol.specs.Lines.{Request, nothing, opening, call, error}
 use Rattle.protocol.specs.Answers.{Printed, answerLine, errorLine}
@@ -21,7 +21,7 @@ told r = record { state = r .state; text = answerLine (r .answer) (r .list) }
 abbrev pub reply : State → Request → Told
 reply s nothing = record { state = s; text = [] }
 reply s (opening n c) = told (calls.opening n c)
-reply s (call c) = told (step s c)
+reply s (call c) = told (calls.step s c)
 reply s (error reason) = record { state = s; text = errorLine reason }
 
 -- A line was answered so: this station, which is valid, and this text at its place.
