@@ -11,21 +11,13 @@ use Rattle.rules.specs.Charge.{Charge, endOf, isBegun, isFinished, unfinishedCh
 use Rattle.rules.specs.Calls.{State, told, refused, waiting, charging, enquire, enquiring, step}
 use Rattle.rules.specs.Valid.{Rising}
 use Rattle.rules.proofs.Ranges.{or-left, or-right}
-use Rattle.rules.proofs.Lists.{each-map}
+use Rattle.rules.proofs.Validity.{rising-from}
 use Rattle.guarantee.specs.Past.{Order, Report, timesReported, reportedStart}
 use Rattle.guarantee.proofs.Each.{each-two}
 use Rattle.guarantee.proofs.History.{Fit, ordersOf}
 use Rattle.guarantee.proofs.Reports.{Worth, sumReports, sumBegun}
 
 -- Rising tickets
-
-rising-from : (i : ℕ) (cs : List Charge) → Rising i cs → Each (λ c. i ≤ c .ticket) cs
-rising-from i [] r = tt
-rising-from i (c ∷ cs) r = (
-  r .0,
-  each-map (λ d. suc (c .ticket) ≤ d .ticket) (λ d. i ≤ d .ticket) (λ d h. omega (arith, r .0)) cs
-      (rising-from (suc (c .ticket)) cs (r .1)),
-)
 
 -- What is reported of a ticket
 

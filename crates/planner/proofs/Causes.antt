@@ -16,10 +16,6 @@ use Rattle.rules.proofs.Ranges.{fails, below-or-not, throughout-at, throughout-
 
 -- Ends
 
-pub last-until-end : (cs : List Charge) → lastUntil (loadsOf cs) ≡ lastEnd cs
-last-until-end [] = refl
-last-until-end (c ∷ cs) = rw (last-until-end cs)
-
 pub end-below-last : (f : ℕ → Charge) (k a i : ℕ) → a ≤ i → i < a + k → endOf (f i) ≤ lastEnd (tabulate f k a)
 end-below-last f zero a i h j = absurd (omega arith)
 end-below-last f (suc k) a i h j = go (below-or-not a i) (λ l. end-below-last f k (suc a) i l (omega arith))

@@ -17,7 +17,8 @@ use Rattle.charges.proofs.Walking.{keep-hit, keep-miss, keep-length}
 use Rattle.profile.specs.declared.Profile.{Profile}
 use Rattle.profile.specs.Shows.{profileOf, Shows, Added, CanAdd}
 use Rattle.profile.proofs.Adds.{can-add}
-use Rattle.planner.proofs.Causes.{last-below, last-until-end}
+use Rattle.rules.proofs.Validity.{last-until}
+use Rattle.planner.proofs.Causes.{last-below}
 
 pub length-loads-of : (cs : List Charge) → length (loadsOf cs) ≡ length cs
 length-loads-of [] = refl
@@ -62,7 +63,7 @@ pub begun-end-most : {c : Charges} → Listed c → (clock : ℕ) → lastUntil 
 begun-end-most {c} h clock =
     omega (
       arith,
-      last-until-end (begunCharges clock (chargesOf c)),
+      last-until (begunCharges clock (chargesOf c)),
       last-kept (isBegun clock) (chargesOf c),
       last-end-most h,
     )

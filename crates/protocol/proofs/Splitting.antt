@@ -13,7 +13,7 @@ use lib.ListN.{length, take, drop, getD, drop-of-length-le}
 use lib.Seq.{slice, length-slice, take-take, drop-drop, drop-cons}
 use Rattle.bytes.specs.Bytes.{indexOf, indexAfter}
 use Rattle.protocol.specs.Words.{joined, split, partsAfter, PartEnd, sameText}
-use Rattle.protocol.proofs.Values.{below-or-not}
+use Rattle.rules.proofs.Ranges.{below-or-not}
 
 -- the parts of a text: the first one up to the first separator, and those after it
 pub first-part :

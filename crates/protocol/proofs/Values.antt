@@ -11,15 +11,10 @@ use borrow.Author.Tests.{lt-ltb, le-ltb, le-leb, lt-leb}
 use lib.Dec.{ltb}
 use lib.ListN.{length, getD, length-append}
 use lib.Seq.{slice, slice-cons, slice-empty}
+use Rattle.rules.proofs.Ranges.{below-or-not}
 use Rattle.protocol.specs.Numbers.{valueFrom, numberOf, digitsWithin, decimal}
 use Rattle.protocol.specs.declared.number.Reason.the-variants.{NotANumber, NumberTooLarge}
 use Rattle.protocol.specs.declared.number.Number.the-variants.{Value, Wrong}
-
-pub below-or-not : (a b : ℕ) → (a < b) ⊎ (b ≤ a)
-below-or-not zero zero = inr zero-le
-below-or-not zero (suc b) = inl (suc-le-suc zero-le)
-below-or-not (suc a) zero = inr zero-le
-below-or-not (suc a) (suc b) = ⊎-elim (λ h. inl (suc-le-suc h)) (λ h. inr (suc-le-suc h)) (below-or-not a b)
 
 -- past 32 bits the digits so far no longer matter
 too-large-stays :

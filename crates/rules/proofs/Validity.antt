@@ -28,6 +28,14 @@ rising-down : (i j : ℕ) (cs : List Charge) → i ≤ j → Rising j cs → Ris
 rising-down i j [] h r = tt
 rising-down i j (c ∷ cs) h r = (omega (arith, r .0), r .1)
 
+pub rising-from : (i : ℕ) (cs : List Charge) → Rising i cs → Each (λ c. i ≤ c .ticket) cs
+rising-from i [] r = tt
+rising-from i (c ∷ cs) r = (
+  r .0,
+  each-map (λ d. suc (c .ticket) ≤ d .ticket) (λ d. i ≤ d .ticket) (λ d h. omega (arith, r .0)) cs
+      (rising-from (suc (c .ticket)) cs (r .1)),
+)
+
 pub rising-keep : (i : ℕ) (f : Charge → Bool) (cs : List Charge) → Rising i cs → Rising i (keep f cs)
 rising-keep i f [] r = tt
 rising-keep i f (c ∷ cs) r = go (f c) (rising-keep (suc (c .ticket)) f cs (r .1))

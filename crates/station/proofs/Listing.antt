@@ -8,20 +8,12 @@ use Rattle.rules.specs.Basics.{Each, tabulate}
 use Rattle.rules.specs.Charge.{Charge, endOf, lastEnd}
 use Rattle.rules.specs.Valid.{ValidCharge, Rising}
 use Rattle.rules.proofs.Ranges.{below-or-not}
-use Rattle.rules.proofs.Lists.{each-map, tabulate-each}
-use Rattle.rules.proofs.Validity.{each-lastEnd}
+use Rattle.rules.proofs.Lists.{tabulate-each}
+use Rattle.rules.proofs.Validity.{rising-from, each-lastEnd}
 use Rattle.charges.specs.Arrays.{chargeAt, chargesOf}
 use Rattle.charges.specs.Held.{Small, Listed}
 use Rattle.station.specs.declared.Station.{Station}
 use Rattle.station.specs.View.{Valid}
-
-rising-from : (i : ℕ) (cs : List Charge) → Rising i cs → Each (λ c. i ≤ c .ticket) cs
-rising-from i [] r = tt
-rising-from i (c ∷ cs) r = (
-  r .0,
-  each-map (λ d. suc (c .ticket) ≤ d .ticket) (λ d. i ≤ d .ticket) (λ d h. omega (arith, r .0)) cs
-      (rising-from (suc (c .ticket)) cs (r .1)),
-)
 
 -- tickets that rise along a list rise from place to place
 rising-places :

@@ -6,6 +6,7 @@ use mathlib.Core.List.{List, [], _∷_}
 use native.Mathlib.Omega.{arith}
 use lib.Dec.{ltb, eqb}
 use lib.ListN.{length, take}
+use lib.Seq.{take-length}
 use borrow.Author.Tests.{eq-eqb, ne-eqb, lt-ltb, le-ltb}
 use Rattle.rules.specs.Basics.{firstOf}
 use Rattle.rules.specs.Load.{limits}
@@ -44,12 +45,6 @@ valid-ready s v =
             product-most (s .limit) (s .percent) (v .state .limit-high) (v .state .percent-high),
           );
     }
-
-pub take-all : (ss : List ℕ) (n : ℕ) → length ss ≡ n → take n ss ≡ ss
-take-all [] zero e = refl
-take-all [] (suc n) e = refl
-take-all (s ∷ ss) zero e = absurd (omega arith)
-take-all (s ∷ ss) (suc n) e = ap (λ l. s ∷ l) (take-all ss n (omega arith))
 
 -- The test
 
@@ -124,7 +119,7 @@ module _ (s : Station) (ss : List ℕ) (count : ℕ) (counted : count ≡ waitin
   unfolding offering
   offer-tested a next h e =
       e
-      ∙ ap (λ (l : List ℕ). tested (view s) 0 (starts l) ss) (take-all ss count h)
+      ∙ ap (λ (l : List ℕ). tested (view s) 0 (starts l) ss) (ap (λ (n : ℕ). take n ss) (sym h) ∙ take-length ss)
       ∙ sym
       (call-granted s (offer ss) 0
       (rw (eq-eqb (length ss) (waitingCount (s .clock) (s .charges)) (h ∙ counted)))
