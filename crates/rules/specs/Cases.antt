@@ -7,7 +7,7 @@ use Rattle.rules.specs.Charge.{Charge, waitingCharges}
 use Rattle.rules.specs.Search.{earliest, earliestUnder, firstUnbalanced}
 use Rattle.rules.specs.Replan.{byLatestStart, placeAll, latest, round, roundsFrom, byLines}
 use Rattle.rules.specs.Judgement.{judged}
-use Rattle.rules.specs.Calls.{State, opening, run, ordering, moving, offering, replanningLatest, replanningLines, enquiring}
+use Rattle.rules.specs.Calls.{State, refused, ordered, opening, order, run, ordering, moving, offering, replanningLatest, replanningLines, enquiring}
 use Rattle.rules.specs.Entry.{Case, computed, stateAfter}
 use Rattle.rules.specs.CasesAToL.{callsG, casesAToL}
 use Rattle.rules.specs.CasesAtEdges.{casesAtEdges}
@@ -27,3 +27,12 @@ stateG = let fresh : State = opening 2 50 .state in stateAfter fresh (run fresh 
 pub ticket-7-first : map (λ c. c .ticket) (byLatestStart (waitingCharges (stateG .clock) (stateG .charges))) ≡ 7 ∷ 5 ∷ []
 unfolding limited balanced sound earliest opening ordering moving
 ticket-7-first = refl
+
+-- "65,535 tickets given" would take as many orders to compute, so the station that has one ticket left is written down
+abbrev lastTicket : State
+lastTicket = record { limit = 1; percent = 100; bound = 1; clock = 0; next = 65535; charges = [] }
+
+pub last-ticket-given :
+    map (λ r. r .answer) (run lastTicket (order 1 1 60 ∷ order 1 1 60 ∷ [])) ≡ ordered 65535 0 ∷ refused 14 ∷ []
+unfolding limited balanced sound earliest ordering
+last-ticket-given = refl
