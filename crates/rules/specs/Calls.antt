@@ -6,7 +6,7 @@ use lib.Dec.{ltb, leb, eqb}
 use lib.ListN.{length, drop}
 use Rattle.rules.specs.Basics.{Found, at, nothing, firstOf, keep, some, sortedBy}
 use Rattle.rules.specs.Load.{Limits, limits}
-use Rattle.rules.specs.Charge.{Charge, endOf, activeFor, starting, loadsOf, isBegun, waitingCharges, unfinishedCharges, thenTicket, lateness}
+use Rattle.rules.specs.Charge.{Charge, endOf, activeFor, loadsOf, isBegun, waitingCharges, unfinishedCharges, thenTicket, lateness}
 use Rattle.rules.specs.Search.{earliest}
 use Rattle.rules.specs.Replan.{Proposal, starts, none, latest, Replanned, byLines}
 use Rattle.rules.specs.Judgement.{restarted, judged}

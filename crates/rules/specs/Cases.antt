@@ -1,9 +1,8 @@
 -- Cases a to l of document 01, and those of our own, as one theorem over one array: the checker computes every answer.
 use mathlib.Core.Path.{_≡_, refl}
-use Prim.Native.Nat.{ℕ}
 use mathlib.Core.List.{List, [], _∷_, _++_, map}
 use Rattle.rules.specs.Load.{limited, balanced, sound}
-use Rattle.rules.specs.Charge.{Charge, waitingCharges}
+use Rattle.rules.specs.Charge.{waitingCharges}
 use Rattle.rules.specs.Search.{earliest, earliestUnder, firstUnbalanced}
 use Rattle.rules.specs.Replan.{byLatestStart, placeAll, latest, round, roundsFrom, byLines}
 use Rattle.rules.specs.Judgement.{judged}

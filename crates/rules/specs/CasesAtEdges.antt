@@ -4,7 +4,7 @@ use Prim.Native.Nat.{ℕ, zero, suc}
 use mathlib.Core.List.{List, [], _∷_, _++_, map}
 use lib.ListN.{replicate}
 use Rattle.rules.specs.Calls.{Answer, refused, ordered, moved, planned, waiting, charging, Call, order, move, offer, replanLatest, replanLines, enquire}
-use Rattle.rules.specs.Entry.{Given, gives, givesWith, Case, lentList, startsFrom, reports, opens, case}
+use Rattle.rules.specs.Entry.{gives, givesWith, Case, lentList, startsFrom, reports, opens, case}
 use Rattle.rules.specs.CasesAToL.{ordersH, givenH}
 
 -- Three orders on one line, a replan, and the starts of the three afterwards.
