@@ -22,7 +22,8 @@ use Rattle.rules.proofs.Counts.{sound-from, sound-true}
 use Rattle.rules.proofs.Tables.{firstOf-none, none-firstOf}
 use Rattle.rules.proofs.Searches.{earliest-first}
 use Rattle.rules.proofs.Judgements.{Meets, judged-meets, meets-judged}
-use Rattle.rules.proofs.Validity.{Restarted, restarted-is, restarted-each, order-found}
+use Rattle.rules.proofs.Restarts.{Restarted, restarted-is, restarted-each}
+use Rattle.rules.proofs.Validity.{order-found}
 use Rattle.guarantee.specs.DemandOne.{NoneApplies}
 use Rattle.guarantee.specs.DemandTwo.{SoundPlan, Unbroken, Better, Taken, GivenStarts, causeOf, Tested, OrderStart, DemandTwo}
 use Rattle.guarantee.specs.Demands.{reached}

@@ -18,7 +18,9 @@ use Rattle.rules.proofs.Ranges.{below-or-not}
 use Rattle.rules.proofs.Lists.{map-append, each-map, each-append}
 use Rattle.rules.proofs.Counts.{Sound, sound-same, sound-from, count-append, draws-before}
 use Rattle.rules.proofs.Judgements.{Meets}
-use Rattle.rules.proofs.Validity.{last-until, rising-append, restarted-rising, Restarted, restarted-is, restarted-each, count-unfinished}
+use Rattle.rules.proofs.Tickets.{rising-append}
+use Rattle.rules.proofs.Ends.{last-until, count-unfinished}
+use Rattle.rules.proofs.Restarts.{restarted-rising, Restarted, restarted-is, restarted-each}
 use Rattle.guarantee.specs.Past.{Order, Report, firstPairs, Numbered, totalTime, lastMinute}
 use Rattle.guarantee.proofs.Each.{each-two}
 use Rattle.guarantee.proofs.History.{orderOf, ordersOf, Fit, lastEnd-keep, unfinished-lastEnd, restarted-unfinished, restarted-orders, restarted-count}

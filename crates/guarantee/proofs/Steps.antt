@@ -21,7 +21,7 @@ use Rattle.rules.proofs.Lists.{keep-append}
 use Rattle.rules.proofs.Searches.{earliest-first}
 use Rattle.rules.proofs.Tables.{NoneHolds, firstOf-none}
 use Rattle.rules.proofs.Judgements.{judged-meets}
-use Rattle.rules.proofs.Validity.{Restarted, empty, same, other}
+use Rattle.rules.proofs.Restarts.{Restarted, empty, same, other}
 use Rattle.guarantee.specs.Past.{Order, Report, nothingNew, learnt, Past, extended, after}
 use Rattle.guarantee.proofs.Tables.{ascending-numbered, refusals-ascend}
 use Rattle.guarantee.proofs.History.{orderOf, unfinished-later}

@@ -11,7 +11,7 @@ use Rattle.rules.specs.Charge.{Charge, endOf, isBegun, isFinished, unfinishedCh
 use Rattle.rules.specs.Calls.{State, told, refused, waiting, charging, enquire, enquiring, step}
 use Rattle.rules.specs.Valid.{Rising}
 use Rattle.rules.proofs.Ranges.{or-left, or-right}
-use Rattle.rules.proofs.Validity.{rising-from}
+use Rattle.rules.proofs.Tickets.{rising-from}
 use Rattle.guarantee.specs.Past.{Order, Report, timesReported, reportedStart}
 use Rattle.guarantee.proofs.Each.{each-two}
 use Rattle.guarantee.proofs.History.{Fit, ordersOf}

@@ -17,7 +17,7 @@ use Rattle.charges.proofs.Walking.{keep-hit, keep-miss, keep-length}
 use Rattle.profile.specs.declared.Profile.{Profile}
 use Rattle.profile.specs.Shows.{profileOf, Shows, Added, CanAdd}
 use Rattle.profile.proofs.Adds.{can-add}
-use Rattle.rules.proofs.Validity.{last-until}
+use Rattle.rules.proofs.Ends.{last-until}
 use Rattle.planner.proofs.Causes.{last-below}
 
 pub length-loads-of : (cs : List Charge) → length (loadsOf cs) ≡ length cs

@@ -4,6 +4,14 @@ pub mod Counts
 pub mod Searches
 pub mod Sorting
 pub mod Tables
+pub mod Granted
 pub mod Judgements
 pub mod Rounds
+pub mod Tickets
+pub mod ThenTicket
+pub mod Queues
+pub mod Reporting
+pub mod Ends
+pub mod Changes
+pub mod Restarts
 pub mod Validity

@@ -1,16 +1,16 @@
 -- The searches find the smallest start, and find one wherever there is one; the bounds of the definitions miss nothing.
 use mathlib.Core.Logic.{_⊎_, inl, inr}
-use mathlib.Core.Path.{_≡_, refl, sym, _∙_}
-use Prim.Native.Nat.{ℕ, zero, suc, _+_, _-_, max, _≤_, _<_}
+use mathlib.Core.Path.{_≡_, sym, _∙_}
+use Prim.Native.Nat.{ℕ, suc, _+_, _-_, max, _≤_, _<_}
 use mathlib.Core.Bool.{Bool, true, false, not, true≢false}
-use mathlib.Core.List.{List, [], _∷_, _++_}
+use mathlib.Core.List.{List, [], _∷_}
 use native.Mathlib.Omega.{arith}
 use lib.Dec.{leb}
-use borrow.Author.Tests.{le-leb, leb-true, not-true, not-false}
-use Rattle.rules.specs.Basics.{throughout, Found, at, nothing, first}
-use Rattle.rules.specs.Load.{Load, loadFrom, share, draws, count, counts, lastUntil, Limits, IsLine, balanceAt, sound}
+use borrow.Author.Tests.{le-leb, leb-true, not-false}
+use Rattle.rules.specs.Basics.{throughout, at, nothing}
+use Rattle.rules.specs.Load.{Load, loadFrom, draws, count, counts, lastUntil, Limits, balanceAt, sound}
 use Rattle.rules.specs.Search.{added, earliest, Caps, earliestUnder, firstUnbalanced}
-use Rattle.rules.proofs.Ranges.{holds, fails, below-or-not, throughout-all, throughout-at, IsFirst, first-found, first-none, found-or-not}
+use Rattle.rules.proofs.Ranges.{fails, below-or-not, throughout-all, throughout-at, IsFirst, first-found, first-none, found-or-not}
 use Rattle.rules.proofs.Counts.{share-own, draws-before, draws-in, draws-most, count-append, count-past, Sound, sound-same, sound-few, sound-from, sound-true, balance-past, Balanced, balanced-at}
 
 -- One more load

@@ -6,10 +6,14 @@ use lib.Dec.{ltb, leb, eqb}
 use lib.ListN.{length, drop}
 use Rattle.rules.specs.Basics.{Found, at, nothing, firstOf, keep, some, sortedBy}
 use Rattle.rules.specs.Load.{Limits, limits}
-use Rattle.rules.specs.Charge.{Charge, endOf, activeFor, starting, loadsOf, isBegun, waitingCharges, unfinishedCharges, thenTicket, lateness}
+use Rattle.rules.specs.Charge.{Charge, endOf, activeFor, loadsOf, isBegun, waitingCharges, unfinishedCharges, thenTicket, lateness}
 use Rattle.rules.specs.Search.{earliest}
 use Rattle.rules.specs.Replan.{Proposal, starts, none, latest, Replanned, byLines}
 use Rattle.rules.specs.Judgement.{restarted, judged}
+
+-- "has 180 places from the moment it is opened"
+abbrev pub places : ℕ
+places = 180
 
 -- "A station holds a limit N, a percentage c, a bound D, a clock, the next ticket and up to 180 charges."
 -- The charges stand in ticket order.
@@ -117,7 +121,7 @@ refusals s (order line p d) =
     -- "d below clock + p"
     ∷ (ltb d (s .clock + p), 7)
     -- "180 charges held"
-    ∷ (leb 180 (length (s .charges)), 13)
+    ∷ (leb places (length (s .charges)), 13)
     -- "65,535 tickets given"
     ∷ (ltb 65535 (s .next), 14)
     ∷ []
@@ -125,7 +129,7 @@ refusals s (move target list) =
     -- "target above 1,000,000"
     (ltb 1000000 target, 8)
     -- "report list under 360 places"
-    ∷ (ltb (length list) 360, 9)
+    ∷ (ltb (length list) (2 * places), 9)
     -- "target below the clock"
     ∷ (ltb target (s .clock), 12)
     ∷ []

@@ -6,4 +6,7 @@ pub mod Replan
 pub mod Judgement
 pub mod Calls
 pub mod Valid
+pub mod Entry
+pub mod CasesAToL
+pub mod CasesAtEdges
 pub mod Cases

@@ -1,5 +1,5 @@
 -- Loads, the count of a line in a minute, and soundness (document 01, "The yard and its words").
-use Prim.Native.Nat.{ℕ, zero, suc, _+_, _-_, max, _≤_}
+use Prim.Native.Nat.{ℕ, _+_, _-_, max, _≤_}
 use mathlib.Core.Bool.{Bool, cond, _&&_}
 use mathlib.Core.List.{List, [], _∷_}
 use lib.Dec.{ltb, leb, eqb}

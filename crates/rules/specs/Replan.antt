@@ -4,7 +4,7 @@ use mathlib.Core.Bool.{Bool, cond, _&&_}
 use mathlib.Core.List.{List, [], _∷_, _++_, map}
 use lib.Dec.{leb, eqb}
 use Rattle.rules.specs.Basics.{Found, at, nothing, keep, some, sortedBy}
-use Rattle.rules.specs.Load.{Load, active, counts, Limits, onLines}
+use Rattle.rules.specs.Load.{active, counts, Limits, onLines}
 use Rattle.rules.specs.Charge.{Charge, starting, activeFor, loadOf, loadsOf, begunCharges, waitingCharges, thenTicket}
 use Rattle.rules.specs.Search.{earliest, Caps, earliestUnder, firstUnbalanced}
 

@@ -15,7 +15,7 @@ use Rattle.rules.specs.Calls.{refused, ordered, limitsOf, refusals, newCharge, 
 use Rattle.rules.proofs.Ranges.{or-right}
 use Rattle.rules.proofs.Lists.{length-tabulate, map-tabulate}
 use Rattle.rules.proofs.Tables.{NoneHolds, firstOf-none}
-use Rattle.rules.proofs.Validity.{last-until}
+use Rattle.rules.proofs.Ends.{last-until}
 use Rattle.charges.specs.declared.Charges.{Charges}
 use Rattle.charges.specs.Arrays.{charge, chargeAt, chargesOf, Holds}
 use Rattle.profile.specs.declared.Profile.{Profile}
