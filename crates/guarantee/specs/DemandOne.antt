@@ -7,7 +7,7 @@ use mathlib.Core.List.{List, []}
 use lib.Dec.{eqb}
 use Rattle.rules.specs.Basics.{Each, some}
 use Rattle.rules.specs.Calls.{State, Answer, refused, opened, ordered, moved, planned, waiting, charging, Result, boundOf, fresh, openRefusals, opening, Call, order, move, offer, replanLatest, replanLines, enquire, lent, refusals}
-use Rattle.guarantee.specs.Past.{isRefused}
+use Rattle.guarantee.specs.Past.{Gives, isRefused}
 
 -- "Where several apply, the lowest number": the condition with number k holds, and none with a lower number
 pub record Lowest (rows : List (Bool × ℕ)) (k : ℕ) : Type 0 where
@@ -35,7 +35,7 @@ AnswerTo (replanLines allowance) a = (i : ℕ) × (b : ℕ) × (c : ℕ) × (n :
 AnswerTo (enquire ticket) a = ((s : ℕ) × (a ≡ waiting s)) ⊎ ((s : ℕ) × (e : ℕ) × (a ≡ charging s e))
 
 -- a call to a station that stands: refusals 4 to 15; `gives` is what a call to a station gives
-pub record DemandOne (gives : State → Call → Result) (s : State) (call : Call) : Type 0 where
+pub record DemandOne (gives : Gives) (s : State) (call : Call) : Type 0 where
   pub refused-by : RefusedBy (refusals s call) s (lent call) (gives s call)
   -- "No other call is refused, and every call returns."
   pub answered : NoneApplies (refusals s call) → AnswerTo call (gives s call .answer)

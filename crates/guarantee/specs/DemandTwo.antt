@@ -11,6 +11,7 @@ use Rattle.rules.specs.Search.{added}
 use Rattle.rules.specs.Replan.{Proposal, starts, none, latest, byLines}
 use Rattle.rules.specs.Judgement.{restarted, judged}
 use Rattle.rules.specs.Calls.{State, limitsOf, holding, Answer, ordered, planned, Result, Call, order, offer, replanLatest, replanLines, lent, refusals, newCharge, taking}
+use Rattle.guarantee.specs.Past.{Gives}
 use Rattle.guarantee.specs.DemandOne.{NoneApplies}
 
 -- Constraints III and IV in every minute from the clock on, with the lines as parameters.
@@ -82,7 +83,7 @@ pub record OrderStart (s : State) (line p d : ℕ) (r : Result) : Type 0 where
   pub others-same : r .state ≡ taking s (newCharge s line p d start)
 
 -- `gives` is what a call to a station gives
-pub record DemandTwo (gives : State → Call → Result) (s : State) : Type 0 where
+pub record DemandTwo (gives : Gives) (s : State) : Type 0 where
   pub orders :
       (line p d : ℕ)
       → NoneApplies (refusals s (order line p d))
