@@ -1,7 +1,6 @@
 -- The demands are false of the wrong stations of specs/Wrong.antt, each on a list of calls.
 use mathlib.Core.Path.{_≡_, refl}
 use Prim.Native.Nat.{ℕ, _≤_}
-use mathlib.Core.Bool.{true, false}
 use mathlib.Core.List.{List, [], _∷_}
 use native.Mathlib.Omega.{arith}
 use lib.ListN.{replicate}
@@ -10,12 +9,13 @@ use Rattle.rules.specs.Charge.{loadsOf}
 use Rattle.rules.specs.Search.{added, earliest, earliestUnder, firstUnbalanced}
 use Rattle.rules.specs.Replan.{placeAll, latest, round, roundsFrom, byLines}
 use Rattle.rules.specs.Judgement.{judged}
-use Rattle.rules.specs.Calls.{State, enquire, refused, ordered, planned, waiting, charging, Call, order, move, offer, replanLatest, replanLines, opening, ordering, moving, replanningLatest, enquiring, step}
+use Rattle.rules.specs.Calls.{State, enquire, refused, ordered, planned, waiting, charging, Call, order, move, offer, replanLatest, replanLines, refusals, opening, ordering, moving, replanningLatest, enquiring, step}
 use Rattle.guarantee.specs.DemandOne.{DemandOne}
 use Rattle.guarantee.specs.DemandTwo.{OrderStart, DemandTwo}
 use Rattle.guarantee.specs.DemandThree.{DemandThree}
 use Rattle.guarantee.specs.Demands.{reached}
 use Rattle.guarantee.specs.Wrong.{given, withOrders, ownLineOnly, fixedStart, queued, alwaysFull, droppedEarly, startAtClockLeftOut, firstReportOnly, endsLater, begunMoved, alwaysKept, spentAfterNone, roundsInvented}
+use Rattle.guarantee.proofs.Tables.{is-firstOf}
 use Rattle.guarantee.proofs.DemandTwo.{plan-sound}
 
 -- with nothing put in their place, the parts are the rules: a wrong station differs in its one part only
@@ -141,6 +141,6 @@ queued-order d =
 always-full : DemandOne (given alwaysFull) (opening 1 100 .state) (order 1 10 60) → ⊥
 unfolding opening
 always-full d =
-    let h : false ≡ true = d .refused-by .number 13 .0 refl .applies in
-    let z : _≡_ {A = ℕ} 0 1 = cc in
+    let h : _≡_ {A = ℕ} 0 13
+    = is-firstOf 13 (refusals (opening 1 100 .state) (order 1 10 60)) (d .refused-by .number 13 .0 refl) in
     omega arith

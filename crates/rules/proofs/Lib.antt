@@ -4,6 +4,7 @@ pub mod Counts
 pub mod Searches
 pub mod Sorting
 pub mod Tables
+pub mod Granted
 pub mod Judgements
 pub mod Rounds
 pub mod Validity

@@ -1,24 +1,23 @@
 -- An opening gives a valid station, every call leaves one, and an order on one always gets a start.
-use mathlib.Core.Path.{_≡_, refl, sym, _∙_}
+use mathlib.Core.Path.{_≡_, refl}
 use Prim.Native.Nat.{ℕ, zero, suc, _+_, _-_, _*_, max, _≤_, _<_}
-use mathlib.Core.Bool.{Bool, true, false, cond, not, _||_}
-use mathlib.Core.List.{List, [], _∷_, _++_, map}
+use mathlib.Core.Bool.{Bool, true, false, cond, not}
+use mathlib.Core.List.{List, [], _∷_, _++_}
 use native.Mathlib.Omega.{arith}
-use lib.Dec.{ltb, leb}
 use lib.ListN.{length, length-append}
 use borrow.Author.Tests.{ltb-false, leb-false, leb-true, not-true}
 use Rattle.rules.specs.Basics.{Each, Found, at, nothing, firstOf, keep}
 use Rattle.rules.specs.Load.{count, counts, draws, lastUntil, sound}
 use Rattle.rules.specs.Charge.{Charge, starting, endOf, loadOf, loadsOf, isBegun, isFinished, unfinishedCharges, lastEnd}
-use Rattle.rules.specs.Search.{added, earliest}
-use Rattle.rules.specs.Replan.{Proposal, starts, none, latest, Replanned, byLines}
+use Rattle.rules.specs.Search.{earliest}
+use Rattle.rules.specs.Replan.{Proposal, starts, none, latest, byLines}
 use Rattle.rules.specs.Judgement.{restarted, judged}
 use Rattle.rules.specs.Calls.{State, limitsOf, holding, Result, answering, opened, fresh, boundOf, openRefusals, opening, Call, order, move, offer, replanLatest, replanLines, enquire, refusals, newCharge, taking, orderedAt, ordering, moving, decided, tested, offering, replanningLatest, replanningLines, enquiring, step}
 use Rattle.rules.specs.Valid.{ValidCharge, Rising, ValidState}
-use Rattle.rules.proofs.Ranges.{or-left, or-right, IsFirst}
 use Rattle.rules.proofs.Lists.{map-append, each-map, each-append, each-keep, length-keep}
-use Rattle.rules.proofs.Tables.{NoneHolds, firstOf-none}
-use Rattle.rules.proofs.Counts.{draws-after, Sound, sound-same, sound-from, sound-true}
+use Rattle.rules.proofs.Tables.{firstOf-none}
+use Rattle.rules.proofs.Granted.{refusals-none, openRefusals-numbered, OpenGranted, open-granted, OrderGranted, order-granted, MoveGranted, move-granted}
+use Rattle.rules.proofs.Counts.{draws-after, sound-same, sound-from, sound-true}
 use Rattle.rules.proofs.Searches.{earliest-first, earliest-found}
 use Rattle.rules.proofs.Judgements.{Meets, judged-meets}
 
@@ -158,14 +157,14 @@ opening-valid n c = go (firstOf (openRefusals n c)) refl
         → ValidState
         (answering i (fresh 1 100) [] (record { answer = opened (boundOf n c); state = fresh n c; list = [] }) .state)
     go zero e =
-        let p : NoneHolds (openRefusals n c) = firstOf-none (openRefusals n c) (omega arith) e in
-        let enough : 100 ≤ c * n = ltb-false (c * n) 100 (p .1 .1 .0) in
+        let g : OpenGranted n c
+        = open-granted n c (firstOf-none (openRefusals n c) (openRefusals-numbered n c) e) in
         record {
-          limit-low = ltb-false n 1 (or-left (ltb n 1) (ltb 60 n) (p .0));
-          limit-high = ltb-false 60 n (or-right (ltb n 1) (ltb 60 n) (p .0));
-          percent-high = ltb-false 100 c (p .1 .0);
+          limit-low = g .limit-low;
+          limit-high = g .limit-high;
+          percent-high = g .percent-high;
           bound-is = refl;
-          bound-low = omega arith;
+          bound-low = omega (arith, g .bound-enough);
           clock-high = omega arith;
           next-low = omega arith;
           next-high = omega arith;
@@ -244,19 +243,12 @@ lastEnd-more (x ∷ cs) c = rw (lastEnd-more cs c) (omega arith)
 order-valid :
     (s : State) (line p d start : ℕ)
     → ValidState s
-    → NoneHolds (refusals s (order line p d))
+    → OrderGranted s line p d
     → earliest (limitsOf s) (s .clock) (loadsOf (s .charges)) line p ≡ at start
     → ValidState (taking s (newCharge s line p d start))
-order-valid s line p d start v q f =
+order-valid s line p d start v g f =
     let new : Charge = newCharge s line p d start in
     let r = earliest-first (limitsOf s) (s .clock) (loadsOf (s .charges)) line p start f in
-    let line-low : 1 ≤ line = ltb-false line 1 (or-left (ltb line 1) (ltb 3 line) (q .0)) in
-    let line-high : line ≤ 3 = ltb-false 3 line (or-right (ltb line 1) (ltb 3 line) (q .0)) in
-    let time-low : 1 ≤ p = ltb-false p 1 (or-left (ltb p 1) (ltb 1440 p) (q .1 .0)) in
-    let time-high : p ≤ 1440 = ltb-false 1440 p (or-right (ltb p 1) (ltb 1440 p) (q .1 .0)) in
-    let due-high : d ≤ 2000000 = ltb-false 2000000 d (q .1 .1 .0) in
-    let free : length (s .charges) < 180 = leb-false 180 (length (s .charges)) (q .1 .1 .1 .1 .0) in
-    let left : s .next ≤ 65535 = ltb-false 65535 (s .next) (q .1 .1 .1 .1 .1 .0) in
     let low : s .clock ≤ start = r .low in
     let high : start < s .clock + suc (lastUntil (loadsOf (s .charges)) - s .clock) = r .high in
     record {
@@ -267,8 +259,8 @@ order-valid s line p d start v q f =
       bound-low = v .bound-low;
       clock-high = v .clock-high;
       next-low = omega arith;
-      next-high = omega arith;
-      few = rw (length-append (s .charges) (new ∷ [])) (omega arith);
+      next-high = omega (arith, g .ticket-left);
+      few = rw (length-append (s .charges) (new ∷ [])) (omega (arith, g .room));
       each =
           each-append (ValidCharge (s .clock) (suc (s .next))) (s .charges) (new ∷ [])
           (each-map (ValidCharge (s .clock) (s .next)) (ValidCharge (s .clock) (suc (s .next)))
@@ -288,13 +280,13 @@ order-valid s line p d start v q f =
             record {
               ticket-low = v .next-low;
               ticket-given = omega arith;
-              line = record { low = line-low; high = line-high };
-              time-low = time-low;
-              time-high = time-high;
-              due-high = due-high;
+              line = g .is-line;
+              time-low = g .time-low;
+              time-high = g .time-high;
+              due-high = g .due-high;
               ordered = omega arith;
               not-early = low;
-              unfinished = omega arith;
+              unfinished = omega (arith, g .time-low);
             },
             tt,
           );
@@ -304,19 +296,18 @@ order-valid s line p d start v q f =
           (v .each));
       ends-high =
           rw (lastEnd-more (s .charges) new)
-          (omega (arith, v .ends-high, v .next-low, last-until (s .charges)));
+          (omega (arith, g .time-high, v .ends-high, v .next-low, last-until (s .charges)));
       sound-on = rw (map-append loadOf (s .charges) (new ∷ [])) (r .here);
     }
 
 -- A clock move
 
 move-valid :
-    (s : State) (target : ℕ)
+    (s : State) (target : ℕ) (list : List ℕ)
     → ValidState s
-    → s .clock ≤ target
-    → target ≤ 1000000
+    → MoveGranted s target list
     → ValidState (holding s target (unfinishedCharges target (s .charges)))
-move-valid s target v h j =
+move-valid s target list v g =
     let left : List Charge = unfinishedCharges target (s .charges) in
     record {
       limit-low = v .limit-low;
@@ -324,7 +315,7 @@ move-valid s target v h j =
       percent-high = v .percent-high;
       bound-is = v .bound-is;
       bound-low = v .bound-low;
-      clock-high = j;
+      clock-high = g .target-high;
       next-low = v .next-low;
       next-high = v .next-high;
       few = omega (arith, v .few, length-keep (λ c. not (isFinished target c)) (s .charges));
@@ -339,7 +330,7 @@ move-valid s target v h j =
             time-low = p .0 .time-low;
             time-high = p .0 .time-high;
             due-high = p .0 .due-high;
-            ordered = omega (arith, p .0 .ordered);
+            ordered = omega (arith, p .0 .ordered, g .not-back);
             not-early = p .0 .not-early;
             unfinished = leb-false (endOf c) target (not-true (isFinished target c) (p .1));
           })
@@ -350,7 +341,7 @@ move-valid s target v h j =
           lastEnd-each (target + 1440 * (s .next - 1)) left
           (each-map (λ c. (endOf c ≤ lastEnd (s .charges)) × (not (isFinished target c) ≡ true))
           (λ c. endOf c ≤ target + 1440 * (s .next - 1))
-          (λ c p. omega (arith, p .0, v .ends-high))
+          (λ c p. omega (arith, p .0, v .ends-high, g .not-back))
           left
           (each-keep (λ c. endOf c ≤ lastEnd (s .charges)) (λ c. not (isFinished target c)) (s .charges)
           (each-lastEnd (lastEnd (s .charges)) (s .charges) (omega arith))));
@@ -359,7 +350,7 @@ move-valid s target v h j =
           (λ t i.
           sound-same (limitsOf s) (counts (loadsOf (s .charges)) t) (counts (loadsOf left) t)
           (λ l k. count-unfinished target (s .charges) l t i)
-          (sound-from (limitsOf s) (s .clock) (loadsOf (s .charges)) (v .sound-on) t (omega arith)));
+          (sound-from (limitsOf s) (s .clock) (loadsOf (s .charges)) (v .sound-on) t (omega (arith, g .not-back))));
     }
 
 -- All calls
@@ -394,13 +385,12 @@ step-valid s (order line p d) v =
         → earliest (limitsOf s) (s .clock) (loadsOf (s .charges)) line p ≡ f
         → ValidState (orderedAt s (newCharge s line p d) f .state)
     go e (at start) f =
-        order-valid s line p d start v (firstOf-none (refusals s (order line p d)) (omega arith) e) f
+        order-valid s line p d start v (order-granted s line p d (refusals-none s (order line p d) e)) f
     go e nothing f = v
 step-valid s (move target list) v =
     answering-valid (firstOf (refusals s (move target list))) s list _ v
     (λ e.
-    let p : NoneHolds (refusals s (move target list)) = firstOf-none (refusals s (move target list)) (omega arith) e in
-    move-valid s target v (ltb-false target (s .clock) (p .1 .1 .0)) (ltb-false 1000000 target (p .0)))
+    move-valid s target list v (move-granted s target list (refusals-none s (move target list) e)))
 step-valid s (offer ss) v =
     answering-valid (firstOf (refusals s (offer ss))) s ss _ v (λ e. tested-valid s 0 (starts ss) ss v)
 step-valid s replanLatest v = tested-valid s 0 (latest (limitsOf s) (s .clock) (s .charges)) [] v
