@@ -98,7 +98,7 @@ module _ (s : State) (valid : ValidState s) (ss : List ℕ) where
 
 -- The test of a plan
 
-not-taken : (j b a n : ℕ) → Taken (planned (suc j) b a n) → ⊥
+pub not-taken : (j b a n : ℕ) → Taken (planned (suc j) b a n) → ⊥
 not-taken j b a n (x, y, z, e) = let q : suc j ≡ 0 = cc in omega arith
 
 refused-not-taken : (k : ℕ) → Taken (refused k) → ⊥

@@ -50,7 +50,8 @@ pub record DemandThree (gives : Gives) (s : State) (calls : List Call) : Type 0 
       (t : ℕ)
       → 1 ≤ timesReported (past gives s calls .reports) t
       → some (λ (o : Order). eqb (o .ticket) t) (past gives s calls .orders) ≡ true
-  -- "No start before the clock has ever changed."
+  -- "No start before the clock has ever changed." Claimed of every list this follows from `reported` after each first
+  -- part, since reports are only added; of one list it says more.
   pub unmoved :
       (part rest : List Call)
       → calls ≡ part ++ rest

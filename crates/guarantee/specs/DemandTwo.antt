@@ -21,7 +21,10 @@ pub record SoundPlan (s : State) (xs : List Load) : Type 0 where
   -- IV: "each two counts differ by at most D"
   pub balance : (l m t : ℕ) → IsLine l → IsLine m → s .clock ≤ t → count xs l t ≤ count xs m t + s .bound
 
--- constraint II: a charge is active from its start to its end, and in no other minute
+-- constraint II: a charge is active from its start to its end, and in no other minute. It holds of every charge, since a
+-- charge has one start and one time: a list of starts cannot ask for a break. It says that the minutes which `count` takes
+-- are these. That answers show no break is `charges` of demand 3: an enquiry gives one start and one end at every clock
+-- between them.
 abbrev pub Unbroken : Charge → Type 0
 Unbroken c = (t : ℕ) → (active (loadOf c) t ≡ true) ↔ ((c .start ≤ t) × (t < endOf c))
 
@@ -30,8 +33,11 @@ pub record Better (s : State) (ss : List ℕ) (new : List Charge) : Type 0 where
   -- "it starts nothing before the clock,"
   pub not-before-clock : Each (λ u. s .clock ≤ u) ss
   -- "meets constraints I to IV of the published paper,"
+  -- I: follows from the field above, since order minutes are not above the clock and begun charges keep their starts
   pub not-before-order : Each (λ c. c .orderMinute ≤ c .start) new
+  -- II
   pub unbroken : Each Unbroken new
+  -- III and IV
   pub sound : SoundPlan s (loadsOf new)
   -- "ends no later than the held plan"
   pub no-later : lastEnd new ≤ lastEnd (s .charges)
@@ -57,7 +63,8 @@ causeOf s (none cause) = cause
 
 -- "All three end with the same test." The result of a call that comes with a list of starts, or with none, after some rounds.
 pub record Tested (s : State) (call : Call) (proposal : Proposal) (rounds : ℕ) (r : Result) : Type 0 where
-  -- "taken exactly when": not refused, and its list is better
+  -- "taken exactly when": not refused, and its list is better. It follows from demand 1 and `answer`, and says when the
+  -- cause is 0 in the demand's own words.
   pub taken :
       Taken (r .answer)
       ↔ (NoneApplies (refusals s call)

@@ -98,7 +98,7 @@ learnt clock (enquire ticket) a list = nothingNew clock
 
 -- What is known after a list of calls
 
--- what a call to a station gives: `step` of the rules, and in specs/Wrong.antt something else
+-- what a call to a station gives: `step` of the rules, and something else in the wrong stations of specs/
 abbrev pub Gives : Type 0
 Gives = State → Call → Result
 
