@@ -7,7 +7,7 @@ use mathlib.Core.List.{List, [], _∷_}
 use native.Mathlib.Omega.{arith}
 use lib.Dec.{ltb, leb}
 use lib.ListN.{length}
-use borrow.Author.Tests.{leb-true, ltb-true, le-leb, lt-ltb, not-false, eqb-true}
+use borrow.Author.Tests.{leb-true, ltb-true, le-leb, lt-ltb}
 use Rattle.rules.specs.Basics.{Each, firstOf}
 use Rattle.rules.specs.Load.{Load, sound}
 use Rattle.rules.specs.Charge.{Charge, endOf, loadsOf, waitingCharges, lateness}
@@ -19,7 +19,8 @@ use Rattle.rules.specs.Valid.{ValidCharge, ValidState}
 use Rattle.rules.proofs.Ranges.{and-left, and-right, and-both, below-or-not}
 use Rattle.rules.proofs.Lists.{each-map}
 use Rattle.rules.proofs.Counts.{sound-from, sound-true}
-use Rattle.rules.proofs.Tables.{firstOf-none, none-firstOf}
+use Rattle.rules.proofs.Tables.{none-firstOf}
+use Rattle.rules.proofs.Granted.{refusals-none, offer-granted}
 use Rattle.rules.proofs.Searches.{earliest-first}
 use Rattle.rules.proofs.Judgements.{Meets, judged-meets, meets-judged}
 use Rattle.rules.proofs.Restarts.{Restarted, restarted-is, restarted-each}
@@ -27,7 +28,6 @@ use Rattle.rules.proofs.Validity.{order-found}
 use Rattle.guarantee.specs.DemandOne.{NoneApplies}
 use Rattle.guarantee.specs.DemandTwo.{SoundPlan, Unbroken, Better, Taken, GivenStarts, causeOf, Tested, OrderStart, DemandTwo}
 use Rattle.guarantee.specs.Demands.{reached}
-use Rattle.guarantee.proofs.Tables.{ascending-numbered, refusals-ascend}
 use Rattle.guarantee.proofs.Proposals.{Proper, latest-proper, lines-proper, restarted-starts, restarted-begun, restarted-otherwise}
 use Rattle.guarantee.proofs.DemandOne.{reached-valid}
 
@@ -99,7 +99,7 @@ module _ (s : State) (valid : ValidState s) (ss : List ℕ) where
 
 -- The test of a plan
 
-not-taken : (j b a n : ℕ) → Taken (planned (suc j) b a n) → ⊥
+pub not-taken : (j b a n : ℕ) → Taken (planned (suc j) b a n) → ⊥
 not-taken j b a n (x, y, z, e) = let q : suc j ≡ 0 = cc in omega arith
 
 refused-not-taken : (k : ℕ) → Taken (refused k) → ⊥
@@ -197,8 +197,7 @@ call-tested s call p rounds j same = go (firstOf (refusals s call)) refl
         → firstOf (refusals s call) ≡ i
         → Tested s call p rounds (answering i s (lent call) (granted s call))
     go zero e =
-        let free : NoneApplies (refusals s call)
-        = firstOf-none (refusals s call) (ascending-numbered 0 (refusals s call) (refusals-ascend s call)) e in
+        let free : NoneApplies (refusals s call) = refusals-none s call e in
         record {
           taken = ((λ t. (free, j free .taken .0 t)), (λ b. j free .taken .1 (b .1)));
           given = j free .given;
@@ -263,9 +262,7 @@ valid-demand-two s v =
       offers =
           λ ss.
           call-tested s (offer ss) (starts ss) 0
-          (λ q.
-          tested-judged s 0 (starts ss) ss v
-          (eqb-true (length ss) (length (waitingCharges (s .clock) (s .charges))) (not-false _ (q .0))))
+          (λ q. tested-judged s 0 (starts ss) ss v (offer-granted s ss q))
           (tested-list s 0 (starts ss) ss);
       replans-latest =
           let p : Proposal = latest (limitsOf s) (s .clock) (s .charges) in

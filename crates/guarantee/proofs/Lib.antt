@@ -1,5 +1,6 @@
 pub mod Each
 pub mod Tables
+pub mod Lowest
 pub mod History
 pub mod Reports
 pub mod Tickets
@@ -10,4 +11,8 @@ pub mod DemandOne
 pub mod Proposals
 pub mod DemandTwo
 pub mod Demands
-pub mod Refuted
+pub mod Refuting
+pub mod RefutedOne
+pub mod RefutedTwoOrders
+pub mod RefutedTwoPlans
+pub mod RefutedThree

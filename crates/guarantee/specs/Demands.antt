@@ -13,7 +13,7 @@ abbrev pub reached : ℕ → ℕ → List Call → State
 reached n c calls = past step (opening n c .state) calls .station
 
 pub record Demands : Type 0 where
-  pub one-opening : (n c : ℕ) → DemandOneOpening n c
+  pub one-opening : (n c : ℕ) → DemandOneOpening opening n c
   pub one : (n c : ℕ) (calls : List Call) (call : Call) → DemandOne step (reached n c calls) call
   pub two : (n c : ℕ) (calls : List Call) → DemandTwo step (reached n c calls)
   pub three : (n c : ℕ) (calls : List Call) → DemandThree step (opening n c .state) calls

@@ -4,4 +4,8 @@ pub mod DemandTwo
 pub mod DemandThree
 pub mod Demands
 pub mod Example
-pub mod Wrong
+pub mod Parts
+pub mod WrongRefusals
+pub mod WrongOrders
+pub mod WrongMoves
+pub mod WrongPlans
