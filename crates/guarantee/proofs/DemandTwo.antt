@@ -9,7 +9,7 @@ use lib.Dec.{ltb, leb}
 use lib.ListN.{length}
 use borrow.Author.Tests.{leb-true, ltb-true, le-leb, lt-ltb}
 use Rattle.rules.specs.Basics.{Each, firstOf}
-use Rattle.rules.specs.Load.{Load, sound}
+use Rattle.rules.specs.Load.{draw, Load, sound}
 use Rattle.rules.specs.Charge.{Charge, endOf, loadsOf, waitingCharges, lateness}
 use Rattle.rules.specs.Search.{added}
 use Rattle.rules.specs.Replan.{Proposal, starts, none, latest, Replanned, byLines}
@@ -230,21 +230,21 @@ order-start :
 unfolding ordering
 order-start s line p d v q =
     let f = order-found s line p v in
-    let r = earliest-first (limitsOf s) (s .clock) (loadsOf (s .charges)) line p (f .0) (f .1) in
+    let r = earliest-first (limitsOf s) (s .clock) (loadsOf (s .charges)) (draw line p) (f .0) (f .1) in
     rw (none-firstOf (refusals s (order line p d)) q, f .1)
     (record {
       start = f .0;
       answer = refl;
       not-early = r .low;
-      sound = plan-sound s (added (loadsOf (s .charges)) line p (f .0)) (r .here);
-      earliest = λ u h w. least (f .0) u (r .least u h) (sound-plan s (added (loadsOf (s .charges)) line p u) w);
+      sound = plan-sound s (added (loadsOf (s .charges)) (draw line p) (f .0)) (r .here);
+      earliest = λ u h w. least (f .0) u (r .least u h) (sound-plan s (added (loadsOf (s .charges)) (draw line p) u) w);
       others-same = refl;
     })
   where
     least :
         (start u : ℕ)
-        → (u < start → sound (limitsOf s) (s .clock) (added (loadsOf (s .charges)) line p u) ≡ false)
-        → sound (limitsOf s) (s .clock) (added (loadsOf (s .charges)) line p u) ≡ true
+        → (u < start → sound (limitsOf s) (s .clock) (added (loadsOf (s .charges)) (draw line p) u) ≡ false)
+        → sound (limitsOf s) (s .clock) (added (loadsOf (s .charges)) (draw line p) u) ≡ true
         → start ≤ u
     least start u before here = go (below-or-not u start)
       where

@@ -9,7 +9,7 @@ use lib.ListN.{length, length-append}
 use borrow.Author.Tests.{le-ltb}
 use Rattle.rules.specs.Basics.{Each, keep}
 use Rattle.rules.specs.Load.{Limits, counts, lastUntil, sound}
-use Rattle.rules.specs.Charge.{Charge, endOf, loadOf, loadsOf, isFinished, unfinishedCharges, lastEnd}
+use Rattle.rules.specs.Charge.{drawOf, Charge, endOf, loadOf, loadsOf, isFinished, unfinishedCharges, lastEnd}
 use Rattle.rules.specs.Search.{added}
 use Rattle.rules.specs.Judgement.{restarted}
 use Rattle.rules.specs.Calls.{isPassed, startBefore, reported, pairs}
@@ -69,7 +69,7 @@ module _ (y : Limits) (k : ℕ) (os : List Order) (hs : List Charge) (rs : List 
       (lasts : 1 ≤ c .time)
       (low : k ≤ c .start)
       (high : c .start < k + suc (lastUntil (loadsOf (unfinishedCharges k hs)) - k))
-      (ok : sound y k (added (loadsOf (unfinishedCharges k hs)) (c .line) (c .time) (c .start)) ≡ true)
+      (ok : sound y k (added (loadsOf (unfinishedCharges k hs)) (drawOf c) (c .start)) ≡ true)
     where
       order-always : (t : ℕ) → Sound y (counts (loadsOf (hs ++ (c ∷ []))) t)
       order-always t = rw (map-append loadOf hs (c ∷ [])) (go (below-or-not t k))
@@ -90,7 +90,7 @@ module _ (y : Limits) (k : ℕ) (os : List Order) (hs : List Charge) (rs : List 
                 count-append (loadsOf (unfinishedCharges k hs)) (loadOf c ∷ []) l t,
                 count-unfinished k hs l t h,
               ))
-              (sound-from y k (added (loadsOf (unfinishedCharges k hs)) (c .line) (c .time) (c .start)) ok t h)
+              (sound-from y k (added (loadsOf (unfinishedCharges k hs)) (drawOf c) (c .start)) ok t h)
 
       order-last : lastMinute 0 (os ++ (orderOf c ∷ [])) ≡ k
       order-last = lastMinute-append 0 os (orderOf c) ∙ minute

@@ -5,7 +5,7 @@ use mathlib.Core.Bool.{true}
 use mathlib.Core.List.{List, [], _∷_}
 use Rattle.rules.specs.Basics.{firstOf}
 use native.Mathlib.Omega.{arith}
-use Rattle.rules.specs.Load.{limited, balanced, sound}
+use Rattle.rules.specs.Load.{draw, limited, balanced, sound}
 use Rattle.rules.specs.Charge.{loadsOf, lastEnd}
 use Rattle.rules.specs.Search.{added, earliest, earliestUnder}
 use Rattle.rules.specs.Calls.{limitsOf, refusals, taking, newCharge, State, ordered, Call, order, move, opening, ordering, moving}
@@ -36,13 +36,13 @@ module _
     order-not-early : s .clock ≤ u
     order-not-early = omega (arith, order-start .not-early, start-is)
 
-    order-sound : SoundPlan s (added (loadsOf (s .charges)) line p u)
+    order-sound : SoundPlan s (added (loadsOf (s .charges)) (draw line p) u)
     order-sound =
-        subst (λ (x : ℕ). SoundPlan s (added (loadsOf (s .charges)) line p x)) start-is (order-start .sound)
+        subst (λ (x : ℕ). SoundPlan s (added (loadsOf (s .charges)) (draw line p) x)) start-is (order-start .sound)
 
-    order-earliest : (v : ℕ) → s .clock ≤ v → sound (limitsOf s) (s .clock) (added (loadsOf (s .charges)) line p v) ≡ true → u ≤ v
+    order-earliest : (v : ℕ) → s .clock ≤ v → sound (limitsOf s) (s .clock) (added (loadsOf (s .charges)) (draw line p) v) ≡ true → u ≤ v
     order-earliest v h e =
-        omega (arith, start-is, order-start .earliest v h (plan-sound s (added (loadsOf (s .charges)) line p v) e))
+        omega (arith, start-is, order-start .earliest v h (plan-sound s (added (loadsOf (s .charges)) (draw line p) v) e))
 
     order-state : gives s (order line p d) .state ≡ taking s (newCharge s line p d u)
     order-state = order-start .others-same ∙ ap (λ (x : ℕ). taking s (newCharge s line p d x)) start-is

@@ -9,7 +9,7 @@ use native.Mathlib.Numerals.{add-one}
 use lib.ListN.{length, length-append}
 use borrow.Author.Tests.{lt-leb}
 use Rattle.rules.specs.Basics.{Found, at, nothing, firstOf}
-use Rattle.rules.specs.Load.{lastUntil, sound}
+use Rattle.rules.specs.Load.{draw, lastUntil, sound}
 use Rattle.rules.specs.Charge.{Charge, starting, loadsOf, isFinished, unfinishedCharges}
 use Rattle.rules.specs.Search.{added, earliest}
 use Rattle.rules.specs.Replan.{Proposal, starts, none, latest, byLines}
@@ -146,13 +146,13 @@ module _
         (line p d : ℕ)
         → 1 ≤ p
         → (f : Found)
-        → earliest (limitsOf s) k (loadsOf (unfinishedCharges k hs)) line p ≡ f
+        → earliest (limitsOf s) k (loadsOf (unfinishedCharges k hs)) (draw line p) ≡ f
         → Next s k os hs rs (order line p d) (orderedAt (stationOf s k os hs) (newCharge (stationOf s k os hs) line p d) f)
     order-next line p d lasts (at start) e =
         let new : Charge = newCharge (stationOf s k os hs) line p d start in
-        let r : IsFirst (λ u. sound (limitsOf s) k (added (loadsOf (unfinishedCharges k hs)) line p u))
+        let r : IsFirst (λ u. sound (limitsOf s) k (added (loadsOf (unfinishedCharges k hs)) (draw line p) u))
         (suc (lastUntil (loadsOf (unfinishedCharges k hs)) - k)) k start
-        = earliest-first (limitsOf s) k (loadsOf (unfinishedCharges k hs)) line p start e in
+        = earliest-first (limitsOf s) k (loadsOf (unfinishedCharges k hs)) (draw line p) start e in
         record {
           now = hs ++ (new ∷ []);
           later = omega arith;

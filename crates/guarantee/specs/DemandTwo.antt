@@ -5,7 +5,7 @@ use Prim.Native.Nat.{ℕ, _+_, _≤_, _<_}
 use mathlib.Core.Bool.{true}
 use mathlib.Core.List.{List, map}
 use Rattle.rules.specs.Basics.{Each}
-use Rattle.rules.specs.Load.{Load, active, count, IsLine}
+use Rattle.rules.specs.Load.{draw, Load, active, count, IsLine}
 use Rattle.rules.specs.Charge.{Charge, starting, endOf, loadOf, loadsOf, begunCharges, waitingCharges, lastEnd, lateness}
 use Rattle.rules.specs.Search.{added}
 use Rattle.rules.specs.Replan.{Proposal, starts, none, latest, byLines}
@@ -84,8 +84,8 @@ pub record OrderStart (s : State) (line p d : ℕ) (r : Result) : Type 0 where
   pub answer : r .answer ≡ ordered (s .next) start
   -- constraint I: the order minute is the clock
   pub not-early : s .clock ≤ start
-  pub sound : SoundPlan s (added (loadsOf (s .charges)) line p start)
-  pub earliest : (u : ℕ) → s .clock ≤ u → SoundPlan s (added (loadsOf (s .charges)) line p u) → start ≤ u
+  pub sound : SoundPlan s (added (loadsOf (s .charges)) (draw line p) start)
+  pub earliest : (u : ℕ) → s .clock ≤ u → SoundPlan s (added (loadsOf (s .charges)) (draw line p) u) → start ≤ u
   -- `taking` puts the new charge behind the held ones, which stay as they are
   pub others-same : r .state ≡ taking s (newCharge s line p d start)
 

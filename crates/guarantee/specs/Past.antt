@@ -5,7 +5,7 @@ use Prim.Native.Nat.{ℕ, zero, suc, _+_}
 use mathlib.Core.Bool.{Bool, true, false, cond}
 use mathlib.Core.List.{List, [], _∷_, _++_, map}
 use lib.Dec.{eqb}
-use Rattle.rules.specs.Load.{Load, loadFrom, count}
+use Rattle.rules.specs.Load.{draw, Load, loadFrom, count}
 use Rattle.rules.specs.Calls.{State, Answer, refused, opened, ordered, moved, planned, waiting, charging, Result, Call, order, move, offer, replanLatest, replanLines, enquire}
 
 -- An accepted order: its ticket is that of the answer. "Its order minute is the clock at that moment; its line and p are
@@ -158,7 +158,7 @@ endOf gives h o = startOf gives h o + o .time
 
 -- "each active from its start as above", unbroken for its full time
 abbrev pub loadOf : Gives → Past → Order → Load
-loadOf gives h o = loadFrom (o .line) (o .time) (startOf gives h o)
+loadOf gives h o = loadFrom (draw (o .line) (o .time)) (startOf gives h o)
 
 -- "A line's count in a minute takes all accepted orders of the list, dropped ones too."
 abbrev pub countIn : Gives → Past → ℕ → ℕ → ℕ

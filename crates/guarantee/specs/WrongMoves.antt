@@ -5,6 +5,7 @@ use mathlib.Core.List.{List, [], _∷_, _++_, map}
 use lib.Dec.{ltb, eqb}
 use lib.ListN.{length}
 use Rattle.rules.specs.Basics.{keep, sortedBy}
+use Rattle.rules.specs.Load.{draw}
 use Rattle.rules.specs.Charge.{Charge, starting, loadsOf, isBegun, unfinishedCharges}
 use Rattle.rules.specs.Search.{earliest}
 use Rattle.rules.specs.Calls.{State, limitsOf, holding, moved, Result, newCharge, orderedAt, isPassed, startBefore, pairs, written, enquiring}
@@ -53,7 +54,7 @@ abbrev pub slowClock : Gives
 slowClock =
     withOrdersAndMoves
     (λ s line p d.
-    orderedAt s (newCharge s line p d) (earliest (limitsOf s) (s .clock - 1) (loadsOf (s .charges)) line p))
+    orderedAt s (newCharge s line p d) (earliest (limitsOf s) (s .clock - 1) (loadsOf (s .charges)) (draw line p)))
     (reporting (λ clock target c. isPassed (clock - 1) target c))
 
 -- What is dropped

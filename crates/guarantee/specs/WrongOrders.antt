@@ -5,7 +5,7 @@ use mathlib.Core.List.{List, _++_, map}
 use lib.Dec.{leb}
 use lib.ListN.{length, drop}
 use Rattle.rules.specs.Basics.{Found, at, first}
-use Rattle.rules.specs.Load.{Load, limits, count, lastUntil, limitAt, fromOn}
+use Rattle.rules.specs.Load.{draw, Load, limits, count, lastUntil, limitAt, fromOn}
 use Rattle.rules.specs.Charge.{Charge, loadsOf, lastEnd}
 use Rattle.rules.specs.Search.{added, earliest, earliestUnder}
 use Rattle.rules.specs.Calls.{State, limitsOf, holding, Result, newCharge, orderedAt, ordering}
@@ -19,7 +19,7 @@ orderedBy find s line p d = orderedAt s (newCharge s line p d) (find s line p)
 abbrev pub ownLineOnly : Gives
 ownLineOnly =
     withOrders
-    (orderedBy (λ s line p. earliestUnder (λ l t. s .limit) (s .clock) (loadsOf (s .charges)) line p))
+    (orderedBy (λ s line p. earliestUnder (λ l t. s .limit) (s .clock) (loadsOf (s .charges)) (draw line p)))
 
 -- lines 1 and 2, and 2 and 3, are compared
 abbrev neighboursAt : State → List Load → ℕ → Bool
@@ -33,7 +33,7 @@ neighboursOnly =
     (orderedBy
     (λ s line p.
     let xs : List Load = loadsOf (s .charges) in
-    first (λ u. fromOn (s .clock) (added xs line p u) (neighboursAt s (added xs line p u)))
+    first (λ u. fromOn (s .clock) (added xs (draw line p) u) (neighboursAt s (added xs (draw line p) u)))
     (suc (lastUntil xs - s .clock))
     (s .clock)))
 
@@ -41,7 +41,7 @@ neighboursOnly =
 abbrev pub limitIgnored : Gives
 limitIgnored =
     withOrders
-    (orderedBy (λ s line p. earliest (limits 180 (s .bound)) (s .clock) (loadsOf (s .charges)) line p))
+    (orderedBy (λ s line p. earliest (limits 180 (s .bound)) (s .clock) (loadsOf (s .charges)) (draw line p)))
 
 -- one fixed start for everybody
 abbrev pub fixedStart : Gives

@@ -7,7 +7,7 @@ use native.Mathlib.Omega.{arith}
 use lib.ListN.{length, length-append}
 use borrow.Author.Tests.{leb-false, not-true}
 use Rattle.rules.specs.Basics.{Each, at}
-use Rattle.rules.specs.Load.{counts, lastUntil, sound}
+use Rattle.rules.specs.Load.{draw, counts, lastUntil, sound}
 use Rattle.rules.specs.Charge.{Charge, endOf, loadOf, loadsOf, isFinished, unfinishedCharges, lastEnd}
 use Rattle.rules.specs.Search.{earliest}
 use Rattle.rules.specs.Calls.{places, State, limitsOf, holding, newCharge, taking}
@@ -75,11 +75,11 @@ pub order-valid :
     (s : State) (line p d start : ℕ)
     → ValidState s
     → OrderGranted s line p d
-    → earliest (limitsOf s) (s .clock) (loadsOf (s .charges)) line p ≡ at start
+    → earliest (limitsOf s) (s .clock) (loadsOf (s .charges)) (draw line p) ≡ at start
     → ValidState (taking s (newCharge s line p d start))
 order-valid s line p d start v g f =
     let new : Charge = newCharge s line p d start in
-    let r = earliest-first (limitsOf s) (s .clock) (loadsOf (s .charges)) line p start f in
+    let r = earliest-first (limitsOf s) (s .clock) (loadsOf (s .charges)) (draw line p) start f in
     let low : s .clock ≤ start = r .low in
     let high : start < s .clock + suc (lastUntil (loadsOf (s .charges)) - s .clock) = r .high in
     still-valid s (s .clock) (suc (s .next)) (taking s new .charges) v (v .clock-high) (omega arith) (omega (arith, g .ticket-left))

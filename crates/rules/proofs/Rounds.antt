@@ -9,7 +9,7 @@ use lib.Dec.{leb, eqb}
 use borrow.Author.Tests.{leb-true, leb-false, le-leb}
 use Rattle.rules.specs.Basics.{Found, at}
 use Rattle.rules.specs.Load.{IsLine, onLines}
-use Rattle.rules.specs.Charge.{Charge, starting, activeFor, loadsOf, begunCharges, waitingCharges}
+use Rattle.rules.specs.Charge.{Charge, starting, drawOf, loadsOf, begunCharges, waitingCharges}
 use Rattle.rules.specs.Search.{Caps}
 use Rattle.rules.specs.Replan.{all, placeAll, cappedStart, lineByLine, lowestLine, largestLine, smallestLine, lowered}
 use Rattle.rules.proofs.Ranges.{fails, below-or-not}
@@ -184,6 +184,6 @@ pub round-places :
     → AllPlaced (cappedStart cap clock (begunCharges clock held)) [] (lineByLine (waitingCharges clock held))
 round-places cap clock held h =
     all-placed (cappedStart cap clock (begunCharges clock held))
-    (λ placed c. under-found cap clock (loadsOf (begunCharges clock held ++ placed)) (c .line) (activeFor c) (h (c .line)))
+    (λ placed c. under-found cap clock (loadsOf (begunCharges clock held ++ placed)) (drawOf c) (h (c .line)))
     []
     (lineByLine (waitingCharges clock held))

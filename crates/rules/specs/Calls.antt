@@ -6,7 +6,7 @@ use lib.Dec.{ltb, leb, eqb}
 use lib.ListN.{length, drop}
 use Rattle.rules.specs.Basics.{Found, at, nothing, firstOf, keep, some, sortedBy}
 use Rattle.rules.specs.Load.{Limits, limits}
-use Rattle.rules.specs.Charge.{Charge, endOf, activeFor, loadsOf, isBegun, waitingCharges, unfinishedCharges, thenTicket, lateness}
+use Rattle.rules.specs.Charge.{Charge, endOf, drawOf, loadsOf, isBegun, waitingCharges, unfinishedCharges, thenTicket, lateness}
 use Rattle.rules.specs.Search.{earliest}
 use Rattle.rules.specs.Replan.{Proposal, starts, none, latest, Replanned, byLines}
 use Rattle.rules.specs.Judgement.{restarted, judged}
@@ -171,7 +171,7 @@ orderedAt s c nothing = record { answer = refused 0; state = s; list = [] }
 unfoldable pub ordering : State → ℕ → ℕ → ℕ → Result
 ordering s line p d =
     orderedAt s (newCharge s line p d)
-    (earliest (limitsOf s) (s .clock) (loadsOf (s .charges)) line (activeFor (newCharge s line p d 0)))
+    (earliest (limitsOf s) (s .clock) (loadsOf (s .charges)) (drawOf (newCharge s line p d 0)))
 
 -- Move the clock
 
