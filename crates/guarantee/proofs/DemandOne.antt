@@ -10,7 +10,7 @@ use Rattle.rules.specs.Basics.{some, firstOf}
 use Rattle.rules.specs.Charge.{Charge, endOf, isBegun}
 use Rattle.rules.specs.Replan.{Proposal, starts, none, latest, Replanned, byLines}
 use Rattle.rules.specs.Judgement.{judged}
-use Rattle.rules.specs.Calls.{State, limitsOf, Answer, refused, opened, planned, Result, answering, boundOf, fresh, openRefusals, opening, Call, order, move, offer, replanLatest, replanLines, enquire, lent, refusals, ordering, moving, decided, tested, offering, replanningLatest, replanningLines, told, enquiring, granted, step}
+use Rattle.rules.specs.Calls.{Settings, settings, State, limitsOf, Answer, refused, opened, planned, Result, answering, boundOf, fresh, openRefusals, opening, Call, order, move, offer, replanLatest, replanLines, enquire, lent, refusals, ordering, moving, decided, tested, offering, replanningLatest, replanningLines, told, enquiring, granted, step}
 use Rattle.rules.specs.Valid.{ValidState}
 use Rattle.rules.proofs.Tables.{Numbered, firstOf-none, none-firstOf}
 use Rattle.rules.proofs.Granted.{refusals-numbered, openRefusals-numbered, enquire-granted}
@@ -133,24 +133,24 @@ valid-demand-one s v call =
     }
 
 -- every station that an opening and calls lead to is valid
-pub reached-valid : (n c : ℕ) (calls : List Call) → ValidState (reached n c calls)
-reached-valid n c calls = after-valid calls (beginning (opening n c .state)) (opening-valid n c)
+pub reached-valid : (x : Settings) (calls : List Call) → ValidState (reached x calls)
+reached-valid x calls = after-valid calls (beginning (opening x .state)) (opening-valid x)
   where
     after-valid : (calls : List Call) (h : Past) → ValidState (h .station) → ValidState (after step h calls .station)
     after-valid [] h v = v
     after-valid (x ∷ calls) h v = after-valid calls (extended h x (step (h .station) x)) (step-valid (h .station) x v)
 
-pub demand-one : (n c : ℕ) (calls : List Call) (call : Call) → DemandOne step (reached n c calls) call
-demand-one n c calls call = valid-demand-one (reached n c calls) (reached-valid n c calls) call
+pub demand-one : (x : Settings) (calls : List Call) (call : Call) → DemandOne step (reached x calls) call
+demand-one x calls call = valid-demand-one (reached x calls) (reached-valid x calls) call
 
-pub demand-one-opening : (n c : ℕ) → DemandOneOpening opening n c
+pub demand-one-opening : (x : Settings) → DemandOneOpening opening x
 unfolding opening
-demand-one-opening n c =
+demand-one-opening x =
     record {
       refused-by =
-          refused-by (openRefusals n c) (fresh 1 100) []
-          (record { answer = opened (boundOf n c); state = fresh n c; list = [] })
-          (openRefusals-numbered n c)
+          refused-by (openRefusals x) (fresh (settings 1 100)) []
+          (record { answer = opened (fresh x .bound); state = fresh x; list = [] })
+          (openRefusals-numbered x)
           (λ q. refl);
-      answered = λ q. rw (none-firstOf (openRefusals n c) q) (refl, refl);
+      answered = λ q. rw (none-firstOf (openRefusals x) q) (refl, refl);
     }

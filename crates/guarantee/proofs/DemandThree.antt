@@ -9,7 +9,7 @@ use borrow.Author.Tests.{ltb-false, lt-ltb, le-ltb, eq-eqb, ne-eqb}
 use Rattle.rules.specs.Basics.{Each, firstOf, some}
 use Rattle.rules.specs.Load.{count}
 use Rattle.rules.specs.Charge.{Charge, endOf, loadsOf, isBegun, unfinishedCharges}
-use Rattle.rules.specs.Calls.{State, told, opened, answering, boundOf, fresh, openRefusals, opening, Call, step}
+use Rattle.rules.specs.Calls.{Settings, settings, State, told, opened, answering, boundOf, fresh, openRefusals, opening, Call, step}
 use Rattle.guarantee.specs.Past.{Order, Past, beginning, past, timesReported, enquiry, startIn, startOf, loadOf, countIn, totalTime, lastMinute}
 use Rattle.guarantee.specs.DemandThree.{Kept, Unmoved, DemandThree}
 use Rattle.rules.proofs.Lists.{each-map}
@@ -183,8 +183,8 @@ unmoved-orders s here there cs ds p q r =
 -- From the opening
 
 -- a station that no call has been made to
-fresh-known : (n c : ℕ) → Known (fresh n c) (beginning (fresh n c)) []
-fresh-known n c =
+fresh-known : (x : Settings) → Known (fresh x) (beginning (fresh x)) []
+fresh-known x =
     record {
       station = refl;
       invariant =
@@ -201,17 +201,17 @@ fresh-known n c =
           };
     }
 
-opening-known : (n c : ℕ) → Known (opening n c .state) (beginning (opening n c .state)) []
+opening-known : (x : Settings) → Known (opening x .state) (beginning (opening x .state)) []
 unfolding opening
-opening-known n c = go (firstOf (openRefusals n c))
+opening-known x = go (firstOf (openRefusals x))
   where
     given : ℕ → State
     given i =
-        answering i (fresh 1 100) [] (record { answer = opened (boundOf n c); state = fresh n c; list = [] }) .state
+        answering i (fresh (settings 1 100)) [] (record { answer = opened (fresh x .bound); state = fresh x; list = [] }) .state
 
     go : (i : ℕ) → Known (given i) (beginning (given i)) []
-    go zero = fresh-known n c
-    go (suc i) = fresh-known 1 100
+    go zero = fresh-known x
+    go (suc i) = fresh-known (settings 1 100)
 
 -- what is known after calls to a station on which nothing was known
 module _ (s : State) (calls : List Call) (known : Known s (beginning s) []) where
@@ -249,5 +249,5 @@ module _ (s : State) (calls : List Call) (known : Known s (beginning s) []) wher
       }
 
 -- for every opening, refused ones too, and every list of calls
-pub demand-three : (n c : ℕ) (calls : List Call) → DemandThree step (opening n c .state) calls
-demand-three n c calls = all-kept (opening n c .state) calls (opening-known n c)
+pub demand-three : (x : Settings) (calls : List Call) → DemandThree step (opening x .state) calls
+demand-three x calls = all-kept (opening x .state) calls (opening-known x)

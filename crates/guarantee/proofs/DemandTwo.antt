@@ -14,7 +14,7 @@ use Rattle.rules.specs.Charge.{Charge, endOf, loadsOf, waitingCharges, lateness
 use Rattle.rules.specs.Search.{added}
 use Rattle.rules.specs.Replan.{Proposal, starts, none, latest, Replanned, byLines}
 use Rattle.rules.specs.Judgement.{restarted, judged}
-use Rattle.rules.specs.Calls.{State, limitsOf, refused, ordered, planned, Result, answering, Call, order, offer, replanLatest, replanLines, lent, refusals, ordering, decided, tested, offering, replanningLatest, replanningLines, granted, step}
+use Rattle.rules.specs.Calls.{Settings, State, limitsOf, refused, ordered, planned, Result, answering, Call, order, offer, replanLatest, replanLines, lent, refusals, ordering, decided, tested, offering, replanningLatest, replanningLines, granted, step}
 use Rattle.rules.specs.Valid.{ValidCharge, ValidState}
 use Rattle.rules.proofs.Ranges.{and-left, and-right, and-both, below-or-not}
 use Rattle.rules.proofs.Lists.{each-map}
@@ -277,5 +277,5 @@ valid-demand-two s v =
           (tested-list s (r .rounds) (r .proposal) []);
     }
 
-pub demand-two : (n c : ℕ) (calls : List Call) → DemandTwo step (reached n c calls)
-demand-two n c calls = valid-demand-two (reached n c calls) (reached-valid n c calls)
+pub demand-two : (x : Settings) (calls : List Call) → DemandTwo step (reached x calls)
+demand-two x calls = valid-demand-two (reached x calls) (reached-valid x calls)

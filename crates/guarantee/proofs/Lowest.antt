@@ -6,7 +6,7 @@ use mathlib.Core.Bool.{Bool, true, true≢false}
 use mathlib.Core.List.{List, [], _∷_}
 use native.Mathlib.Omega.{arith}
 use Rattle.rules.specs.Basics.{Each}
-use Rattle.rules.specs.Calls.{State, Call, order, move, offer, replanLatest, replanLines, enquire, openRefusals, refusals}
+use Rattle.rules.specs.Calls.{Settings, State, Call, order, move, offer, replanLatest, replanLines, enquire, openRefusals, refusals}
 use Rattle.rules.proofs.Lists.{each-map}
 use Rattle.guarantee.specs.DemandOne.{FirstIs}
 
@@ -50,5 +50,5 @@ refusals-rise s (enquire ticket) = omega arith
 pub lowest-refusal : (s : State) (c : Call) (k : ℕ) → FirstIs (refusals s c) k → Lowest (refusals s c) k
 lowest-refusal s c k h = first-lowest 1 k (refusals s c) (refusals-rise s c) h
 
-pub lowest-open-refusal : (n c k : ℕ) → FirstIs (openRefusals n c) k → Lowest (openRefusals n c) k
-lowest-open-refusal n c k h = first-lowest 1 k (openRefusals n c) (omega arith) h
+pub lowest-open-refusal : (x : Settings) (k : ℕ) → FirstIs (openRefusals x) k → Lowest (openRefusals x) k
+lowest-open-refusal x k h = first-lowest 1 k (openRefusals x) (omega arith) h

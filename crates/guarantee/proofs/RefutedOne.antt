@@ -7,7 +7,7 @@ use native.Mathlib.Omega.{arith}
 use lib.ListN.{length}
 use Rattle.rules.specs.Load.{limited, balanced, sound}
 use Rattle.rules.specs.Search.{earliest}
-use Rattle.rules.specs.Calls.{State, refused, opened, ordered, waiting, order, move, refusals, fresh, opening, ordering}
+use Rattle.rules.specs.Calls.{settings, State, refused, opened, ordered, waiting, order, move, refusals, fresh, opening, ordering}
 use Rattle.rules.proofs.Granted.{refusals-none}
 use Rattle.guarantee.specs.DemandOne.{DemandOne, DemandOneOpening}
 use Rattle.guarantee.specs.WrongRefusals.{lineAccepted, highestNumber, alwaysFull, standstillRefused, ticketUsedUp, listCleared, ticketNotSaid, smallProduct, openedAsAsked, openingWrites, limitSaid, percentLost}
@@ -17,7 +17,7 @@ use Rattle.guarantee.proofs.Refuting.{lentList}
 -- Calls to a fresh station of 1, 100
 
 abbrev station : State
-station = fresh 1 100
+station = fresh (settings 1 100)
 
 -- `number`: line 4 is answered with a ticket
 line-accepted : DemandOne lineAccepted station (order 4 10 60) → ⊥
@@ -68,35 +68,35 @@ ticket-not-said d = go (d .answered (refusals-none station (order 1 10 60) refl)
 -- Openings
 
 -- `number`: 50 is below 100
-small-product : DemandOneOpening smallProduct 1 50 → ⊥
+small-product : DemandOneOpening smallProduct (settings 1 50) → ⊥
 small-product d =
     let h : opened 0 ≡ refused 3 = d .refused-by .number 3 .1 (inr (refl, inr (refl, inl (refl, refl)))) in
     let z : _≡_ {A = ℕ} 0 1 = cc in
     omega arith
 
 -- `same-station`
-opened-as-asked : DemandOneOpening openedAsAsked 61 100 → ⊥
+opened-as-asked : DemandOneOpening openedAsAsked (settings 61 100) → ⊥
 unfolding opening
 opened-as-asked d =
     let h : _≡_ {A = ℕ} 61 1 = ap (λ (s : State). s .limit) (d .refused-by .same-station refl) in
     omega arith
 
 -- `same-list`
-opening-writes : DemandOneOpening openingWrites 61 100 → ⊥
+opening-writes : DemandOneOpening openingWrites (settings 61 100) → ⊥
 unfolding opening
 opening-writes d =
     let h : _≡_ {A = ℕ} 1 0 = ap (length {A = ℕ}) (d .refused-by .same-list refl) in
     omega arith
 
 -- `answered`, the answer
-limit-said : DemandOneOpening limitSaid 10 10 → ⊥
+limit-said : DemandOneOpening limitSaid (settings 10 10) → ⊥
 limit-said d =
     let h : opened 10 ≡ opened 1 = d .answered (refl, (refl, (refl, tt))) .0 in
     let z : _≡_ {A = ℕ} 10 1 = cc in
     omega arith
 
 -- `answered`, the station
-percent-lost : DemandOneOpening percentLost 10 10 → ⊥
+percent-lost : DemandOneOpening percentLost (settings 10 10) → ⊥
 percent-lost d =
     let h : _≡_ {A = ℕ} 100 10 = ap (λ (s : State). s .percent) (d .answered (refl, (refl, (refl, tt))) .1) in
     omega arith

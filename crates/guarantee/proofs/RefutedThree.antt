@@ -8,7 +8,7 @@ use Rattle.rules.specs.Load.{limited, balanced, sound}
 use Rattle.rules.specs.Search.{earliest, earliestUnder}
 use Rattle.rules.specs.Replan.{placeAll, latest}
 use Rattle.rules.specs.Judgement.{judged}
-use Rattle.rules.specs.Calls.{State, refused, waiting, charging, Call, order, move, offer, replanLatest, opening, ordering, moving, replanningLatest, enquiring}
+use Rattle.rules.specs.Calls.{settings, State, refused, waiting, charging, Call, order, move, offer, replanLatest, opening, ordering, moving, replanningLatest, enquiring}
 use Rattle.guarantee.specs.DemandThree.{DemandThree}
 use Rattle.guarantee.specs.WrongOrders.{ownLineOnly, neighboursOnly, limitIgnored, fixedStart, ticketSkipped}
 use Rattle.guarantee.specs.WrongMoves.{startAtClockLeftOut, firstReportOnly, reportedTwice, startAtTargetReported, nobodyReported, slowClock, droppedEarly, droppedLate, neverDropped, shownLate, shownBegun, shownEarly}
@@ -17,10 +17,10 @@ use Rattle.guarantee.proofs.Refuting.{line-one, line-two, line-three, l
 
 -- the station of 1, 100 and that of 2, 50, both with D = 1
 abbrev one : State
-one = opening 1 100 .state
+one = opening (settings 1 100) .state
 
 abbrev two : State
-two = opening 2 50 .state
+two = opening (settings 2 50) .state
 
 -- one order that charges on line 1 from 0 to 10
 abbrev single : Call

@@ -8,7 +8,7 @@ use native.Mathlib.Omega.{arith}
 use Rattle.rules.specs.Load.{draw, limited, balanced, sound}
 use Rattle.rules.specs.Charge.{loadsOf, lastEnd}
 use Rattle.rules.specs.Search.{added, earliest, earliestUnder}
-use Rattle.rules.specs.Calls.{limitsOf, refusals, taking, newCharge, State, ordered, Call, order, move, opening, ordering, moving}
+use Rattle.rules.specs.Calls.{settings, limitsOf, refusals, taking, newCharge, State, ordered, Call, order, move, opening, ordering, moving}
 use Rattle.rules.proofs.Granted.{refusals-none}
 use Rattle.guarantee.specs.Past.{Gives}
 use Rattle.guarantee.specs.DemandTwo.{SoundPlan, OrderStart, DemandTwo}
@@ -48,35 +48,35 @@ module _
     order-state = order-start .others-same ∙ ap (λ (x : ℕ). taking s (newCharge s line p d x)) start-is
 
 -- `answer`: the first ticket is 1
-other-ticket : DemandTwo otherTicket (reached 1 100 []) → ⊥
+other-ticket : DemandTwo otherTicket (reached (settings 1 100) []) → ⊥
 unfolding limited balanced sound earliest opening ordering
 other-ticket d =
-    let h : _≡_ {A = ℕ} 2 1 = order-ticket otherTicket (reached 1 100 []) 1 10 60 2 0 d refl refl in omega arith
+    let h : _≡_ {A = ℕ} 2 1 = order-ticket otherTicket (reached (settings 1 100) []) 1 10 60 2 0 d refl refl in omega arith
 
 -- `not-early`: the clock is 5
-slow-clock : DemandTwo slowClock (reached 1 100 (move 5 lentList ∷ [])) → ⊥
+slow-clock : DemandTwo slowClock (reached (settings 1 100) (move 5 lentList ∷ [])) → ⊥
 unfolding limited balanced sound earliest opening moving
 slow-clock d =
-    let h : 5 ≤ 4 = order-not-early slowClock (reached 1 100 (move 5 lentList ∷ [])) 1 10 60 1 4 d refl refl in omega arith
+    let h : 5 ≤ 4 = order-not-early slowClock (reached (settings 1 100) (move 5 lentList ∷ [])) 1 10 60 1 4 d refl refl in omega arith
 
 -- a charge on each line from 0 to 10
 abbrev threeOrders : List Call
 threeOrders = order 1 10 60 ∷ order 2 10 60 ∷ order 3 10 60 ∷ []
 
 -- `sound .limit`: N = 1
-limit-ignored : DemandTwo limitIgnored (reached 1 100 threeOrders) → ⊥
+limit-ignored : DemandTwo limitIgnored (reached (settings 1 100) threeOrders) → ⊥
 unfolding limited balanced sound earliest opening ordering
 limit-ignored d =
     let h : 2 ≤ 1
-    = order-sound limitIgnored (reached 1 100 threeOrders) 1 10 60 4 0 d refl refl .limit 1 0 line-one (omega arith) in
+    = order-sound limitIgnored (reached (settings 1 100) threeOrders) 1 10 60 4 0 d refl refl .limit 1 0 line-one (omega arith) in
     omega arith
 
 -- `sound .balance`: N = 2, D = 1
-own-line-only : DemandTwo ownLineOnly (reached 2 50 (order 1 10 60 ∷ [])) → ⊥
+own-line-only : DemandTwo ownLineOnly (reached (settings 2 50) (order 1 10 60 ∷ [])) → ⊥
 unfolding limited balanced sound earliest earliestUnder opening ordering
 own-line-only d =
     let h : 2 ≤ 1
-    = order-sound ownLineOnly (reached 2 50 (order 1 10 60 ∷ [])) 1 10 60 2 0 d refl refl
+    = order-sound ownLineOnly (reached (settings 2 50) (order 1 10 60 ∷ [])) 1 10 60 2 0 d refl refl
     .balance 1 2 0 line-one line-two (omega arith) in
     omega arith
 

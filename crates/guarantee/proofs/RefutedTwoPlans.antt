@@ -9,7 +9,7 @@ use Rattle.rules.specs.Charge.{Charge, loadsOf, lastEnd}
 use Rattle.rules.specs.Search.{earliest, earliestUnder, firstUnbalanced}
 use Rattle.rules.specs.Replan.{starts, placeAll, latest, round, roundsFrom, byLines}
 use Rattle.rules.specs.Judgement.{restarted, judged}
-use Rattle.rules.specs.Calls.{State, planned, order, move, offer, opening, ordering, moving, offering}
+use Rattle.rules.specs.Calls.{settings, State, planned, order, move, offer, opening, ordering, moving, offering}
 use Rattle.guarantee.specs.Past.{Gives}
 use Rattle.guarantee.specs.DemandTwo.{Better, Taken, GivenStarts, DemandTwo}
 use Rattle.guarantee.specs.Demands.{reached}
@@ -36,7 +36,7 @@ module _ (gives : Gives) (s : State) (ss : List ℕ) (demand : DemandTwo gives s
 
 -- at clock 1 ticket 2 waits for 1 and ticket 3, due at 11, for 11
 abbrev waitingSince : State
-waitingSince = reached 1 100 (order 1 1 60 ∷ order 1 10 60 ∷ order 1 10 11 ∷ move 1 lentList ∷ [])
+waitingSince = reached (settings 1 100) (order 1 1 60 ∷ order 1 10 60 ∷ order 1 10 11 ∷ move 1 lentList ∷ [])
 
 -- `not-before-clock`
 untested-three : DemandTwo (untested 3) waitingSince → ⊥
@@ -53,7 +53,7 @@ untested-four d =
 
 -- as `threeOrders`, and ticket 4 on line 1, due at 15, from 10 to 20
 abbrev stationFour : State
-stationFour = reached 1 100 (order 1 10 60 ∷ order 2 10 60 ∷ order 3 10 60 ∷ order 1 10 15 ∷ [])
+stationFour = reached (settings 1 100) (order 1 10 60 ∷ order 2 10 60 ∷ order 3 10 60 ∷ order 1 10 15 ∷ [])
 
 -- `sound .limit`: N = 1
 untested-five : DemandTwo (untested 5) stationFour → ⊥
@@ -64,11 +64,11 @@ untested-five d =
     omega arith
 
 -- `sound .balance`: N = 2, D = 1
-untested-six : DemandTwo (untested 6) (reached 2 50 ordersH) → ⊥
+untested-six : DemandTwo (untested 6) (reached (settings 2 50) ordersH) → ⊥
 unfolding limited balanced sound earliest opening ordering
 untested-six d =
     let h : 2 ≤ 1
-    = offer-better (untested 6) (reached 2 50 ordersH) (0 ∷ 0 ∷ []) d (_, _, _, refl)
+    = offer-better (untested 6) (reached (settings 2 50) ordersH) (0 ∷ 0 ∷ []) d (_, _, _, refl)
     .sound .balance 1 2 0 line-one line-two (omega arith) in
     omega arith
 
@@ -87,7 +87,7 @@ never-taken : DemandTwo neverTaken stationH → ⊥
 unfolding limited balanced sound earliest judged opening ordering offering
 never-taken d =
     not-taken 6 5 5 0
-    (d .offers offerJ .taken .1 (demand-two 1 100 ordersH .offers offerJ .taken .0 (_, _, _, refl)))
+    (d .offers offerJ .taken .1 (demand-two (settings 1 100) ordersH .offers offerJ .taken .0 (_, _, _, refl)))
 
 -- What an offer leaves
 
@@ -103,7 +103,7 @@ taken-later d =
 -- at clock 2 ticket 1 charges on line 2 from 0 to 10, tickets 3 and 4, due at 12, wait for 2 and 12
 abbrev begunAndWaiting : State
 begunAndWaiting =
-    reached 1 100 (order 2 10 60 ∷ order 1 2 60 ∷ order 1 10 60 ∷ order 1 10 12 ∷ move 2 lentList ∷ [])
+    reached (settings 1 100) (order 2 10 60 ∷ order 1 2 60 ∷ order 1 10 60 ∷ order 1 10 12 ∷ move 2 lentList ∷ [])
 
 -- `begun-same`: ticket 1 ends at 10
 begun-put-off : DemandTwo begunPutOff begunAndWaiting → ⊥
@@ -154,14 +154,14 @@ always-kept d =
     omega arith
 
 -- `answer`: case l, one round, cause 7
-spent-after-none : DemandTwo spentAfterNone (opening 1 100 .state) → ⊥
+spent-after-none : DemandTwo spentAfterNone (opening (settings 1 100) .state) → ⊥
 unfolding limited balanced sound earliest earliestUnder firstUnbalanced placeAll round roundsFrom byLines judged opening
 spent-after-none d =
     let h : planned 2 0 0 0 ≡ planned 7 0 0 1 = d .replans-lines 1 .answer (refl, tt) in
     let z : _≡_ {A = ℕ} 2 7 = cc in
     omega arith
 
-rounds-invented : DemandTwo roundsInvented (opening 1 100 .state) → ⊥
+rounds-invented : DemandTwo roundsInvented (opening (settings 1 100) .state) → ⊥
 unfolding limited balanced sound earliest earliestUnder firstUnbalanced placeAll round roundsFrom byLines judged opening
 rounds-invented d =
     let h : planned 7 0 0 3 ≡ planned 7 0 0 1 = d .replans-lines 3 .answer (refl, tt) in

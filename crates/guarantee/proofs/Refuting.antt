@@ -5,7 +5,7 @@ use mathlib.Core.List.{List, [], _∷_}
 use native.Mathlib.Omega.{arith}
 use lib.ListN.{replicate}
 use Rattle.rules.specs.Load.{IsLine}
-use Rattle.rules.specs.Calls.{State, Call, order, move, offer, replanLatest, replanLines, enquire, ordering, step}
+use Rattle.rules.specs.Calls.{settings, State, Call, order, move, offer, replanLatest, replanLines, enquire, ordering, step}
 use Rattle.guarantee.specs.Demands.{reached}
 use Rattle.guarantee.specs.Parts.{withOrders}
 
@@ -36,4 +36,4 @@ abbrev pub ordersH : List Call
 ordersH = order 1 10 60 ∷ order 1 10 15 ∷ []
 
 abbrev pub stationH : State
-stationH = reached 1 100 ordersH
+stationH = reached (settings 1 100) ordersH

@@ -5,7 +5,7 @@ use Prim.Native.Nat.{ℕ}
 use mathlib.Core.Bool.{Bool, true, false}
 use mathlib.Core.List.{List, [], _∷_}
 use Rattle.rules.specs.Basics.{Each}
-use Rattle.rules.specs.Calls.{State, Answer, refused, opened, ordered, moved, planned, waiting, charging, Result, boundOf, fresh, openRefusals, Call, order, move, offer, replanLatest, replanLines, enquire, lent, refusals}
+use Rattle.rules.specs.Calls.{Settings, settings, State, Answer, refused, opened, ordered, moved, planned, waiting, charging, Result, boundOf, fresh, openRefusals, Call, order, move, offer, replanLatest, replanLines, enquire, lent, refusals}
 use Rattle.guarantee.specs.Past.{Gives, isRefused}
 
 -- k is the number of the first condition that applies: it applies, and none listed before it does.
@@ -42,7 +42,7 @@ pub record DemandOne (gives : Gives) (s : State) (call : Call) : Type 0 where
 
 -- an opening: refusals 1 to 3, "beside a refused opening stands the fresh station of 1, 100";
 -- `opens` is what an opening gives
-pub record DemandOneOpening (opens : ℕ → ℕ → Result) (n c : ℕ) : Type 0 where
-  pub refused-by : RefusedBy (openRefusals n c) (fresh 1 100) [] (opens n c)
+pub record DemandOneOpening (opens : Settings → Result) (x : Settings) : Type 0 where
+  pub refused-by : RefusedBy (openRefusals x) (fresh (settings 1 100)) [] (opens x)
   pub answered :
-      NoneApplies (openRefusals n c) → (opens n c .answer ≡ opened (boundOf n c)) × (opens n c .state ≡ fresh n c)
+      NoneApplies (openRefusals x) → (opens x .answer ≡ opened (fresh x .bound)) × (opens x .state ≡ fresh x)

@@ -7,7 +7,7 @@ use Rattle.rules.specs.Load.{limited, balanced, sound}
 use Rattle.rules.specs.Search.{earliest}
 use Rattle.rules.specs.Replan.{placeAll, latest}
 use Rattle.rules.specs.Judgement.{judged}
-use Rattle.rules.specs.Calls.{refused, waiting, charging, order, move, offer, replanLatest, enquire, opening, ordering, moving, offering, replanningLatest, enquiring, step}
+use Rattle.rules.specs.Calls.{settings, refused, waiting, charging, order, move, offer, replanLatest, enquire, opening, ordering, moving, offering, replanningLatest, enquiring, step}
 use Rattle.guarantee.specs.Past.{Order, Past, past, timesReported, enquiry, startOf, countIn, totalTime, lastMinute}
 
 -- N = D = 1. The orders of case h, replanned: ticket 2
@@ -16,7 +16,7 @@ use Rattle.guarantee.specs.Past.{Order, Past, past, timesReported, enqui
 -- tickets 2 and 3 are dropped.
 abbrev example : Past
 example =
-    past step (opening 1 100 .state)
+    past step (opening (settings 1 100) .state)
     (order 1 10 60
     ∷ order 1 10 15
     ∷ replanLatest

@@ -4,7 +4,7 @@ use mathlib.Core.Bool.{Bool, not, cond}
 use mathlib.Core.List.{List, [], _∷_}
 use lib.Dec.{ltb, eqb}
 use Rattle.rules.specs.Basics.{firstOf, keep, sortedBy}
-use Rattle.rules.specs.Calls.{State, refused, opened, waiting, Result, answering, boundOf, fresh, openRefusals, opening, refusals, ordering, moving, step}
+use Rattle.rules.specs.Calls.{Settings, settings, State, refused, opened, waiting, Result, answering, boundOf, fresh, openRefusals, opening, refusals, ordering, moving, step}
 use Rattle.guarantee.specs.Past.{Gives, isRefused}
 use Rattle.guarantee.specs.Parts.{withRefusals, withOrders, withMoves, saying, leaving, writing, ticketing}
 
@@ -50,24 +50,24 @@ ticketNotSaid = withOrders (λ s line p d. saying (waiting (s .clock)) (ordering
 -- Openings
 
 abbrev openedBy : List (Bool × ℕ) → ℕ → State → Result
-openedBy rows d s = answering (firstOf rows) (fresh 1 100) [] (record { answer = opened d; state = s; list = [] })
+openedBy rows d s = answering (firstOf rows) (fresh (settings 1 100)) [] (record { answer = opened d; state = s; list = [] })
 
 -- c × N below 100 is accepted
-abbrev pub smallProduct : ℕ → ℕ → Result
-smallProduct n c = openedBy (unnumbered 3 (openRefusals n c)) (boundOf n c) (fresh n c)
+abbrev pub smallProduct : Settings → Result
+smallProduct x = openedBy (unnumbered 3 (openRefusals x)) (fresh x .bound) (fresh x)
 
 -- beside a refused opening stands what was asked for
-abbrev pub openedAsAsked : ℕ → ℕ → Result
-openedAsAsked n c = leaving (fresh n c) (opening n c)
+abbrev pub openedAsAsked : Settings → Result
+openedAsAsked x = leaving (fresh x) (opening x)
 
 -- an opening that writes a list
-abbrev pub openingWrites : ℕ → ℕ → Result
-openingWrites n c = writing (0 ∷ []) (opening n c)
+abbrev pub openingWrites : Settings → Result
+openingWrites x = writing (0 ∷ []) (opening x)
 
 -- N said for D
-abbrev pub limitSaid : ℕ → ℕ → Result
-limitSaid n c = openedBy (openRefusals n c) n (fresh n c)
+abbrev pub limitSaid : Settings → Result
+limitSaid x = openedBy (openRefusals x) (x .limit) (fresh x)
 
 -- the percentage is not kept
-abbrev pub percentLost : ℕ → ℕ → Result
-percentLost n c = openedBy (openRefusals n c) (boundOf n c) (fresh n 100)
+abbrev pub percentLost : Settings → Result
+percentLost x = openedBy (openRefusals x) (fresh x .bound) (fresh (settings (x .limit) 100))

@@ -10,7 +10,7 @@ use borrow.Author.Tests.{ltb-false, leb-false, not-false, eqb-true}
 use Rattle.rules.specs.Basics.{firstOf, some}
 use Rattle.rules.specs.Load.{IsLine}
 use Rattle.rules.specs.Charge.{Charge, waitingCharges}
-use Rattle.rules.specs.Calls.{State, openRefusals, Call, order, move, offer, replanLatest, replanLines, enquire, refusals}
+use Rattle.rules.specs.Calls.{Settings, State, openRefusals, Call, order, move, offer, replanLatest, replanLines, enquire, refusals}
 use Rattle.rules.proofs.Ranges.{or-left, or-right}
 use Rattle.rules.proofs.Tables.{NoneHolds, Numbered, firstOf-none}
 
@@ -27,24 +27,24 @@ refusals-numbered s (enquire ticket) = omega arith
 pub refusals-none : (s : State) (c : Call) → firstOf (refusals s c) ≡ 0 → NoneHolds (refusals s c)
 refusals-none s c e = firstOf-none (refusals s c) (refusals-numbered s c) e
 
-pub openRefusals-numbered : (n c : ℕ) → Numbered (openRefusals n c)
-openRefusals-numbered n c = omega arith
+pub openRefusals-numbered : (x : Settings) → Numbered (openRefusals x)
+openRefusals-numbered x = omega arith
 
 -- An opening
 
-pub record OpenGranted (n c : ℕ) : Type 0 where
-  pub limit-low : 1 ≤ n
-  pub limit-high : n ≤ 60
-  pub percent-high : c ≤ 100
-  pub bound-enough : 100 ≤ c * n
+pub record OpenGranted (x : Settings) : Type 0 where
+  pub limit-low : 1 ≤ x .limit
+  pub limit-high : x .limit ≤ 60
+  pub percent-high : x .percent ≤ 100
+  pub bound-enough : 100 ≤ x .percent * x .limit
 
-pub open-granted : (n c : ℕ) → NoneHolds (openRefusals n c) → OpenGranted n c
-open-granted n c (limit, (percent, (enough, end))) =
+pub open-granted : (x : Settings) → NoneHolds (openRefusals x) → OpenGranted x
+open-granted x (limit, (percent, (enough, end))) =
     record {
-      limit-low = ltb-false n 1 (or-left (ltb n 1) (ltb 60 n) limit);
-      limit-high = ltb-false 60 n (or-right (ltb n 1) (ltb 60 n) limit);
-      percent-high = ltb-false 100 c percent;
-      bound-enough = ltb-false (c * n) 100 enough;
+      limit-low = ltb-false (x .limit) 1 (or-left (ltb (x .limit) 1) (ltb 60 (x .limit)) limit);
+      limit-high = ltb-false 60 (x .limit) (or-right (ltb (x .limit) 1) (ltb 60 (x .limit)) limit);
+      percent-high = ltb-false 100 (x .percent) percent;
+      bound-enough = ltb-false (x .percent * x .limit) 100 enough;
     }
 
 -- The calls

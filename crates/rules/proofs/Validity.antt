@@ -9,7 +9,7 @@ use Rattle.rules.specs.Charge.{loadsOf}
 use Rattle.rules.specs.Search.{earliest}
 use Rattle.rules.specs.Replan.{Proposal, starts, none, latest, byLines}
 use Rattle.rules.specs.Judgement.{judged}
-use Rattle.rules.specs.Calls.{State, limitsOf, Result, answering, opened, fresh, boundOf, openRefusals, opening, Call, order, move, offer, replanLatest, replanLines, enquire, refusals, newCharge, orderedAt, ordering, moving, decided, tested, offering, replanningLatest, replanningLines, enquiring, step}
+use Rattle.rules.specs.Calls.{Settings, settings, State, limitsOf, Result, answering, opened, fresh, boundOf, openRefusals, opening, Call, order, move, offer, replanLatest, replanLines, enquire, refusals, newCharge, orderedAt, ordering, moving, decided, tested, offering, replanningLatest, replanningLines, enquiring, step}
 use Rattle.rules.specs.Valid.{ValidState}
 use Rattle.rules.proofs.Tables.{firstOf-none}
 use Rattle.rules.proofs.Granted.{refusals-none, openRefusals-numbered, OpenGranted, open-granted, order-granted, move-granted}
@@ -20,9 +20,9 @@ use Rattle.rules.proofs.Restarts.{plan-valid}
 
 -- The opening
 
-fresh-valid : (n c : ℕ) → OpenGranted n c → ValidState (fresh n c)
+fresh-valid : (x : Settings) → OpenGranted x → ValidState (fresh x)
 unfolding sound
-fresh-valid n c g =
+fresh-valid x g =
     record {
       limit-low = g .limit-low;
       limit-high = g .limit-high;
@@ -39,18 +39,18 @@ fresh-valid n c g =
       sound-on = refl;
     }
 
-pub opening-valid : (n c : ℕ) → ValidState (opening n c .state)
+pub opening-valid : (x : Settings) → ValidState (opening x .state)
 unfolding opening
-opening-valid n c = go (firstOf (openRefusals n c)) refl
+opening-valid x = go (firstOf (openRefusals x)) refl
   where
     go :
         (i : ℕ)
-        → firstOf (openRefusals n c) ≡ i
+        → firstOf (openRefusals x) ≡ i
         → ValidState
-        (answering i (fresh 1 100) [] (record { answer = opened (boundOf n c); state = fresh n c; list = [] }) .state)
-    go zero e = fresh-valid n c (open-granted n c (firstOf-none (openRefusals n c) (openRefusals-numbered n c) e))
+        (answering i (fresh (settings 1 100)) [] (record { answer = opened (fresh x .bound); state = fresh x; list = [] }) .state)
+    go zero e = fresh-valid x (open-granted x (firstOf-none (openRefusals x) (openRefusals-numbered x) e))
     go (suc i) e =
-        fresh-valid 1 100
+        fresh-valid (settings 1 100)
         (record { limit-low = omega arith; limit-high = omega arith; percent-high = omega arith; bound-enough = omega arith })
 
 -- All calls

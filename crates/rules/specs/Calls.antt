@@ -62,29 +62,45 @@ answering (suc k) s list r = record { answer = refused (suc k); state = s; list 
 
 -- Open
 
+-- what an opening is given: the limit N and the percentage c
+pub record Settings : Type 0 where
+  pub limit : ℕ
+  pub percent : ℕ
+
+abbrev pub settings : ℕ → ℕ → Settings
+settings n c = record { limit = n; percent = c }
+
 -- "D is c × N / 100 rounded down."
 abbrev pub boundOf : ℕ → ℕ → ℕ
 boundOf n c = c * n / 100
 
 -- "A fresh station: clock 0, next ticket 1, no charges."
-abbrev pub fresh : ℕ → ℕ → State
-fresh n c = record { limit = n; percent = c; bound = boundOf n c; clock = 0; next = 1; charges = [] }
+abbrev pub fresh : Settings → State
+fresh x =
+    record {
+      limit = x .limit;
+      percent = x .percent;
+      bound = boundOf (x .limit) (x .percent);
+      clock = 0;
+      next = 1;
+      charges = [];
+    }
 
-abbrev pub openRefusals : ℕ → ℕ → List (Bool × ℕ)
-openRefusals n c =
+abbrev pub openRefusals : Settings → List (Bool × ℕ)
+openRefusals x =
     -- "N not 1 to 60"
-    (ltb n 1 || ltb 60 n, 1)
+    (ltb (x .limit) 1 || ltb 60 (x .limit), 1)
     -- "c above 100"
-    ∷ (ltb 100 c, 2)
+    ∷ (ltb 100 (x .percent), 2)
     -- "c × N below 100"
-    ∷ (ltb (c * n) 100, 3)
+    ∷ (ltb (x .percent * x .limit) 100, 3)
     ∷ []
 
 -- "Beside a refused opening stands the fresh station of 1, 100."
-unfoldable pub opening : ℕ → ℕ → Result
-opening n c =
-    answering (firstOf (openRefusals n c)) (fresh 1 100) []
-    (record { answer = opened (boundOf n c); state = fresh n c; list = [] })
+unfoldable pub opening : Settings → Result
+opening x =
+    answering (firstOf (openRefusals x)) (fresh (settings 1 100)) []
+    (record { answer = opened (fresh x .bound); state = fresh x; list = [] })
 
 -- The calls of a station that stands.
 pub data Call : Type 0 where

@@ -6,7 +6,7 @@ use Rattle.rules.specs.Charge.{waitingCharges}
 use Rattle.rules.specs.Search.{earliest, earliestUnder, firstUnbalanced}
 use Rattle.rules.specs.Replan.{byLatestStart, placeAll, latest, round, roundsFrom, byLines}
 use Rattle.rules.specs.Judgement.{judged}
-use Rattle.rules.specs.Calls.{State, refused, ordered, opening, order, run, ordering, moving, offering, replanningLatest, replanningLines, enquiring}
+use Rattle.rules.specs.Calls.{settings, State, refused, ordered, opening, order, run, ordering, moving, offering, replanningLatest, replanningLines, enquiring}
 use Rattle.rules.specs.Entry.{Case, computed, stateAfter}
 use Rattle.rules.specs.CasesAToL.{callsG, casesAToL}
 use Rattle.rules.specs.CasesAtEdges.{casesAtEdges}
@@ -20,7 +20,7 @@ cases-hold = refl
 
 -- the station of case g before its replan
 abbrev stateG : State
-stateG = let fresh : State = opening 2 50 .state in stateAfter fresh (run fresh callsG)
+stateG = let fresh : State = opening (settings 2 50) .state in stateAfter fresh (run fresh callsG)
 
 -- case g: "ticket 7 goes first"
 pub ticket-7-first : map (λ c. c .ticket) (byLatestStart (waitingCharges (stateG .clock) (stateG .charges))) ≡ 7 ∷ 5 ∷ []

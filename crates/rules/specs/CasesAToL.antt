@@ -1,7 +1,7 @@
 -- Cases a to l of document 01, each with the results that the document gives.
 use Prim.Native.Nat.{ℕ}
 use mathlib.Core.List.{List, [], _∷_, _++_, map}
-use Rattle.rules.specs.Calls.{refused, opened, ordered, moved, planned, waiting, charging, Call, order, move, offer, replanLatest, replanLines, enquire}
+use Rattle.rules.specs.Calls.{settings, refused, opened, ordered, moved, planned, waiting, charging, Call, order, move, offer, replanLatest, replanLines, enquire}
 use Rattle.rules.specs.Entry.{Given, gives, givesWith, Minute, Case, lentList, startsFrom, reports, opens, case}
 
 -- the orders of case e, with what they give
@@ -43,8 +43,7 @@ casesAToL =
     ∷ case 2 50 1 (ordersE ++ (move 1 lentList ∷ [])) (givenE ++ (givenF ∷ []))
     -- g
     ∷ record {
-      limit = 2;
-      percent = 50;
+      settings = settings 2 50;
       calls = callsG ++ (replanLatest ∷ []);
       opening = opened 1;
       given = givenE ++ (givenF ∷ gives (ordered 7 1) ∷ gives (planned 1 0 0 0) ∷ []);

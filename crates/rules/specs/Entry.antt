@@ -7,7 +7,7 @@ use lib.ListN.{length, replicate}
 use Rattle.rules.specs.Basics.{keep}
 use Rattle.rules.specs.Load.{count}
 use Rattle.rules.specs.Charge.{Charge, loadsOf}
-use Rattle.rules.specs.Calls.{State, Answer, opened, ordered, Result, opening, Call, run}
+use Rattle.rules.specs.Calls.{Settings, settings, State, Answer, opened, ordered, Result, opening, Call, run}
 
 -- what a call gave: the answer, and the lent list whole
 pub record Given : Type 0 where
@@ -28,10 +28,9 @@ pub record Minute : Type 0 where
   pub two : ℕ
   pub three : ℕ
 
--- an entry: the opening's numbers, the calls, and what they have to give; the minutes are those to be counted at the end
+-- an entry: the opening's settings, the calls, and what they have to give; the minutes are those to be counted at the end
 pub record Case : Type 0 where
-  pub limit : ℕ
-  pub percent : ℕ
+  pub settings : Settings
   pub calls : List Call
   pub opening : Answer
   pub given : List Given
@@ -59,11 +58,10 @@ countedIn cs m =
 
 abbrev pub computed : Case → Case
 computed e =
-    let opened : Result = opening (e .limit) (e .percent) in
+    let opened : Result = opening (e .settings) in
     let results : List Result = run (opened .state) (e .calls) in
     record {
-      limit = e .limit;
-      percent = e .percent;
+      settings = e .settings;
       calls = e .calls;
       opening = opened .answer;
       given = map gave results;
@@ -84,8 +82,8 @@ abbrev pub reports : Answer → List ℕ → Given
 reports a xs = givesWith a (xs ++ replicate (360 - length xs) 7)
 
 abbrev pub opens : ℕ → ℕ → Answer → Case
-opens n c a = record { limit = n; percent = c; calls = []; opening = a; given = []; minutes = [] }
+opens n c a = record { settings = settings n c; calls = []; opening = a; given = []; minutes = [] }
 
 abbrev pub case : ℕ → ℕ → ℕ → List Call → List Given → Case
 case n c d calls given =
-    record { limit = n; percent = c; calls = calls; opening = opened d; given = given; minutes = [] }
+    record { settings = settings n c; calls = calls; opening = opened d; given = given; minutes = [] }

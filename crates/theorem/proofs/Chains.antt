@@ -56,12 +56,12 @@ chain-left h s [] e = e
 chain-left h s (m ∷ ms) e = chain-left (extended h (callMade m) (given m)) (m .station) ms refl
 
 pub theorem : Theorem
-theorem n c answer first opens calls chain =
+theorem x answer first opens calls chain =
     let v : Valid first = opens .valid in
-    let start : view first ≡ opening n c .state = ap (λ (r : Result). r .state) (opens .result) in
+    let start : view first ≡ opening x .state = ap (λ (r : Result). r .state) (opens .result) in
     let seen : known (beginning (view first)) calls ≡ past step (view first) (map callMade calls)
     = chain-known (beginning (view first)) first calls refl v chain in
-    let end : reached n c (map callMade calls) ≡ view (left first calls)
+    let end : reached x (map callMade calls) ≡ view (left first calls)
     = ap (λ (s : State). past step s (map callMade calls) .station) (sym start)
     ∙ (ap (λ (h : Past). h .station) (sym seen) ∙ chain-left (beginning (view first)) first calls refl) in
     record {
@@ -71,10 +71,10 @@ theorem n c answer first opens calls chain =
       answers = subst (λ (s : State). map given calls ≡ run s (map callMade calls)) start (chain-answers first calls v chain);
       next = λ m. one-step (left first calls) m (left-valid first calls v chain);
       seen = seen;
-      one-opening = demands .one-opening n c;
-      one = λ call. subst (λ (s : State). DemandOne step s call) end (demands .one n c (map callMade calls) call);
-      two = subst (λ (s : State). DemandTwo step s) end (demands .two n c (map callMade calls));
+      one-opening = demands .one-opening x;
+      one = λ call. subst (λ (s : State). DemandOne step s call) end (demands .one x (map callMade calls) call);
+      two = subst (λ (s : State). DemandTwo step s) end (demands .two x (map callMade calls));
       three =
           subst (λ (s : State). DemandThree step s (map callMade calls)) (sym start)
-          (demands .three n c (map callMade calls));
+          (demands .three x (map callMade calls));
     }

@@ -9,7 +9,7 @@ use Prim.Native.Nat.{ℕ}
 use mathlib.Core.List.{List, [], _∷_, map}
 use Rattle.rules.specs.Basics.{Each}
 use Rattle.rules.specs.Calls as rules
-use Rattle.rules.specs.Calls.{Result, opening, run, step}
+use Rattle.rules.specs.Calls.{Settings, Result, opening, run, step}
 use Rattle.guarantee.specs.Past.{Past, beginning, extended, past}
 use Rattle.guarantee.specs.DemandOne.{DemandOne, DemandOneOpening}
 use Rattle.guarantee.specs.DemandTwo.{DemandTwo}
@@ -47,7 +47,7 @@ made call starts report reported r =
 
 -- The contract of `open`: it asks nothing.
 abbrev pub MeetsOpen : ℕ → ℕ → OpenAnswer → Station → Type 0
-MeetsOpen n c answer first = Gives (opening n c) (openAnswer answer) first []
+MeetsOpen x answer first = Gives (opening x) (openAnswer answer) first []
 
 -- The contract of `apply`: it asks a valid station.
 abbrev pub MeetsApply : Station → Made → Type 0
@@ -77,19 +77,19 @@ known h [] = h
 known h (m ∷ ms) = known (extended h (callMade m) (given m)) ms
 
 -- What is proved of an opening with n and c that gave `answer` and `first`, and of the calls made then.
-pub record Guaranteed (n c : ℕ) (answer : OpenAnswer) (first : Station) (calls : List Made) : Type 0 where
+pub record Guaranteed (x : Settings) (answer : OpenAnswer) (first : Station) (calls : List Made) : Type 0 where
   -- every station of the chain is valid, so that what `apply` asks is always met
   pub first-valid : Valid first
   pub valid : Each (λ m. Valid (m .station)) calls
   -- every answer and every list is that of the rules
-  pub opened : openAnswer answer ≡ opening n c .answer
-  pub answers : map given calls ≡ run (opening n c .state) (map callMade calls)
+  pub opened : openAnswer answer ≡ opening x .answer
+  pub answers : map given calls ≡ run (opening x .state) (map callMade calls)
   -- and so is what any further call would give: `step` below is what the program does
   pub next : (m : Made) → MeetsApply (left first calls) m → given m ≡ step (view (left first calls)) (callMade m)
   -- what demand 3 reads off a list of calls is what was seen of these
   pub seen : known (beginning (view first)) calls ≡ past step (view first) (map callMade calls)
   -- Demand 1, of the opening and of every call made to the station that is left
-  pub one-opening : DemandOneOpening n c
+  pub one-opening : DemandOneOpening x
   pub one : (call : rules.Call) → DemandOne step (view (left first calls)) call
   -- Demand 2, of the station that is left
   pub two : DemandTwo step (view (left first calls))
@@ -98,8 +98,8 @@ pub record Guaranteed (n c : ℕ) (answer : OpenAnswer) (first : Station) (calls
 
 abbrev pub Theorem : Type 0
 Theorem =
-    (n c : ℕ) (answer : OpenAnswer) (first : Station)
-    → MeetsOpen n c answer first
+    (x : Settings) (answer : OpenAnswer) (first : Station)
+    → MeetsOpen x answer first
     → (calls : List Made)
     → Chain first calls
-    → Guaranteed n c answer first calls
+    → Guaranteed x answer first calls
