@@ -2,12 +2,14 @@
 use Prim.Native.Nat.{ℕ}
 use mathlib.Core.Path.{_≡_}
 use mathlib.Core.List.{List}
-use Rattle.rules.specs.Calls.{State, Answer, refused, opened, ordered, moved, planned, waiting, charging, Result, tested}
+use Rattle.rules.specs.Calls as rules
+use Rattle.rules.specs.Calls.{State, settings, Answer, refused, opened, ordered, moved, planned, waiting, charging, Result, tested}
 use Rattle.rules.specs.Replan.{Proposal}
 use Rattle.charges.specs.Arrays.{Columns}
 use Rattle.station.specs.declared.Station.{Station}
-use Rattle.station.specs.declared.OpenAnswer.{OpenAnswer}
-use Rattle.station.specs.declared.OpenAnswer.the-variants.{Opened, Refused as OpenRefused}
+use Rattle.station.specs.declared.open.Settings.{Settings}
+use Rattle.station.specs.declared.open.OpenAnswer.{OpenAnswer}
+use Rattle.station.specs.declared.open.OpenAnswer.the-variants.{Opened, Refused as OpenRefused}
 use Rattle.station.specs.declared.order.OrderAnswer.{OrderAnswer}
 use Rattle.station.specs.declared.order.OrderAnswer.the-variants.{Ordered, Refused as OrderRefused}
 use Rattle.station.specs.declared.clock.MoveAnswer.{MoveAnswer}
@@ -31,6 +33,10 @@ pub record Gives (r : Result) (answer : Answer) (s : Station) (list : List ℕ) 
 pub record Tests (s : State) (rounds : ℕ) (p : Proposal) (answer : Answer) (next : Station) : Type 0 where
   pub result : (list : List ℕ) → giving answer next list ≡ tested s rounds p list
   pub columns : Columns (next .charges)
+
+-- the settings of an opening, in the words of the rules
+abbrev pub settingsOf : Settings → rules.Settings
+settingsOf x = settings (x .limit) (x .percent)
 
 abbrev pub openAnswer : OpenAnswer → Answer
 openAnswer (Opened bound) = opened bound

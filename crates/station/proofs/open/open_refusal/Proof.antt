@@ -1,8 +1,8 @@
 use borrow.Author.Tests.{lt-ltb, le-ltb}
 use Rattle.station.proofs.Opened.{product-most}
 use native.Mathlib.Omega.{arith}
-use Rattle.station.proofs.open_refusal.Statement.{statement}
-use Rattle.station.proofs.open_refusal.Tie as tie
+use Rattle.station.proofs.open.open_refusal.Statement.{statement}
+use Rattle.station.proofs.open.open_refusal.Tie as tie
 
 returns : tie.Need-returns
 returns c = simp (lt-ltb _ _ (c .if1 .taken))

@@ -1,11 +1,12 @@
 use native.Mathlib.Omega.{arith}
-use Rattle.station.proofs.Opened.{product-most, view-fresh}
+use Rattle.station.proofs.Opened.{opens, product-most, view-fresh}
 use borrow.Author.Needs.{needs}
-use Rattle.station.proofs.fresh.Statement.{statement}
-use Rattle.station.proofs.fresh.Tie as tie
+use Rattle.station.proofs.open.fresh.Statement.{statement}
+use Rattle.station.proofs.open.fresh.Tie as tie
 
 mul-t3 : tie.Need-mul-t3
-mul-t3 c = omega (arith, product-most _ _ (c .pre .1) (c .pre .2))
+mul-t3 c =
+    let granted = opens _ (c .pre) in omega (arith, product-most _ _ (granted .limit-high) (granted .percent-high))
 
 none-requires : tie.Need-none-requires
 none-requires c κs = search needs
