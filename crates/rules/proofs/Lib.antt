@@ -1,3 +1,4 @@
+pub mod Cases
 pub mod Ranges
 pub mod Lists
 pub mod Counts

@@ -27,6 +27,7 @@ abbrev fullReport : ℕ → ℕ → List ℕ
 fullReport zero i = []
 fullReport (suc k) i = i ∷ 0 ∷ fullReport k (suc i)
 
+-- The smallest start
 abbrev searches : List Case
 searches =
     -- Balance only at the start: ticket 4 would stand beside 1, 1 in minute 0, but lines 2 and 3 end after minute 4, and
@@ -40,6 +41,7 @@ searches =
     (startsFrom 1 (0 ∷ 0 ∷ 10 ∷ []))
     ∷ []
 
+-- Refusals, and what is just not refused
 abbrev refusalsAtEdges : List Case
 refusalsAtEdges =
     -- "N not 1 to 60", "c above 100"; a, d and h open at 1, 60, 100 and with a product of 100
@@ -83,6 +85,7 @@ refusalsAtEdges =
     ++ (gives (refused 13) ∷ givesWith (moved 180 180) (fullReport 180 1) ∷ gives (ordered 181 1) ∷ []))
     ∷ []
 
+-- Clock moves
 abbrev moves : List Case
 moves =
     -- A charge that ends at the target is dropped, one that ends a minute later is not; then the clock cannot go back.
@@ -100,6 +103,7 @@ moves =
     (givenH ++ (gives (planned 0 5 0 0) ∷ reports (moved 2 1) (2 ∷ 0 ∷ 1 ∷ 10 ∷ []) ∷ []))
     ∷ []
 
+-- Offers and replans
 abbrev plans : List Case
 plans =
     -- The first cause that applies. Starts 0, 2, 5, lateness 3, last end 8. At clock 2 ticket 2 still waits, and the move
@@ -132,7 +136,8 @@ plans =
     ∷ replanned ordersTied replanLatest (0 ∷ 10 ∷ 14 ∷ []) (planned 0 4 0 0) (14, 0, 4)
     ∷ replanned ordersTied (replanLines 1) (0 ∷ 10 ∷ 14 ∷ []) (planned 0 4 0 1) (14, 0, 4)
     -- A cap lowered from t itself: both go to 0 in the first round, 2, 0, 0, and the cap of 1 holds in minute 0 too, so
-    -- that the second round has 0 and 1, as held. With a cap of 2 left in minute 0 the second round would be the first.
+    -- that the second round has 0 and 1, as held: cause 7. With a cap of 2 left in minute 0 the second round would end as
+    -- the first, and the allowance be spent: cause 2.
     ∷ case 2 50 1
     (order 1 1 60 ∷ order 1 1 60 ∷ replanLines 2 ∷ [])
     (startsFrom 1 (0 ∷ 1 ∷ []) ++ (gives (planned 7 0 0 2) ∷ []))

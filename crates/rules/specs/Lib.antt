@@ -9,4 +9,3 @@ pub mod Valid
 pub mod Entry
 pub mod CasesAToL
 pub mod CasesAtEdges
-pub mod Cases
