@@ -82,7 +82,7 @@ module _ (s : State) (valid : ValidState s) (ss : List ℕ) where
         sound =
             record { limit = λ l t j h. m .limit t h l j; balance = λ l n t j i h. m .balance t h l n j i };
         no-later = m .not-later;
-        less-late = m .less-late;
+        less-late = omega (arith, m .less-late);
       }
 
   better-meets :
@@ -94,7 +94,7 @@ module _ (s : State) (valid : ValidState s) (ss : List ℕ) where
         not-later = b .no-later;
         limit = λ t h l j. b .sound .limit l t j h;
         balance = λ t h l m j i. b .sound .balance l m t j i h;
-        less-late = b .less-late;
+        less-late = omega (arith, b .less-late);
       }
 
 -- The test of a plan

@@ -25,7 +25,11 @@ grantedBy p s replanLatest = p .replans-latest s
 grantedBy p s (replanLines allowance) = p .replans-lines s allowance
 grantedBy p s (enquire ticket) = p .enquiries s ticket
 
-abbrev made :
+-- the station with these parts
+abbrev made : Parts → Gives
+made p s c = answering (firstOf (p .refuses s c)) s (lent c) (grantedBy p s c)
+
+abbrev parts :
     (State → Call → List (Bool × ℕ))
     → (State → ℕ → ℕ → ℕ → Result)
     → (State → ℕ → List ℕ → Result)
@@ -33,45 +37,43 @@ abbrev made :
     → (State → Result)
     → (State → ℕ → Result)
     → (State → ℕ → Result)
-    → Gives
-made r o m f a b e s c =
-    let p : Parts
-    = record {
-      refuses = r;
-      orders = o;
-      moves = m;
-      offers = f;
-      replans-latest = a;
-      replans-lines = b;
-      enquiries = e;
-    } in
-    answering (firstOf (p .refuses s c)) s (lent c) (grantedBy p s c)
+    → Parts
+parts refuses orders moves offers latest lines enquiries =
+    record {
+      refuses = refuses;
+      orders = orders;
+      moves = moves;
+      offers = offers;
+      replans-latest = latest;
+      replans-lines = lines;
+      enquiries = enquiries;
+    }
 
 -- One part changed
 
 abbrev pub withRefusals : (State → Call → List (Bool × ℕ)) → Gives
-withRefusals r = made r ordering moving offering replanningLatest replanningLines enquiring
+withRefusals r = made (parts r ordering moving offering replanningLatest replanningLines enquiring)
 
 abbrev pub withOrders : (State → ℕ → ℕ → ℕ → Result) → Gives
-withOrders o = made refusals o moving offering replanningLatest replanningLines enquiring
+withOrders o = made (parts refusals o moving offering replanningLatest replanningLines enquiring)
 
 abbrev pub withMoves : (State → ℕ → List ℕ → Result) → Gives
-withMoves m = made refusals ordering m offering replanningLatest replanningLines enquiring
+withMoves m = made (parts refusals ordering m offering replanningLatest replanningLines enquiring)
 
 abbrev pub withOrdersAndMoves : (State → ℕ → ℕ → ℕ → Result) → (State → ℕ → List ℕ → Result) → Gives
-withOrdersAndMoves o m = made refusals o m offering replanningLatest replanningLines enquiring
+withOrdersAndMoves o m = made (parts refusals o m offering replanningLatest replanningLines enquiring)
 
 abbrev pub withOffers : (State → List ℕ → Result) → Gives
-withOffers f = made refusals ordering moving f replanningLatest replanningLines enquiring
+withOffers f = made (parts refusals ordering moving f replanningLatest replanningLines enquiring)
 
 abbrev pub withReplansLatest : (State → Result) → Gives
-withReplansLatest a = made refusals ordering moving offering a replanningLines enquiring
+withReplansLatest a = made (parts refusals ordering moving offering a replanningLines enquiring)
 
 abbrev pub withReplansLines : (State → ℕ → Result) → Gives
-withReplansLines b = made refusals ordering moving offering replanningLatest b enquiring
+withReplansLines b = made (parts refusals ordering moving offering replanningLatest b enquiring)
 
 abbrev pub withEnquiries : (State → ℕ → Result) → Gives
-withEnquiries e = made refusals ordering moving offering replanningLatest replanningLines e
+withEnquiries e = made (parts refusals ordering moving offering replanningLatest replanningLines e)
 
 -- Results, stations and charges with one thing changed
 
