@@ -4,13 +4,13 @@
 mod common;
 
 use common::{fast, lines, Inside};
-use trials::compare::{compare, Choice};
+use trials::compare::{compare, Choice, LOOPS};
 use trials::coverage::coverage;
 use trials::generate;
 use trials::shrink::shrink;
 
 fn choice(scripts: u64, seed: u64) -> Choice<'static> {
-    Choice { scripts, seed, kind: None }
+    Choice { scripts, seed, ..Choice::default() }
 }
 
 #[test]
@@ -25,7 +25,9 @@ fn the_same_seed_gives_the_same_scripts() {
 fn every_script_begins_with_an_opening() {
     for kind in &generate::KINDS {
         let script = generate::script_of_kind(kind.name, 1, 0).unwrap();
-        assert!(script.lines[0].starts_with(b"open "), "{}", kind.name);
+        let opens = script.lines.iter().position(|line| line.starts_with(b"open "));
+        let expected = (kind.name != generate::UNOPENED).then_some(0);
+        assert_eq!(opens, expected, "{}", kind.name);
     }
 }
 
@@ -73,8 +75,9 @@ fn every_answer_occurs() {
 
 #[test]
 fn the_fast_program_agrees() {
-    let summary = compare(&Inside(fast), &choice(400, 11)).map_err(|failure| failure.what);
-    assert_eq!(summary.map(|summary| summary.scripts), Ok(400));
+    let scripts = Choice { without: Some(LOOPS), ..choice(400, 11) };
+    let summary = compare(&Inside(fast), &scripts).map_err(|failure| failure.what);
+    assert_eq!(summary.map(|summary| summary.scripts), Ok(410));
 }
 
 #[test]
