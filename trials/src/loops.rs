@@ -22,7 +22,7 @@ pub struct Trial {
 /// Cheap ones first.
 pub fn trials() -> Vec<Trial> {
     let mut trials = ends();
-    trials.extend([cut_once(), cut_twice(), byte_by_byte(), line_by_line()]);
+    trials.extend([cut_once(), cut_twice(), long_cut(), byte_by_byte(), line_by_line()]);
     trials.extend(over_reads());
     trials.extend(over_blocks());
     trials.extend(at_edges());
@@ -168,6 +168,25 @@ fn cut_twice() -> Trial {
         }
     }
     trial("lines cut twice", input, Way::Pieces(sizes))
+}
+
+/// The longest lines and longer ones, cut where they begin, where they get too long
+/// and where they end, with calls in the same read after them.
+fn long_cut() -> Trial {
+    let (mut input, mut sizes) = (Vec::new(), Vec::new());
+    let mut calls = Calls { given: 0 };
+    for length in [LONGEST_LINE, LONGEST_LINE + 1, LONGEST_LINE + 2, 2 * LONGEST_LINE + 3] {
+        let middle = [LONGEST_LINE - 1, LONGEST_LINE, LONGEST_LINE + 1];
+        for cut in [1, middle[0], middle[1], middle[2], length - 1, length, length + 1] {
+            let begun = input.len();
+            input.extend(long_call(length));
+            input.push(b'\n');
+            calls.push_to(&mut input);
+            calls.push_to(&mut input);
+            sizes.extend([cut, input.len() - begun - cut]);
+        }
+    }
+    trial("long lines cut once", input, Way::Pieces(sizes))
 }
 
 /// Scripts until there are so many bytes. The first one opens no station.
