@@ -7,6 +7,8 @@ use common::{fast, lines, Inside};
 use trials::compare::{compare, Choice, LOOPS};
 use trials::coverage::coverage;
 use trials::generate;
+use trials::protocol::LONGEST_LINE;
+use trials::script;
 use trials::shrink::shrink;
 
 fn choice(scripts: u64, seed: u64) -> Choice<'static> {
@@ -71,6 +73,29 @@ fn every_answer_occurs() {
     for sort in wanted {
         assert!(totals.contains_key(&sort), "no '{sort}' in {totals:#?}");
     }
+}
+
+/// Lists of every length that matters, in stations with as many waiting charges or
+/// fewer, right and wrong in their words.
+#[test]
+fn long_lists_occur() {
+    let mut seen = std::collections::BTreeSet::new();
+    for script in (0..600).map(|number| generate::script(1, number)) {
+        for (line, answer) in script::answered(&script.lines).zip(&script.answers) {
+            let numbers = line.split(|byte| *byte == b' ').count() - 1;
+            if line.starts_with(b"offer ") && numbers >= 179 {
+                let first = script::show(answer).split(' ').next().map(String::from);
+                seen.insert((numbers.min(501), line.len() == LONGEST_LINE, first));
+            }
+        }
+    }
+    let has = |numbers, full, word: &str| seen.contains(&(numbers, full, Some(word.to_string())));
+    assert!(has(180, false, "plan"), "{seen:?}");
+    for numbers in [179, 180, 181, 182, 500] {
+        assert!(has(numbers, false, "refused"), "{numbers}: {seen:?}");
+        assert!(has(numbers, false, "error"), "{numbers}: {seen:?}");
+    }
+    assert!(has(501, true, "refused"), "{seen:?}");
 }
 
 #[test]
