@@ -80,7 +80,8 @@ fn every_answer_occurs() {
 #[test]
 fn long_lists_occur() {
     let mut seen = std::collections::BTreeSet::new();
-    for script in (0..600).map(|number| generate::script(1, number)) {
+    for number in 0..80 {
+        let script = generate::script_of_kind("lists", 1, number).unwrap();
         for (line, answer) in script::answered(&script.lines).zip(&script.answers) {
             let numbers = line.split(|byte| *byte == b' ').count() - 1;
             if line.starts_with(b"offer ") && numbers >= 179 {
