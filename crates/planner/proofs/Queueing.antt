@@ -9,6 +9,7 @@ use native.Mathlib.Nat.{sub-zero}
 use lib.Dec.{eqb}
 use lib.ListN.{length, length-append}
 use borrow.Author.Tests.{eqb-true}
+use Rattle.rules.specs.Basics.{tabulate}
 use Rattle.rules.specs.Charge.{Charge, waitingCharges}
 use Rattle.rules.specs.Replan.{latestStartBefore, byLatestStart, onLine, lineByLine}
 use Rattle.rules.proofs.Ranges.{below-or-not}
@@ -18,10 +19,24 @@ use Rattle.charges.specs.declared.Charges.{Charges}
 use Rattle.charges.specs.Arrays.{chargeAt, chargesOf}
 use Rattle.charges.specs.Held.{Listed}
 use Rattle.charges.specs.declared.Places.{Places}
-use Rattle.charges.specs.Places.{placeAt, Ordered}
+use Rattle.charges.specs.Places.{placeAt, PlacesIn, Ordered}
 use Rattle.charges.proofs.Orders.{rising-all}
-use Rattle.planner.specs.Ready.{chargeIn, queueFrom, Queue}
+use Rattle.planner.specs.Ready.{begunOf}
+use Rattle.planner.specs.Placed.{InLines}
 use Rattle.planner.proofs.Showing.{begun-and-waiting}
+
+-- the charge at the k-th place
+abbrev pub chargeIn : Charges → Places → ℕ → Charge
+chargeIn c q k = chargeAt c (placeAt q k)
+
+-- the charges to be taken after the first k
+abbrev pub queueFrom : Charges → Places → ℕ → List Charge
+queueFrom c q k = tabulate (chargeIn c q) (q .count - k) k
+
+-- held charges, none of them twice, that leave room for the begun ones
+pub record Queue (clock : ℕ) (c : Charges) (q : Places) : Type 0 where
+  pub places : PlacesIn c q
+  pub room : length (begunOf clock c) + q .count ≤ 180
 
 -- charges at different places have different tickets
 pub places-apart :
@@ -109,5 +124,5 @@ module _ {clock : ℕ} {c : Charges} {q : Places} (h : Listed c) where
   pub queue-latest-start : Ordered c (byLatestStart (waitingCharges clock (chargesOf c))) q → Queue clock c q
   queue-latest-start o = queue-of h o (omega (arith, sorted-length (waitingCharges clock (chargesOf c))))
 
-  pub queue-line-by-line : Ordered c (lineByLine (waitingCharges clock (chargesOf c))) q → Queue clock c q
+  pub queue-line-by-line : InLines clock c q → Queue clock c q
   queue-line-by-line o = queue-of h o (line-by-line-length (waitingCharges clock (chargesOf c)))

@@ -1,9 +1,10 @@
 use native.Mathlib.Omega.{arith}
 use Prim.Native.Nat.{_-_}
 use borrow.Author.Needs.{needs}
+use Rattle.planner.proofs.Showing.{listed-ends}
 use Rattle.planner.proofs.Counting.{Rounds, rounds-capped, rounds-start, rounds-done, rounds-spent, lowers-fit, rounds-next}
-use Rattle.planner.proofs.by_lines.Statement.{statement}
-use Rattle.planner.proofs.by_lines.Tie as tie
+use Rattle.planner.proofs.rounds.by_lines.Statement.{statement}
+use Rattle.planner.proofs.rounds.by_lines.Tie as tie
 
 abbrev Inv-loop : tie.InvT-loop
 Inv-loop charges clock limit bound allowance queue begun caps₀ rounds₀ caps rounds = Rounds limit bound clock allowance charges caps rounds
@@ -14,8 +15,8 @@ abbrev μ-loop : tie.MeasureT-loop
 line-by-line-requires : tie.Need-line-by-line-requires Inv-loop μ-loop
 line-by-line-requires c κs = search needs
 
-begun-profile-requires : tie.Need-begun-profile-requires Inv-loop μ-loop
-begun-profile-requires c κs = search needs
+profile-before-requires : tie.Need-profile-before-requires Inv-loop μ-loop
+profile-before-requires c κs = (c .before .pre .listed .columns .few, listed-ends (c .before .pre .listed))
 
 new-requires : tie.Need-new-requires Inv-loop μ-loop
 new-requires c κs = search needs
@@ -24,7 +25,7 @@ loop-holds : tie.Need-loop-holds Inv-loop μ-loop
 loop-holds c = rounds-start (c .before .before .before .args .allowance) (c .before .before .before .pre) (c .new .ensures)
 
 play-requires : tie.Need-play-requires Inv-loop μ-loop
-play-requires c κs = (c .before .before .before .before .pre, c .before .before .before .line-by-line .ensures, c .before .before .begun-profile .ensures, rounds-capped (c .loop .inv))
+play-requires c κs = (c .before .before .before .before .pre, c .before .before .before .line-by-line .ensures, c .before .before .profile-before .ensures, rounds-capped (c .loop .inv))
 
 enum-known-outcome : tie.Need-enum-known-outcome Inv-loop μ-loop
 enum-known-outcome c = search needs
@@ -60,7 +61,7 @@ by-lines-spec =
     Inv-loop
     μ-loop
     line-by-line-requires
-    begun-profile-requires
+    profile-before-requires
     new-requires
     loop-holds
     play-requires

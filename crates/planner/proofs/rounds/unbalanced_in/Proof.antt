@@ -1,9 +1,10 @@
 use native.Mathlib.Omega.{arith}
 use Rattle.profile.proofs.Lines.{line-one, line-two, line-three}
-use Rattle.planner.proofs.Playing.{largest-is, smallest-is, low-small, asked-none, asked-lowers}
+use Rattle.planner.proofs.Profiles.{largest-is, smallest-is}
+use Rattle.planner.proofs.Asking.{low-small, asked-none, asked-lowers}
 use borrow.Author.Needs.{needs}
-use Rattle.planner.proofs.unbalanced_in.Statement.{statement}
-use Rattle.planner.proofs.unbalanced_in.Tie as tie
+use Rattle.planner.proofs.rounds.unbalanced_in.Statement.{statement}
+use Rattle.planner.proofs.rounds.unbalanced_in.Tie as tie
 
 level-requires : tie.Need-level-requires
 level-requires c κs = (c .pre .formed, line-one, c .pre .low)
