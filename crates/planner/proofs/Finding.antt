@@ -12,7 +12,7 @@ use Rattle.rules.specs.Replan.{stuck, placeAll, soundStart, cappedStart}
 use Rattle.rules.proofs.Searches.{earliest-first, under-first}
 use Rattle.charges.specs.declared.Charges.{Charges}
 use Rattle.charges.specs.Held.{Listed}
-use Rattle.charges.specs.declared.Places.{Places}
+use Rattle.charges.specs.declared.places.Places.{Places}
 use Rattle.charges.specs.Places.{placeAt}
 use Rattle.profile.specs.declared.Profile.{Profile}
 use Rattle.profile.specs.declared.When.{When}

@@ -8,7 +8,7 @@ use Rattle.rules.specs.Charge.{waitingCharges}
 use Rattle.rules.specs.Replan.{Proposal, starts, none, stuck, placeAll, soundStart, byLatestStart, latest}
 use Rattle.charges.specs.declared.Charges.{Charges}
 use Rattle.charges.specs.Arrays.{chargesOf, Filled}
-use Rattle.charges.specs.declared.Places.{Places}
+use Rattle.charges.specs.declared.places.Places.{Places}
 use Rattle.charges.specs.Places.{Ordered}
 use Rattle.charges.proofs.Storing.{zeros}
 use Rattle.profile.specs.declared.Profile.{Profile}

@@ -18,9 +18,9 @@ use Rattle.rules.proofs.Sorting.{Inserted, here, later, Rearranged, none, more,
 use Rattle.charges.specs.declared.Charges.{Charges}
 use Rattle.charges.specs.Arrays.{chargeAt, chargesOf}
 use Rattle.charges.specs.Held.{Listed}
-use Rattle.charges.specs.declared.Places.{Places}
+use Rattle.charges.specs.declared.places.Places.{Places}
 use Rattle.charges.specs.Places.{placeAt, PlacesIn, Ordered}
-use Rattle.charges.proofs.Orders.{rising-all}
+use Rattle.charges.proofs.Passing.{rising-all}
 use Rattle.planner.specs.Ready.{begunOf}
 use Rattle.planner.specs.Placed.{InLines}
 use Rattle.planner.proofs.Showing.{begun-and-waiting}

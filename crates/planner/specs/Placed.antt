@@ -9,7 +9,7 @@ use Rattle.rules.specs.Search.{Caps}
 use Rattle.rules.specs.Replan.{Placed, all, placeAll, cappedStart, lineByLine}
 use Rattle.charges.specs.declared.Charges.{Charges}
 use Rattle.charges.specs.Arrays.{chargesOf}
-use Rattle.charges.specs.declared.Places.{Places}
+use Rattle.charges.specs.declared.places.Places.{Places}
 use Rattle.charges.specs.Places.{Ordered}
 use Rattle.profile.specs.declared.Profile.{Profile}
 use Rattle.profile.specs.Shows.{Shows}

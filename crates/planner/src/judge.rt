@@ -1,7 +1,7 @@
 // The test that an offer and both replans end with.
 use crate::begun::profile_before;
 use charges::Charges;
-use charges::start_below;
+use charges::waiting::start_below;
 use profile::When;
 ghost use mathlib.Core.Path.{_≡_};
 ghost use Prim.Native.Nat.{_≤_};

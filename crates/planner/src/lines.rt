@@ -1,6 +1,6 @@
 // The waiting charges placed under the caps, line by line: one round of replan by lines.
 use charges::Charges;
-use charges::Places;
+use charges::places::Places;
 use profile::Profile;
 use profile::caps::LineCaps;
 use profile::loads::add;

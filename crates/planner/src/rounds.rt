@@ -4,7 +4,7 @@ use crate::begun::profile_before;
 use crate::lines::place_lines;
 use crate::waiting_starts;
 use charges::Charges;
-use charges::Places;
+use charges::places::Places;
 use profile::Profile;
 use profile::When;
 use profile::balance::largest_line;
