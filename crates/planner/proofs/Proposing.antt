@@ -1,8 +1,8 @@
 -- What replan by latest start proposes once the waiting charges are placed, and when one has no start.
-use mathlib.Core.Path.{_≡_, refl}
+use mathlib.Core.Path.{_≡_}
 use Prim.Native.Nat.{ℕ, suc}
 use mathlib.Core.List.{List, []}
-use lib.ListN.{take, replicate}
+use lib.ListN.{take}
 use Rattle.rules.specs.Load.{limits}
 use Rattle.rules.specs.Charge.{waitingCharges}
 use Rattle.rules.specs.Replan.{Proposal, starts, none, stuck, placeAll, soundStart, byLatestStart, latest}
@@ -10,7 +10,6 @@ use Rattle.charges.specs.declared.Charges.{Charges}
 use Rattle.charges.specs.Arrays.{chargesOf, Filled}
 use Rattle.charges.specs.declared.places.Places.{Places}
 use Rattle.charges.specs.Places.{Ordered}
-use Rattle.charges.proofs.Storing.{zeros}
 use Rattle.profile.specs.declared.Profile.{Profile}
 use Rattle.planner.specs.Starts.{waitingCount, WaitingStarts}
 use Rattle.planner.specs.declared.Proposed.{Proposed}
@@ -18,10 +17,6 @@ use Rattle.planner.specs.Answers.{Proposes}
 use Rattle.planner.specs.Ready.{begunOf}
 use Rattle.planner.specs.Placed.{AllPlaced}
 use Rattle.planner.proofs.Queueing.{queueFrom, queue-whole}
-
--- no place is used
-pub filled-none : Filled 0 (replicate 180 0)
-filled-none = record { full = refl; clear = λ i h. zeros 180 i }
 
 -- An answer with starts, and one without
 

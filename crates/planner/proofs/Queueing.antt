@@ -14,13 +14,13 @@ use Rattle.rules.specs.Charge.{Charge, waitingCharges}
 use Rattle.rules.specs.Replan.{latestStartBefore, byLatestStart, onLine, lineByLine}
 use Rattle.rules.proofs.Ranges.{below-or-not}
 use Rattle.rules.proofs.Lists.{length-tabulate, map-tabulate}
-use Rattle.rules.proofs.Sorting.{Inserted, here, later, Rearranged, none, more, sorted-rearranged}
 use Rattle.charges.specs.declared.Charges.{Charges}
 use Rattle.charges.specs.Arrays.{chargeAt, chargesOf}
 use Rattle.charges.specs.Held.{Listed}
 use Rattle.charges.specs.declared.places.Places.{Places}
 use Rattle.charges.specs.Places.{placeAt, PlacesIn, Ordered}
 use Rattle.charges.proofs.Passing.{rising-all}
+use Rattle.charges.proofs.Sorting.{length-sorted}
 use Rattle.planner.specs.Ready.{begunOf}
 use Rattle.planner.specs.Placed.{InLines}
 use Rattle.planner.proofs.Showing.{begun-and-waiting}
@@ -50,16 +50,8 @@ places-apart {c} r i j h l ne e = go (below-or-not i j) (below-or-not j i)
 
 -- How many
 
-inserted-length : {A : Type 0} {a : A} {l m : List A} → Inserted a l m → length m ≡ suc (length l)
-inserted-length here = refl
-inserted-length (later r) = ap suc (inserted-length r)
-
-rearranged-length : {A : Type 0} {l m : List A} → Rearranged l m → length m ≡ length l
-rearranged-length none = refl
-rearranged-length (more r i) = inserted-length i ∙ ap suc (rearranged-length r)
-
 sorted-length : (cs : List Charge) → length (byLatestStart cs) ≡ length cs
-sorted-length cs = rearranged-length (sorted-rearranged latestStartBefore cs)
+sorted-length cs = length-sorted latestStartBefore cs
 
 -- a charge is on one line at most
 lines-length : (cs : List Charge) → length (onLine 1 cs) + (length (onLine 2 cs) + length (onLine 3 cs)) ≤ length cs

@@ -3,6 +3,7 @@ use crate::Proposed;
 use crate::begun::profile_before;
 use crate::waiting_starts;
 use charges::Charges;
+use charges::PLACES;
 use profile::When;
 use profile::loads::add;
 use profile::start::earliest;
@@ -23,7 +24,7 @@ pub fn latest(charges: Charges, clock: u32, limit: u32, bound: u32) -> Proposed
     let mut steps = begun.steps;
     let mut at = begun.at;
     let mut counts = begun.counts;
-    let mut placed = [0; 180];
+    let mut placed = [0; PLACES];
     for k in 0..n {
         let i = queue.places[k];
         let line = charges.lines[i];

@@ -6,6 +6,7 @@ pub mod lines;
 pub mod rounds;
 
 use charges::Charges;
+use charges::PLACES;
 ghost use mathlib.Core.Path.{_≡_};
 ghost use Rattle.charges.specs.Arrays.{Columns, Filled};
 ghost use Rattle.planner.specs.Starts.{WaitingStarts};
@@ -13,7 +14,7 @@ ghost use Rattle.planner.specs.Starts.{WaitingStarts};
 // Cause 0 with a start for each waiting charge, in ticket order, or the cause for having none.
 pub struct Proposed {
     pub cause: u32,
-    pub starts: [u32; 180],
+    pub starts: [u32; PLACES],
 }
 
 impl Proposed {
@@ -21,18 +22,18 @@ impl Proposed {
     fn none(cause: u32) -> Proposed
         ensures { λ r. ⌜ (r .cause ≡ cause) × Filled 0 (r .starts) ⌝ }
     {
-        let starts = [0; 180];
+        let starts = [0; PLACES];
         Proposed { cause, starts }
     }
 }
 
 // The starts of the waiting charges, in ticket order.
-fn waiting_starts(charges: Charges, clock: u32, starts: [u32; 180]) -> [u32; 180]
+fn waiting_starts(charges: Charges, clock: u32, starts: [u32; PLACES]) -> [u32; 180]
     requires { ⌜ Columns charges ⌝ }
     ensures { λ r. ⌜ WaitingStarts clock charges starts r ⌝ }
 {
     let n = charges.held;
-    let mut listed = [0; 180];
+    let mut listed = [0; PLACES];
     let mut k = 0;
     for i in 0..n {
         if clock <= charges.starts[i] {

@@ -1,5 +1,6 @@
 // The waiting charges placed under the caps, line by line: one round of replan by lines.
 use charges::Charges;
+use charges::PLACES;
 use charges::places::Places;
 use profile::Profile;
 use profile::caps::LineCaps;
@@ -15,7 +16,7 @@ ghost use Rattle.planner.specs.Placed.{Capped, InLines, LinesUnder};
 // The profile of the begun charges and those placed, and the start of each placed one at its place.
 pub struct Placement {
     pub profile: Profile,
-    pub starts: [u32; 180],
+    pub starts: [u32; PLACES],
 }
 
 // Each charge of the queue gets the smallest start with its line's count at or below the cap. A cap is never below 1,
@@ -34,7 +35,7 @@ pub fn place_lines(
     let mut steps = begun.steps;
     let mut at = begun.at;
     let mut counts = begun.counts;
-    let mut starts = [0; 180];
+    let mut starts = [0; PLACES];
     for k in 0..n {
         let i = queue.places[k];
         let line = charges.lines[i];

@@ -1,4 +1,4 @@
-use mathlib.Core.Path.{_≡_, refl, sym}
+use mathlib.Core.Path.{_≡_, refl}
 use Prim.Native.Nat.{ℕ, zero, suc}
 use borrow.Author.Tests.{lt-ltb, le-ltb}
 use Rattle.planner.specs.Judged.{orLate}
