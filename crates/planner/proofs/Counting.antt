@@ -11,9 +11,9 @@ use Rattle.charges.specs.declared.Charges.{Charges}
 use Rattle.charges.specs.Arrays.{chargesOf, Filled}
 use Rattle.profile.specs.declared.caps.LineCaps.{LineCaps}
 use Rattle.profile.specs.Caps.{CapsShown, LoweredAt}
-use Rattle.planner.specs.declared.Outcome.the-variants.{Ends, Lowers}
+use Rattle.planner.specs.declared.rounds.Outcome.the-variants.{Ends, Lowers}
 use Rattle.planner.specs.declared.Proposed.{Proposed}
-use Rattle.planner.specs.declared.Round.{Round}
+use Rattle.planner.specs.declared.rounds.Round.{Round}
 use Rattle.planner.specs.Starts.{waitingCount}
 use Rattle.planner.specs.Ready.{Ready}
 use Rattle.planner.specs.Placed.{Capped}

@@ -17,10 +17,10 @@ use Rattle.profile.specs.declared.caps.LineCaps.{LineCaps}
 use Rattle.profile.specs.Caps.{CapsShown}
 use Rattle.planner.specs.Starts.{waitingCount}
 use Rattle.planner.specs.declared.Proposed.{Proposed}
-use Rattle.planner.specs.declared.Replanned.{Replanned}
-use Rattle.planner.specs.declared.Outcome.{Outcome}
-use Rattle.planner.specs.declared.Outcome.the-variants.{Ends, Lowers}
-use Rattle.planner.specs.declared.Round.{Round}
+use Rattle.planner.specs.declared.rounds.Replanned.{Replanned}
+use Rattle.planner.specs.declared.rounds.Outcome.{Outcome}
+use Rattle.planner.specs.declared.rounds.Outcome.the-variants.{Ends, Lowers}
+use Rattle.planner.specs.declared.rounds.Round.{Round}
 
 -- cause 0 has a start for each of n waiting charges, any other cause has none
 abbrev pub proposal : ℕ → ℕ → List ℕ → Proposal

@@ -12,7 +12,7 @@ use Rattle.rules.specs.Charge.{Charge, unfinishedCharges}
 use Rattle.rules.specs.Calls.{moved, refusals, reported, pairs, written, moving, move, step}
 use Rattle.rules.proofs.Lists.{length-tabulate}
 use Rattle.charges.specs.declared.Charges.{Charges}
-use Rattle.charges.specs.declared.Places.{Places}
+use Rattle.charges.specs.declared.places.Places.{Places}
 use Rattle.charges.specs.Arrays.{chargeAt, chargesOf, Holds}
 use Rattle.charges.specs.Places.{placeAt, placesOf, Ordered}
 use Rattle.charges.proofs.Storing.{holds-length}

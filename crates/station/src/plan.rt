@@ -34,7 +34,14 @@ impl Station {
         ensures { λ r. ⌜ Tests (view self) rounds (startsOf (take count (now (starts .entry)))) (planAnswer (r .answer)) (r .station) ⌝ }
     {
         let held = self.charges;
-        let judgement = planner::judged(held, self.clock, self.limit, self.bound, starts, count);
+        let judgement = planner::judge::judged(
+            held,
+            self.clock,
+            self.limit,
+            self.bound,
+            starts,
+            count,
+        );
         let charges = judgement.charges;
         let mut next = self;
         next.charges = charges;
@@ -93,7 +100,7 @@ impl Station {
         ensures { λ r. ⌜ Gives (step (view self) replanLatest) (planAnswer (r .answer)) (r .station) [] ⌝ }
     {
         let held = self.charges;
-        let proposed = planner::latest(held, self.clock, self.limit, self.bound);
+        let proposed = planner::latest::latest(held, self.clock, self.limit, self.bound);
         self.replanned(proposed, 0)
     }
 
@@ -114,7 +121,7 @@ impl Station {
             };
         }
         let held = self.charges;
-        let made = planner::by_lines(held, self.clock, self.limit, self.bound, allowance);
+        let made = planner::rounds::by_lines(held, self.clock, self.limit, self.bound, allowance);
         let proposed = made.proposed;
         self.replanned(proposed, made.rounds)
     }
