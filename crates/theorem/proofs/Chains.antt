@@ -12,7 +12,7 @@ use Rattle.guarantee.specs.DemandThree.{DemandThree}
 use Rattle.guarantee.specs.Demands.{reached}
 use Rattle.guarantee.proofs.Demands.{demands}
 use Rattle.station.specs.declared.Station.{Station}
-use Rattle.station.specs.declared.OpenAnswer.{OpenAnswer}
+use Rattle.station.specs.declared.open.OpenAnswer.{OpenAnswer}
 use Rattle.station.specs.View.{view, Valid}
 use Rattle.theorem.specs.Theorem.{Made, MeetsOpen, MeetsApply, Chain, callMade, given, left, known, Guaranteed, Theorem}
 

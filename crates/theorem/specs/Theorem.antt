@@ -1,6 +1,6 @@
 -- The theorem about the program that is run. Read this file first: it says of which calls the rest is true.
 --
--- A station is opened by `Station::open` (crates/station/src/lib.rt) with any two numbers. Then calls are made through
+-- A station is opened by `Station::open` (crates/station/src/open.rt) with any limit and percentage. Then calls are made through
 -- `Station::apply` (crates/station/src/calls.rt), any calls with any numbers and any lists, each on the station that the
 -- last one handed back. `MeetsOpen` and `MeetsApply` below are the contracts of the two: src/lib.rt calls them, and the
 -- checker has proved there that what they give meets these. Nothing else is asked of the code.
@@ -15,7 +15,7 @@ use Rattle.guarantee.specs.DemandOne.{DemandOne, DemandOneOpening}
 use Rattle.guarantee.specs.DemandTwo.{DemandTwo}
 use Rattle.guarantee.specs.DemandThree.{DemandThree}
 use Rattle.station.specs.declared.Station.{Station}
-use Rattle.station.specs.declared.OpenAnswer.{OpenAnswer}
+use Rattle.station.specs.declared.open.OpenAnswer.{OpenAnswer}
 use Rattle.station.specs.declared.calls.Call.{Call}
 use Rattle.station.specs.declared.calls.Answer.{Answer}
 use Rattle.station.specs.declared.calls.Applied.{Applied}
@@ -46,7 +46,7 @@ made call starts report reported r =
     }
 
 -- The contract of `open`: it asks nothing.
-abbrev pub MeetsOpen : ℕ → ℕ → OpenAnswer → Station → Type 0
+abbrev pub MeetsOpen : Settings → OpenAnswer → Station → Type 0
 MeetsOpen x answer first = Gives (opening x) (openAnswer answer) first []
 
 -- The contract of `apply`: it asks a valid station.
@@ -76,7 +76,7 @@ abbrev pub known : Past → List Made → Past
 known h [] = h
 known h (m ∷ ms) = known (extended h (callMade m) (given m)) ms
 
--- What is proved of an opening with n and c that gave `answer` and `first`, and of the calls made then.
+-- What is proved of an opening with settings x that gave `answer` and `first`, and of the calls made then.
 pub record Guaranteed (x : Settings) (answer : OpenAnswer) (first : Station) (calls : List Made) : Type 0 where
   -- every station of the chain is valid, so that what `apply` asks is always met
   pub first-valid : Valid first
@@ -89,7 +89,7 @@ pub record Guaranteed (x : Settings) (answer : OpenAnswer) (first : Station) (ca
   -- what demand 3 reads off a list of calls is what was seen of these
   pub seen : known (beginning (view first)) calls ≡ past step (view first) (map callMade calls)
   -- Demand 1, of the opening and of every call made to the station that is left
-  pub one-opening : DemandOneOpening x
+  pub one-opening : DemandOneOpening opening x
   pub one : (call : rules.Call) → DemandOne step (view (left first calls)) call
   -- Demand 2, of the station that is left
   pub two : DemandTwo step (view (left first calls))

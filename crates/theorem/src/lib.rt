@@ -1,15 +1,17 @@
 // The calls of which the theorem in specs/Theorem.antt speaks: the checker holds it here to the contracts of `open` and `apply`.
-use station::Opening;
 use station::Station;
 use station::calls::Applied;
 use station::calls::Call;
+use station::open::Opening;
+use station::open::Settings;
 ghost use Rattle.station.specs.View.{Valid};
+ghost use Rattle.station.specs.Answers.{settingsOf};
 ghost use Rattle.theorem.specs.Theorem.{MeetsOpen, MeetsApply, made};
 
-pub fn open(limit: u32, percent: u32) -> Opening
-    ensures { λ r. ⌜ MeetsOpen limit percent (r .answer) (r .station) ⌝ }
+pub fn open(settings: Settings) -> Opening
+    ensures { λ r. ⌜ MeetsOpen (settingsOf settings) (r .answer) (r .station) ⌝ }
 {
-    Station::open(limit, percent)
+    Station::open(settings)
 }
 
 pub fn apply(station: Station, call: Call, starts: &[u32], report: &mut [u32]) -> Applied
