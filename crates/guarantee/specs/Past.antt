@@ -23,44 +23,38 @@ pub record Report : Type 0 where
 
 -- What an answer says
 
+-- whether it refuses, the ticket where it gives one, how many were reported, the start where an enquiry gives one
+-- (0 where it does not)
+pub record Said : Type 0 where
+  pub refuses : Bool
+  pub tickets : List ℕ
+  pub reported : ℕ
+  pub start : ℕ
+
+abbrev says : Bool → List ℕ → ℕ → ℕ → Said
+says refuses tickets reported start =
+    record { refuses = refuses; tickets = tickets; reported = reported; start = start }
+
+abbrev pub said : Answer → Said
+said (refused k) = says true [] 0 0
+said (opened d) = says false [] 0 0
+said (ordered t s) = says false (t ∷ []) 0 0
+said (moved n m) = says false [] n 0
+said (planned c b a n) = says false [] 0 0
+said (waiting s) = says false [] 0 s
+said (charging s e) = says false [] 0 s
+
 abbrev pub isRefused : Answer → Bool
-isRefused (refused k) = true
-isRefused (opened d) = false
-isRefused (ordered t s) = false
-isRefused (moved n m) = false
-isRefused (planned c b a n) = false
-isRefused (waiting s) = false
-isRefused (charging s e) = false
+isRefused a = said a .refuses
 
--- the ticket, where it gives one
 abbrev pub ticketIn : Answer → List ℕ
-ticketIn (refused k) = []
-ticketIn (opened d) = []
-ticketIn (ordered t s) = t ∷ []
-ticketIn (moved n m) = []
-ticketIn (planned c b a n) = []
-ticketIn (waiting s) = []
-ticketIn (charging s e) = []
+ticketIn a = said a .tickets
 
--- how many were reported
 abbrev pub reportedIn : Answer → ℕ
-reportedIn (refused k) = 0
-reportedIn (opened d) = 0
-reportedIn (ordered t s) = 0
-reportedIn (moved n m) = n
-reportedIn (planned c b a n) = 0
-reportedIn (waiting s) = 0
-reportedIn (charging s e) = 0
+reportedIn a = said a .reported
 
--- the start, where an enquiry gives one; 0 where it does not
 abbrev pub startIn : Answer → ℕ
-startIn (refused k) = 0
-startIn (opened d) = 0
-startIn (ordered t s) = 0
-startIn (moved n m) = 0
-startIn (planned c b a n) = 0
-startIn (waiting s) = s
-startIn (charging s e) = s
+startIn a = said a .start
 
 -- What one call adds
 
