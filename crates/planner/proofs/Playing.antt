@@ -50,6 +50,12 @@ smallest-alike : (f g : ℕ → ℕ) → ((l : ℕ) → IsLine l → f l ≡ g l
 smallest-alike f g e =
     sym (smallest-same f refl refl refl) ∙ smallest-same g (e 1 line-one) (e 2 line-two) (e 3 line-three)
 
+pub largest-is : {i : ℕ} (a b c : ℕ) → i ≡ largestLine (ofLines a b c) → IsLine i
+largest-is a b c e = rw e (largest-line (ofLines a b c) .line)
+
+pub smallest-is : {i : ℕ} (a b c : ℕ) → i ≡ smallestLine (ofLines a b c) → IsLine i
+smallest-is a b c e = rw e (smallest-line (ofLines a b c) .line)
+
 module _ {p begun : Profile} {t bound : ℕ} (h : Comparable p begun t bound) {one two three : ℕ} (a : one ≡ levelOf p 1 t)
     (b : two ≡ levelOf p 2 t) (d : three ≡ levelOf p 3 t) where
   pub low-small : {j z : ℕ} → j ≡ smallestLine (ofLines one two three) → z ≡ levelOf p j t → z ≤ 180

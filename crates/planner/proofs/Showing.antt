@@ -71,14 +71,12 @@ begun-end-most {c} h clock =
 -- Profiles with the same parts are the same
 
 pub same-parts :
-    {n n′ : ℕ} {ats ats′ one one′ two two′ three three′ : List ℕ}
+    {n n′ : ℕ} {ats ats′ counts counts′ : List ℕ}
     → n ≡ n′
     → ats ≡ ats′
-    → one ≡ one′
-    → two ≡ two′
-    → three ≡ three′
-    → profileOf n ats one two three ≡ profileOf n′ ats′ one′ two′ three′
-same-parts e f g h i = rw (e, f, g, h, i)
+    → counts ≡ counts′
+    → profileOf n ats counts ≡ profileOf n′ ats′ counts′
+same-parts e f g = rw (e, f, g)
 
 -- The begun ones among the first i charges
 

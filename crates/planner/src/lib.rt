@@ -21,7 +21,7 @@ ghost use Rattle.charges.specs.Arrays.{Columns, Filled, Holds, chargesOf};
 ghost use Rattle.charges.specs.Held.{Listed};
 ghost use Rattle.charges.specs.Places.{Ordered};
 ghost use Rattle.profile.specs.Shows.{profileOf, Shows, CanStart};
-ghost use Rattle.profile.specs.Caps.{capsIn, capsOf, CanCap};
+ghost use Rattle.profile.specs.Caps.{capsIn, CanCap};
 ghost use Rattle.planner.specs.Starts.{WaitingStarts, waitingCount};
 ghost use Rattle.planner.specs.Ready.{begunOf, Ready, Queue};
 ghost use Rattle.planner.specs.Answers.{Comparable, Plays, Proposes, Replans, askedIn};
@@ -111,16 +111,12 @@ fn begun_profile(charges: Charges, clock: u32) -> Profile
     let empty = Profile::new(clock);
     let mut steps = empty.steps;
     let mut at = empty.at;
-    let mut one = empty.one;
-    let mut two = empty.two;
-    let mut three = empty.three;
+    let mut counts = empty.counts;
     for i in 0..n {
         if charges.starts[i] < clock {
             steps = add(
                 &mut at,
-                &mut one,
-                &mut two,
-                &mut three,
+                &mut counts,
                 steps,
                 charges.lines[i],
                 charges.times[i],
@@ -128,49 +124,28 @@ fn begun_profile(charges: Charges, clock: u32) -> Profile
             );
         }
     }
-    Profile {
-        steps,
-        at,
-        one,
-        two,
-        three,
-    }
+    Profile { steps, at, counts }
 }
 
 // The smallest start that the rule allows.
 fn smallest_start<'a>(
     at: &'a [u32; 362],
-    one: &'a [u32; 362],
-    two: &'a [u32; 362],
-    three: &'a [u32; 362],
+    counts: &'a [u32; 1448],
     n: usize,
     capped: bool,
     limit: u32,
     bound: u32,
-    first: &'a [u32; 61],
-    second: &'a [u32; 61],
-    third: &'a [u32; 61],
+    caps: &'a [u32; 244],
     line: u32,
     time: u32,
 ) -> When
-    requires { ⌜ CanStart (profileOf n (now at) (now one) (now two) (now three)) time × (1 ≤ limit) × (1 ≤ bound) × IsLine line × CanCap (capsOf (capsIn (now first) (now second) (now third)) line) ⌝ }
-    ensures { λ r. ⌜ Starts (profileOf n (now (at .entry)) (now (one .entry)) (now (two .entry)) (now (three .entry))) (ruleOf capped limit bound (capsIn (now (first .entry)) (now (second .entry)) (now (third .entry)))) line time r ⌝ }
+    requires { ⌜ CanStart (profileOf n (now at) (now counts)) time × (1 ≤ limit) × (1 ≤ bound) × IsLine line × CanCap (capsIn (now caps)) line ⌝ }
+    ensures { λ r. ⌜ Starts (profileOf n (now (at .entry)) (now (counts .entry))) (ruleOf capped limit bound (capsIn (now (caps .entry)))) line time r ⌝ }
 {
     if capped {
-        return When::Minute(earliest_under(
-            at,
-            one,
-            two,
-            three,
-            n,
-            first,
-            second,
-            third,
-            line,
-            time,
-        ));
+        return When::Minute(earliest_under(at, counts, n, caps, line, time));
     }
-    earliest(at, one, two, three, n, limit, bound, line, time)
+    earliest(at, counts, n, limit, bound, line, time)
 }
 
 // Places the charges of the queue, each at the smallest start that the rule allows.
@@ -182,9 +157,7 @@ fn place_all(charges: Charges, clock: u32, rule: Rule, queue: Places, begun: Pro
     let caps = rule.caps;
     let mut steps = begun.steps;
     let mut at = begun.at;
-    let mut one = begun.one;
-    let mut two = begun.two;
-    let mut three = begun.three;
+    let mut counts = begun.counts;
     let mut starts = [0; 180];
     for k in 0..n {
         let i = queue.places[k];
@@ -192,52 +165,27 @@ fn place_all(charges: Charges, clock: u32, rule: Rule, queue: Places, begun: Pro
         let time = charges.times[i];
         let found = smallest_start(
             &at,
-            &one,
-            &two,
-            &three,
+            &counts,
             steps,
             rule.capped,
             rule.limit,
             rule.bound,
-            &caps.one,
-            &caps.two,
-            &caps.three,
+            &caps.caps,
             line,
             time,
         );
         let When::Minute(s) = found else {
-            let profile = Profile {
-                steps,
-                at,
-                one,
-                two,
-                three,
-            };
+            let profile = Profile { steps, at, counts };
             return Placement {
                 complete: false,
                 profile,
                 starts,
             };
         };
-        steps = add(
-            &mut at,
-            &mut one,
-            &mut two,
-            &mut three,
-            steps,
-            line,
-            time,
-            s,
-        );
+        steps = add(&mut at, &mut counts, steps, line, time, s);
         starts[i] = s;
     }
-    let profile = Profile {
-        steps,
-        at,
-        one,
-        two,
-        three,
-    };
+    let profile = Profile { steps, at, counts };
     Placement {
         complete: true,
         profile,

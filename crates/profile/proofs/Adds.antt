@@ -1,24 +1,27 @@
 -- What splitting a profile and adding a load do to the loads that it shows.
 use Prim.Native.Nat.{ℕ, _+_, _-_, _≤_, _<_, _^_, max}
 use mathlib.Core.Path.{_≡_, refl, sym, _∙_, ap, subst}
-use mathlib.Core.Bool.{Bool, cond, _&&_}
+use mathlib.Core.Bool.{Bool, true, false, cond, _&&_}
 use mathlib.Core.List.{List, [], _∷_}
 use mathlib.Core.Logic.{_⊎_, inl, inr, ⊎-elim}
 use native.Mathlib.Omega.{arith}
-use borrow.Author.Tests.{le-leb, lt-leb}
-use lib.Dec.{leb, ltb}
+use borrow.Author.Tests.{le-leb, lt-leb, ne-eqb}
+use lib.Dec.{leb, ltb, eqb}
 use lib.ListN.{length, getD, length-append}
-use Rattle.rules.specs.Load.{Load, loadFrom, IsLine, share, draws, count, lastUntil}
+use Rattle.rules.specs.Load.{Load, loadFrom, IsLine, active, share, draws, count, lastUntil}
 use Rattle.rules.specs.Search.{added}
 use Rattle.rules.proofs.Ranges.{below-or-not}
 use Rattle.rules.proofs.Lists.{length-tabulate, tabulate-next}
 use Rattle.rules.proofs.Counts.{draws-before, draws-after, draws-most}
 use Rattle.rules.proofs.Searches.{count-added}
-use Rattle.profile.specs.Steps.{levelAt, In, Rising, Inserted, Raised}
+use Rattle.profile.specs.Steps.{levelAt, In, Column, Rising, Inserted, DoubledIn, RaisedIn}
 use Rattle.profile.specs.Shows.{lineOf, levelOf, Formed, Shows, Small, Split, CanAdd, Added, loadsIn}
 use Rattle.profile.specs.declared.Profile.{Profile}
 use Rattle.profile.proofs.Levels.{level-in, at-step, rising-le}
 use Rattle.profile.proofs.Splits.{split-level, split-rises, split-ends, raise-level}
+
+column : (l : ℕ) → IsLine l → Column l
+column l h = (h .low, omega (arith, h .high))
 
 -- Split
 
@@ -39,7 +42,7 @@ split-none p i t f h e =
 
 module _ (p q : Profile) (i t : ℕ) (f : Formed p) (room : p .steps < 362) (h : In (p .at) (p .steps) i t) (ne : getD (p .at) i 0 ≡ t → ⊥)
     (e : q .steps ≡ p .steps + 1) (ia : Inserted (p .at) (q .at) (p .steps) (i + 1) t)
-    (il : (l : ℕ) → IsLine l → Inserted (lineOf p l) (lineOf q l) (p .steps) (i + 1) (getD (lineOf p l) i 0)) where
+    (ic : DoubledIn (p .counts) (q .counts) (p .steps) i) where
   lt : getD (p .at) i 0 < t
   lt = ⊎-elim (λ a. a) (λ a. absurd (ne (omega (arith, h .begun)))) (below-or-not (getD (p .at) i 0) t)
 
@@ -49,7 +52,7 @@ module _ (p q : Profile) (i t : ℕ) (f : Formed p) (room : p .steps < 362) (h :
         formed =
             record {
               at-size = ia .size;
-              line-sizes = λ l hl. il l hl .size;
+              counts-size = ic .size;
               some = omega arith;
               fits = omega arith;
               rises = split-rises e h lt ia (f .rises);
@@ -58,7 +61,7 @@ module _ (p q : Profile) (i t : ℕ) (f : Formed p) (room : p .steps < 362) (h :
         more = omega arith;
         starts = ia .before 0 (omega arith);
         ends = split-ends e h lt ia;
-        same = λ l hl u a. split-level e h lt ia (lineOf p l) (lineOf q l) (il l hl) u a;
+        same = λ l hl u a. split-level e h lt ia (lineOf p l) (lineOf q l) (ic .each l (column l hl)) u a;
         below = omega (arith, h .below);
         begins = ia .here;
         earlier = λ m a b.
@@ -68,7 +71,7 @@ module _ (p q : Profile) (i t : ℕ) (f : Formed p) (room : p .steps < 362) (h :
 -- Add
 
 -- the level of a step is that of its first minute, so it is small
-pub small-step : (p : Profile) → Formed p → Small p → (l : ℕ) → IsLine l → (m : ℕ) → m < p .steps → getD (lineOf p l) m 0 ≤ 1000
+pub small-step : (p : Profile) → Formed p → Small p → (l : ℕ) → IsLine l → (m : ℕ) → m < p .steps → lineOf p l m ≤ 1000
 small-step p f s l hl m h =
     omega (
       arith,
@@ -83,20 +86,35 @@ last-added (x ∷ xs) line time s = omega (arith, last-added xs line time s)
 pub length-added : (xs : List Load) (line time s : ℕ) → length (added xs line time s) ≡ length xs + 1
 length-added xs line time s = length-append xs (loadFrom line time s ∷ [])
 
--- a load that ends by the clock, or has no minute
-pub add-none : (p : Profile) (line time start : ℕ) → start + time ≤ max (getD (p .at) 0 0) start → Added p p line time start
-add-none p line time start h clock loads s =
+-- a load that no line draws from the clock on
+add-idle :
+    (p : Profile) (line time start : ℕ) → ((l : ℕ) → IsLine l → (t : ℕ) → getD (p .at) 0 0 ≤ t → draws (loadFrom line time start) l t ≡ 0) →
+    Added p p line time start
+add-idle p line time start h clock loads s =
     record {
       formed = s .formed;
       few = omega (arith, s .few, length-added loads line time start);
       starts = s .starts;
       ends = λ i a. omega (arith, s .ends i a, last-added loads line time start);
-      counted = λ l hl t a. s .counted l hl t a ∙ sym (count-added loads line time start l t ∙ idle l t a (below-or-not t start));
+      counted = λ l hl t a. omega (arith, s .counted l hl t a, count-added loads line time start l t, h l hl t (omega (arith, s .starts)));
     }
+
+-- it ends by the clock, or has no minute
+pub add-none : (p : Profile) (line time start : ℕ) → start + time ≤ max (getD (p .at) 0 0) start → Added p p line time start
+add-none p line time start h = add-idle p line time start (λ l hl t a. idle l t a (below-or-not t start))
   where
-    idle : (l t : ℕ) → clock ≤ t → (t < start) ⊎ (start ≤ t) → count loads l t + draws (loadFrom line time start) l t ≡ count loads l t
-    idle l t a (inl b) = omega (arith, draws-before (loadFrom line time start) l t b)
-    idle l t a (inr b) = omega (arith, draws-after (loadFrom line time start) l t (omega (arith, s .starts)))
+    idle : (l t : ℕ) → getD (p .at) 0 0 ≤ t → (t < start) ⊎ (start ≤ t) → draws (loadFrom line time start) l t ≡ 0
+    idle l t a (inl b) = draws-before (loadFrom line time start) l t b
+    idle l t a (inr b) = draws-after (loadFrom line time start) l t (omega arith)
+
+-- it is on no line
+pub add-other : (p : Profile) (line time start : ℕ) → (IsLine line → ⊥) → Added p p line time start
+add-other p line time start not =
+    add-idle p line time start (λ l hl t a. nothing (active (loadFrom line time start) t) l (ne-eqb line l (λ e. not (subst IsLine (sym e) hl))))
+  where
+    nothing : (b : Bool) (l : ℕ) → eqb line l ≡ false → cond b (share line l) 0 ≡ 0
+    nothing true l e = rw e refl
+    nothing false l e = refl
 
 -- two splits: step i of q begins where the load does, or at the clock, and step j where it ends
 module _ {p p₁ q : Profile} {time start from i j : ℕ} (can : CanAdd p time start) (e : from ≡ max (getD (p .at) 0 0) start)
@@ -114,19 +132,19 @@ module _ {p p₁ q : Profile} {time start from i j : ℕ} (can : CanAdd p time s
   same-level : (l : ℕ) → IsLine l → (u : ℕ) → getD (p .at) 0 0 ≤ u → levelOf q l u ≡ levelOf p l u
   same-level l hl u a = s₂ .same l hl u (omega (arith, s₁ .starts)) ∙ s₁ .same l hl u a
 
-  small : (l : ℕ) → IsLine l → (m : ℕ) → m < q .steps → getD (lineOf q l) m 0 ≤ 1000
+  small : (l : ℕ) → IsLine l → (m : ℕ) → m < q .steps → lineOf q l m ≤ 1000
   small =
       small-step q (s₂ .formed)
       (λ l hl t a. omega (arith, same-level l hl t (omega (arith, s₁ .starts, s₂ .starts)), can .small l hl t (omega (arith, s₁ .starts, s₂ .starts))))
 
-  -- each line of q may be raised
-  pub raise-can :
-      (l : ℕ) → IsLine l → (x : ℕ) → x ≤ 1 → (length (lineOf q l) ≡ 362) × (i ≤ j) × (j ≤ 362) × ((m : ℕ) → m < j → getD (lineOf q l) m 0 + x < 2 ^ 32)
-  raise-can l hl x h =
-      (s₂ .formed .line-sizes l hl, order, omega (arith, s₂ .below, s₂ .formed .fits), λ m a. omega (arith, small l hl m (omega (arith, s₂ .below))))
+  module _ {line : ℕ} (hl : IsLine line) where
+    -- the line of q may be raised
+    pub raise-can :
+        (length (q .counts) ≡ 1448) × IsLine line × (i ≤ j) × (j ≤ 362) × ((m : ℕ) → m < j → lineOf q line m + 1 < 2 ^ 32)
+    raise-can =
+        (s₂ .formed .counts-size, hl, order, omega (arith, s₂ .below, s₂ .formed .fits), λ m a. omega (arith, small line hl m (omega (arith, s₂ .below))))
 
-  module _ (line : ℕ) (r : Profile) (en : r .steps ≡ q .steps) (ea : r .at ≡ q .at)
-      (ra : (l : ℕ) → IsLine l → Raised (lineOf q l) (lineOf r l) i j (share line l)) where
+  module _ (line : ℕ) (r : Profile) (en : r .steps ≡ q .steps) (ea : r .at ≡ q .at) (ra : RaisedIn (q .counts) (r .counts) line i j) where
     -- clipped to the clock, the load is the same in every minute from there on
     clipped : (u : ℕ) → getD (p .at) 0 0 ≤ u → leb from u ≡ leb start u
     clipped u a =
@@ -138,7 +156,7 @@ module _ {p p₁ q : Profile} {time start from i j : ℕ} (can : CanAdd p time s
     new-level : (l : ℕ) → IsLine l → (u : ℕ) → getD (p .at) 0 0 ≤ u → levelOf r l u ≡ levelOf p l u + draws (loadFrom line time start) l u
     new-level l hl u a =
         ap (λ (n : ℕ). levelAt (r .at) (lineOf r l) n u) en ∙ ap (λ (x : List ℕ). levelAt x (lineOf r l) (q .steps) u) ea
-        ∙ raise-level (q .at) (s₂ .formed .rises) i-below (s₂ .below) (ra l hl) u (omega (arith, s₁ .starts, s₂ .starts))
+        ∙ raise-level (q .at) (s₂ .formed .rises) i-below (s₂ .below) (ra .each l (column l hl)) u (omega (arith, s₁ .starts, s₂ .starts))
         ∙ ap (λ (x : ℕ). levelOf q l u + cond (leb x u && ltb u (getD (q .at) j 0)) (share line l) 0) i-begins
         ∙ ap (λ (x : ℕ). levelOf q l u + cond (leb from u && ltb u x) (share line l) 0) (s₂ .begins)
         ∙ ap (λ (b : Bool). levelOf q l u + cond (b && ltb u (start + time)) (share line l) 0) (clipped u a)
@@ -150,7 +168,7 @@ module _ {p p₁ q : Profile} {time start from i j : ℕ} (can : CanAdd p time s
           formed =
               record {
                 at-size = ap length ea ∙ s₂ .formed .at-size;
-                line-sizes = λ l hl. ra l hl .size;
+                counts-size = ra .size;
                 some = omega (arith, s₂ .formed .some);
                 fits = omega (arith, s₂ .formed .fits);
                 rises = subst (λ (n : ℕ). Rising (r .at) n) (sym en) (subst (λ (x : List ℕ). Rising x (q .steps)) (sym ea) (s₂ .formed .rises));
@@ -169,7 +187,7 @@ module _ {p p₁ q : Profile} {time start from i j : ℕ} (can : CanAdd p time s
 -- Loads from nothing
 
 -- no load
-pub shows-none : (p : Profile) (clock : ℕ) → Formed p → p .steps ≡ 1 → getD (p .at) 0 0 ≡ clock → ((l : ℕ) → IsLine l → getD (lineOf p l) 0 0 ≡ 0) → Shows p clock []
+pub shows-none : (p : Profile) (clock : ℕ) → Formed p → p .steps ≡ 1 → getD (p .at) 0 0 ≡ clock → ((l : ℕ) → IsLine l → lineOf p l 0 ≡ 0) → Shows p clock []
 shows-none p clock f n e z =
     record {
       formed = f;

@@ -39,7 +39,7 @@ abbrev pub Respects : ((ℕ → ℕ) → Type 0) → Type 0
 Respects P = (f g : ℕ → ℕ) → ((l : ℕ) → IsLine l → g l ≡ f l) → P f → P g
 
 module _ {P : (ℕ → ℕ) → Type 0} {p : Profile} {i : ℕ} (same : Respects P) (f : Formed p) (w : Walked P p i) (below : i < p .steps) where
-  pub walked-more : P (λ l. getD (lineOf p l) i 0) → Walked P p (i + 1)
+  pub walked-more : P (λ l. lineOf p l i) → Walked P p (i + 1)
   walked-more h =
       record {
         most = omega arith;
@@ -47,7 +47,7 @@ module _ {P : (ℕ → ℕ) → Type 0} {p : Profile} {i : ℕ} (same : Respects
             ⊎-elim
             (λ lt. w .passed t a (λ x. lt))
             (λ ge.
-            same (λ l. getD (lineOf p l) i 0) (levels p t)
+            same (λ l. lineOf p l i) (levels p t)
             (λ l j. level-in (p .at) (lineOf p l) (p .steps) i t (in-more t (f .rises) (at-step (p .at) (p .steps) i (f .rises) below) ge b)) h)
             (below-or-not t (getD (p .at) i 0));
       }
@@ -73,7 +73,7 @@ limit-kept {p} {limit} h clock xs bound s =
     (fromOn-all clock xs (limitAt (limits limit bound) xs)
     (λ t a. limited-all limit (counts xs t) (shown (limited-respects limit) s t a (h t (omega (arith, s .starts))))))
 
-pub limit-broken : {p : Profile} {limit : ℕ} (i : ℕ) → Formed p → i < p .steps → (Limited limit (λ l. getD (lineOf p l) i 0) → ⊥) → WithinLimit p limit false
+pub limit-broken : {p : Profile} {limit : ℕ} (i : ℕ) → Formed p → i < p .steps → (Limited limit (λ l. lineOf p l i) → ⊥) → WithinLimit p limit false
 limit-broken {p} {limit} i f below h clock xs bound s =
     sym
     (fails (fromOn clock xs (limitAt (limits limit bound) xs))
@@ -111,8 +111,8 @@ pub compared-none : (p : Profile) (i d : ℕ) → Compared p i d 1
 compared-none p i d = record { low = omega arith; high = omega arith; near = λ l a b. absurd (omega arith) }
 
 -- what the code has compared
-module _ {p : Profile} {i d line a b r : ℕ} (w : Compared p i d line) (more : line ≤ 3) (ea : a ≡ getD (lineOf p line) i 0)
-    (eb : b ≡ getD (lineOf p (line % 3 + 1)) i 0) (er : r ≡ max a b - min a b) where
+module _ {p : Profile} {i d line a b r : ℕ} (w : Compared p i d line) (more : line ≤ 3) (ea : a ≡ lineOf p line i)
+    (eb : b ≡ lineOf p (line % 3 + 1) i) (er : r ≡ max a b - min a b) where
   pub compared-more : r ≤ d → Compared p i d (line + 1)
   compared-more h =
       record {
@@ -121,7 +121,7 @@ module _ {p : Profile} {i d line a b r : ℕ} (w : Compared p i d line) (more : 
         near = below-more _ _ (w .near) (λ x. let n = near-by a b d (omega arith) in (omega arith, omega arith));
       }
 
-  pub compared-off : d < r → Balanced d (λ l. getD (lineOf p l) i 0) → ⊥
+  pub compared-off : d < r → Balanced d (λ l. lineOf p l i) → ⊥
   compared-off lt h =
       let x : a ≤ b + d = omega (arith, h line (line % 3 + 1) here next) in
       let y : b ≤ a + d = omega (arith, h (line % 3 + 1) line next here) in
@@ -134,9 +134,9 @@ module _ {p : Profile} {i d line a b r : ℕ} (w : Compared p i d line) (more : 
       next = record { low = omega arith; high = omega arith }
 
 -- each line against the next is each against each
-pub compared-all : {p : Profile} {i d line : ℕ} → Compared p i d line → 3 < line → Balanced d (λ l. getD (lineOf p l) i 0)
+pub compared-all : {p : Profile} {i d line : ℕ} → Compared p i d line → 3 < line → Balanced d (λ l. lineOf p l i)
 compared-all {p} {i} {d} {line} w h l m j k =
-    each-line (λ l. (m : ℕ) → IsLine m → getD (lineOf p l) i 0 ≤ getD (lineOf p m) i 0 + d)
+    each-line (λ l. (m : ℕ) → IsLine m → lineOf p l i ≤ lineOf p m i + d)
     (each-line _ (omega arith) (first .0) (third .1))
     (each-line _ (first .1) (omega arith) (second .0))
     (each-line _ (third .0) (second .1) (omega arith)) l j m k
@@ -157,7 +157,7 @@ unbalanced-never {p} bound h clock xs limit s =
     (λ t a b. ap not (balanced-all bound (counts xs t) (shown (balanced-respects bound) s t a (h t (omega (arith, s .starts))))))
 
 pub unbalanced-at :
-    {p : Profile} {i : ℕ} (bound : ℕ) → Formed p → Walked (Balanced bound) p i → i < p .steps → (Balanced bound (λ l. getD (lineOf p l) i 0) → ⊥) →
+    {p : Profile} {i : ℕ} (bound : ℕ) → Formed p → Walked (Balanced bound) p i → i < p .steps → (Balanced bound (λ l. lineOf p l i) → ⊥) →
     Unbalanced p bound (Minute (getD (p .at) i 0))
 unfolding firstUnbalanced
 unbalanced-at {p} {i} bound f w below off clock xs limit s =
@@ -182,7 +182,7 @@ unbalanced-at {p} {i} bound f w below off clock xs limit s =
         fails (balanceAt (limits limit bound) xs (getD (p .at) i 0))
         (λ e.
         off
-        (balanced-respects bound (counts xs (getD (p .at) i 0)) (λ l. getD (lineOf p l) i 0)
+        (balanced-respects bound (counts xs (getD (p .at) i 0)) (λ l. lineOf p l i)
         (λ l j.
         sym (level-in (p .at) (lineOf p l) (p .steps) i (getD (p .at) i 0) (at-step (p .at) (p .steps) i (f .rises) below))
         ∙ s .counted l j (getD (p .at) i 0) from)

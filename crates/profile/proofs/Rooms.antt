@@ -36,7 +36,7 @@ room-cond false t = room-after 0 t (omega arith) (omega arith)
 
 -- in a step the level is that of the step
 pub room-in : {ats : List ℕ} (rooms : List ℕ) {n i t : ℕ} → In ats n i t → roomAt ats rooms n t ≡ hasRoom (getD rooms i 0) t
-room-in {ats} rooms {n} {i} {t} h = ap (λ (x : ℕ). hasRoom x t) (level-in ats rooms n i t h)
+room-in {ats} rooms {n} {i} {t} h = ap (λ (x : ℕ). hasRoom x t) (level-in ats (λ i. getD rooms i 0) n i t h)
 
 -- a step goes on up to the next
 pub in-more : {ats : List ℕ} {n i t : ℕ} (v : ℕ) → Rising ats n → In ats n i t → t ≤ v → (i + 1 < n → v < getD ats (i + 1) 0) → In ats n i v

@@ -12,6 +12,7 @@ use Rattle.rules.specs.Search.{added, earliest}
 use Rattle.rules.proofs.Ranges.{fails, below-or-not, first-is, first-nothing}
 use Rattle.rules.proofs.Counts.{draws-before, draws-after, draws-in, share-most, count-past, Sound, sound-at, sound-all, sound-same, sound-few, sound-from, sound-true}
 use Rattle.rules.proofs.Searches.{count-added}
+use Rattle.profile.specs.Steps.{lineIn}
 use Rattle.profile.specs.Shows.{ofLines, lineOf, levelOf, levels, soundIn, FailsBetween, UnsoundIn, Formed, Shows, raised, CanStart, Earliest}
 use Rattle.profile.specs.Rooms.{hasRoom, roomAt, RoomsWithin, SmallSteps, FailsAt, Misses, Least, Settled, Rests, AllOrNone, CanSearch}
 use Rattle.profile.specs.declared.Profile.{Profile}
@@ -107,29 +108,28 @@ module _ (y : Limits) (k : ℕ) (xs : List Load) (line time e r : ℕ) (q : Sett
 
 -- The room of each step, place by place
 
-pub within-none : (one two three rooms : List ℕ) (limit bound line : ℕ) → length rooms ≡ 362 → RoomsWithin one two three 0 limit bound line rooms
-within-none one two three rooms limit bound line h = record { filled = record { size = h; each = λ i b. absurd (omega arith) } }
+pub within-none : (counts rooms : List ℕ) (limit bound line : ℕ) → length rooms ≡ 362 → RoomsWithin counts 0 limit bound line rooms
+within-none counts rooms limit bound line h = record { filled = record { size = h; each = λ i b. absurd (omega arith) } }
 
 pub within-more :
-    {one two three rooms : List ℕ} {n limit bound line a b c v : ℕ} → RoomsWithin one two three n limit bound line rooms → n < 362 →
-    a ≡ share line 1 → b ≡ share line 2 → c ≡ share line 3 →
-    v ≡ cond (soundCounts (limits limit bound) (ofLines (getD one n 0 + a) (getD two n 0 + b) (getD three n 0 + c))) 4294967295 0 →
-    RoomsWithin one two three (n + 1) limit bound line (set rooms n v)
-within-more {one} {two} {three} {rooms} {n} {limit} {bound} {line} {a} {b} {c} w h ea eb ec e =
+    {counts rooms : List ℕ} {n limit bound line a b c v : ℕ} → RoomsWithin counts n limit bound line rooms → n < 362 →
+    a ≡ lineIn counts 1 n + share line 1 → b ≡ lineIn counts 2 n + share line 2 → c ≡ lineIn counts 3 n + share line 3 →
+    v ≡ cond (soundCounts (limits limit bound) (ofLines a b c)) 4294967295 0 →
+    RoomsWithin counts (n + 1) limit bound line (set rooms n v)
+within-more {counts} {rooms} {n} {limit} {bound} {line} {a} {b} {c} w h ea eb ec e =
     record {
       filled =
           filled-more (w .filled) h
           (e ∙ ap (λ (x : Bool). cond x 4294967295 0)
-          (sound-tests (limits limit bound) (ofLines (getD one n 0 + a) (getD two n 0 + b) (getD three n 0 + c))
-          (λ l. getD (ofLines one two three l) n 0 + share line l)
-          (each-line _ (omega arith) (omega arith) (omega arith))));
+          (sound-tests (limits limit bound) (ofLines a b c) (λ l. lineIn counts l n + share line l)
+          (each-line _ ea eb ec)));
     }
 
 -- What a profile shows
 
 -- the room of its steps is that of its levels
 pub within-levels :
-    {p : Profile} {limit bound line : ℕ} {rooms : List ℕ} → Formed p → RoomsWithin (p .one) (p .two) (p .three) (p .steps) limit bound line rooms →
+    {p : Profile} {limit bound line : ℕ} {rooms : List ℕ} → Formed p → RoomsWithin (p .counts) (p .steps) limit bound line rooms →
     (t : ℕ) → getD (p .at) 0 0 ≤ t → roomAt (p .at) rooms (p .steps) t ≡ soundCounts (limits limit bound) (λ l. levelOf p l t + share line l)
 within-levels {p} {limit} {bound} {line} {rooms} f w t a = go (step-of (p .at) (p .steps) t (f .some) a)
   where
@@ -137,13 +137,13 @@ within-levels {p} {limit} {bound} {line} {rooms} f w t a = go (step-of (p .at) (
     go i =
         room-in rooms (i .inside)
         ∙ ap (λ (x : ℕ). hasRoom x t) (w .filled .each (i .step) (i .inside .below))
-        ∙ room-cond (soundCounts (limits limit bound) (λ l. getD (lineOf p l) (i .step) 0 + share line l)) t
-        ∙ sound-tests (limits limit bound) (λ l. getD (lineOf p l) (i .step) 0 + share line l) (λ l. levelOf p l t + share line l)
+        ∙ room-cond (soundCounts (limits limit bound) (λ l. lineOf p l (i .step) + share line l)) t
+        ∙ sound-tests (limits limit bound) (λ l. lineOf p l (i .step) + share line l) (λ l. levelOf p l t + share line l)
         (λ l h. omega (arith, level-in (p .at) (lineOf p l) (p .steps) (i .step) t (i .inside)))
 
 module _ {p : Profile} {clock : ℕ} {xs : List Load} (s : Shows p clock xs) where
   pub within-shown :
-      {limit bound line : ℕ} {rooms : List ℕ} → RoomsWithin (p .one) (p .two) (p .three) (p .steps) limit bound line rooms →
+      {limit bound line : ℕ} {rooms : List ℕ} → RoomsWithin (p .counts) (p .steps) limit bound line rooms →
       (t : ℕ) → clock ≤ t → roomAt (p .at) rooms (p .steps) t ≡ soundCounts (limits limit bound) (raised xs line t)
   within-shown {limit} {bound} {line} w t a =
       within-levels (s .formed) w t (omega (arith, s .starts))
@@ -187,26 +187,26 @@ settled-same h q =
 -- The parts of `earliest`
 
 module _ {p : Profile} {time limit bound line : ℕ} (can : CanStart p time) (some-limit : 1 ≤ limit) (some-bound : 1 ≤ bound) {rooms : List ℕ}
-    (w : RoomsWithin (p .one) (p .two) (p .three) (p .steps) limit bound line rooms) where
+    (w : RoomsWithin (p .counts) (p .steps) limit bound line rooms) where
   -- past the last step one more load is alone
   pub within-rests : Rests rooms (p .steps)
   within-rests =
       let e : getD rooms (p .steps - 1) 0 ≡ 4294967295 =
       w .filled .each (p .steps - 1) (omega (arith, can .formed .some))
       ∙ ap (λ (b : Bool). cond b 4294967295 0)
-      (sound-all (limits limit bound) (λ l. getD (lineOf p l) (p .steps - 1) 0 + share line l)
-      (sound-same (limits limit bound) (share line) (λ l. getD (lineOf p l) (p .steps - 1) 0 + share line l) (λ l h. omega (arith, can .empty l h))
+      (sound-all (limits limit bound) (λ l. lineOf p l (p .steps - 1) + share line l)
+      (sound-same (limits limit bound) (share line) (λ l. lineOf p l (p .steps - 1) + share line l) (λ l h. omega (arith, can .empty l h))
       (sound-few (limits limit bound) (share line) some-limit some-bound (share-most line)))) in
       omega arith
 
   pub within-all : AllOrNone rooms (p .steps)
-  within-all i h = go (soundCounts (limits limit bound) (λ l. getD (lineOf p l) i 0 + share line l)) (w .filled .each i h)
+  within-all i h = go (soundCounts (limits limit bound) (λ l. lineOf p l i + share line l)) (w .filled .each i h)
     where
       go : (b : Bool) → getD rooms i 0 ≡ cond b 4294967295 0 → (getD rooms i 0 ≡ 4294967295) ⊎ (getD rooms i 0 ≡ 0)
       go true e = inl e
       go false e = inr e
 
-pub start-small : {p : Profile} {time : ℕ} → CanStart p time → SmallSteps (p .one) (p .two) (p .three) (p .steps)
+pub start-small : {p : Profile} {time : ℕ} → CanStart p time → SmallSteps (p .counts) (p .steps)
 start-small {p} c = small-step p (c .formed) (c .small)
 
 pub start-any : {p : Profile} {time : ℕ} → CanStart p time → CanStart p 0
@@ -231,7 +231,7 @@ first-last {p} c = rising-le (p .at) (p .steps) (c .formed .rises) 0 (p .steps -
 
 -- The first and the last unsound minute
 
-module _ {p : Profile} {limit bound e : ℕ} {rooms : List ℕ} (f : Formed p) (w : RoomsWithin (p .one) (p .two) (p .three) (p .steps) limit bound 0 rooms)
+module _ {p : Profile} {limit bound e : ℕ} {rooms : List ℕ} (f : Formed p) (w : RoomsWithin (p .counts) (p .steps) limit bound 0 rooms)
     (q : Settled (roomAt (p .at) rooms (p .steps)) (getD (p .at) 0 0) e) where
   held : (t : ℕ) → getD (p .at) 0 0 ≤ t → roomAt (p .at) rooms (p .steps) t ≡ soundIn p limit bound t
   held t a =
@@ -279,7 +279,7 @@ between-settled {f} {from} {until} {first} {last} h =
 
 -- The parts of `earliest`: e is the minute from which on the loads are sound
 module _ {p : Profile} {time limit bound line e start r : ℕ} {rooms : List ℕ}
-    (w : RoomsWithin (p .one) (p .two) (p .three) (p .steps) limit bound line rooms)
+    (w : RoomsWithin (p .counts) (p .steps) limit bound line rooms)
     (q : Settled (soundIn p limit bound) (getD (p .at) 0 0) e) (b : start ≡ max (getD (p .at) 0 0) (e - time))
     (m : Least (roomAt (p .at) rooms (p .steps)) time start r) (near : r ≤ getD (p .at) (p .steps - 1) 0) where
   module _ {clock : ℕ} {xs : List Load} (s : Shows p clock xs) where
@@ -310,7 +310,7 @@ module _ {p : Profile} {time limit bound line e start r : ℕ} {rooms : List ℕ
 
 -- the answers of `earliest`
 module _ {p : Profile} {time limit bound line start r : ℕ} {rooms : List ℕ}
-    (w : RoomsWithin (p .one) (p .two) (p .three) (p .steps) limit bound line rooms)
+    (w : RoomsWithin (p .counts) (p .steps) limit bound line rooms)
     (m : Least (roomAt (p .at) rooms (p .steps)) time start r) (near : r ≤ getD (p .at) (p .steps - 1) 0) where
   -- the loads are sound alone
   pub start-sound : start ≡ getD (p .at) 0 0 → ((t : ℕ) → getD (p .at) 0 0 ≤ t → soundIn p limit bound t ≡ true) → Earliest p limit bound line time (Minute r)

@@ -3,7 +3,6 @@ use Prim.Native.Nat.{ℕ, _+_, _%_, _≤_}
 use mathlib.Core.Path.{_≡_}
 use mathlib.Core.Bool.{Bool}
 use mathlib.Core.List.{List}
-use lib.ListN.{getD}
 use Rattle.rules.specs.Load.{Load, limits, limitAt, fromOn}
 use Rattle.rules.specs.Search.{firstUnbalanced}
 use Rattle.profile.specs.Shows.{lineOf, Shows, foundAt}
@@ -23,4 +22,4 @@ WithinLimit p limit r =
 -- the counts of line l and the next one, 1 after 3, differ by at most d in step i
 abbrev pub Near : Profile → ℕ → ℕ → ℕ → Type 0
 Near p i d l =
-    (getD (lineOf p l) i 0 ≤ getD (lineOf p (l % 3 + 1)) i 0 + d) × (getD (lineOf p (l % 3 + 1)) i 0 ≤ getD (lineOf p l) i 0 + d)
+    (lineOf p l i ≤ lineOf p (l % 3 + 1) i + d) × (lineOf p (l % 3 + 1) i ≤ lineOf p l i + d)

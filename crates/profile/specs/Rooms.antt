@@ -7,8 +7,7 @@ use mathlib.Core.Logic.{_⊎_}
 use lib.Dec.{ltb, leb}
 use lib.ListN.{getD}
 use Rattle.rules.specs.Load.{IsLine, share, limits, soundCounts}
-use Rattle.profile.specs.Steps.{levelAt, In, Rising, Filled}
-use Rattle.profile.specs.Shows.{ofLines}
+use Rattle.profile.specs.Steps.{levelAt, lineIn, In, Rising, Filled}
 use Rattle.profile.specs.declared.search.Failing.{Failing}
 use Rattle.profile.specs.declared.search.Failing.the-variants.{At, Nothing}
 
@@ -18,16 +17,16 @@ hasRoom room t = ltb t room || leb 4294967295 room
 
 -- minute t has room
 abbrev pub roomAt : List ℕ → List ℕ → ℕ → ℕ → Bool
-roomAt ats rooms n t = hasRoom (levelAt ats rooms n t) t
+roomAt ats rooms n t = hasRoom (levelAt ats (λ i. getD rooms i 0) n t) t
 
 -- step i has room, throughout or not at all, where three counts with one more load on the line are within limit and bound
-pub record RoomsWithin (one two three : List ℕ) (n limit bound line : ℕ) (rooms : List ℕ) : Type 0 where
+pub record RoomsWithin (counts : List ℕ) (n limit bound line : ℕ) (rooms : List ℕ) : Type 0 where
   pub filled :
-      Filled (λ i. cond (soundCounts (limits limit bound) (λ l. getD (ofLines one two three l) i 0 + share line l)) 4294967295 0) n rooms
+      Filled (λ i. cond (soundCounts (limits limit bound) (λ l. lineIn counts l i + share line l)) 4294967295 0) n rooms
 
 -- no count of the first n steps is large
-abbrev pub SmallSteps : List ℕ → List ℕ → List ℕ → ℕ → Type 0
-SmallSteps one two three n = (l : ℕ) → IsLine l → (m : ℕ) → m < n → getD (ofLines one two three l) m 0 ≤ 1000
+abbrev pub SmallSteps : List ℕ → ℕ → Type 0
+SmallSteps counts n = (l : ℕ) → IsLine l → (m : ℕ) → m < n → lineIn counts l m ≤ 1000
 
 -- where a step, or what is looked at, ends
 pub record End (ats : List ℕ) (n i until r : ℕ) : Type 0 where

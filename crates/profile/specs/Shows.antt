@@ -8,7 +8,7 @@ use lib.ListN.{length, getD}
 use Rattle.rules.specs.Basics.{tabulate, Found, at, nothing}
 use Rattle.rules.specs.Load.{Load, loadFrom, IsLine, share, count, lastUntil, limits, soundCounts}
 use Rattle.rules.specs.Search.{added, earliest}
-use Rattle.profile.specs.Steps.{levelAt, Rising}
+use Rattle.profile.specs.Steps.{levelAt, lineIn, Rising}
 use Rattle.profile.specs.declared.Profile.{Profile}
 use Rattle.profile.specs.declared.start.Unsound.{Unsound}
 use Rattle.profile.specs.declared.start.Unsound.the-variants.{Between, Nothing}
@@ -20,12 +20,12 @@ abbrev pub ofLines : {A : Type 0} → A → A → A → ℕ → A
 ofLines a b c l = cond (eqb l 1) a (cond (eqb l 2) b c)
 
 -- a profile from its parts
-abbrev pub profileOf : ℕ → List ℕ → List ℕ → List ℕ → List ℕ → Profile
-profileOf n ats one two three = record { steps = n; at = ats; one = one; two = two; three = three }
+abbrev pub profileOf : ℕ → List ℕ → List ℕ → Profile
+profileOf n ats counts = record { steps = n; at = ats; counts = counts }
 
 -- the counts of line l, step by step
-abbrev pub lineOf : Profile → ℕ → List ℕ
-lineOf p l = ofLines (p .one) (p .two) (p .three) l
+abbrev pub lineOf : Profile → ℕ → ℕ → ℕ
+lineOf p l = lineIn (p .counts) l
 
 -- the level of line l in minute t
 abbrev pub levelOf : Profile → ℕ → ℕ → ℕ
@@ -37,7 +37,7 @@ levels p t l = levelOf p l t
 
 pub record Formed (p : Profile) : Type 0 where
   pub at-size : length (p .at) ≡ 362
-  pub line-sizes : (l : ℕ) → IsLine l → length (lineOf p l) ≡ 362
+  pub counts-size : length (p .counts) ≡ 1448
   pub some : 1 ≤ p .steps
   pub fits : p .steps ≤ 362
   pub rises : Rising (p .at) (p .steps)
@@ -104,7 +104,7 @@ foundAt Never = nothing
 pub record CanStart (p : Profile) (time : ℕ) : Type 0 where
   pub formed : Formed p
   pub small : Small p
-  pub empty : (l : ℕ) → IsLine l → getD (lineOf p l) (p .steps - 1) 0 ≡ 0
+  pub empty : (l : ℕ) → IsLine l → lineOf p l (p .steps - 1) ≡ 0
   pub ends-fit : getD (p .at) (p .steps - 1) 0 + time < 2 ^ 32
 
 -- the levels in minute t are within limit and bound

@@ -1,15 +1,20 @@
 -- A step function: n steps, of which step i begins in minute `at` i and has the level `c` i from there on.
-use Prim.Native.Nat.{ℕ, zero, suc, _+_, _≤_, _<_}
+use Prim.Native.Nat.{ℕ, zero, suc, _+_, _-_, _*_, _≤_, _<_}
 use mathlib.Core.Path.{_≡_}
 use mathlib.Core.Bool.{cond}
 use mathlib.Core.List.{List}
 use lib.Dec.{leb}
 use lib.ListN.{length, getD}
+use Rattle.rules.specs.Load.{share}
 
 -- the level in the last of the n steps that begins at or before t, 0 if none does
-abbrev pub levelAt : List ℕ → List ℕ → ℕ → ℕ → ℕ
-levelAt ats cs zero t = 0
-levelAt ats cs (suc i) t = cond (leb (getD ats i 0) t) (getD cs i 0) (levelAt ats cs i t)
+abbrev pub levelAt : List ℕ → (ℕ → ℕ) → ℕ → ℕ → ℕ
+levelAt ats f zero t = 0
+levelAt ats f (suc i) t = cond (leb (getD ats i 0) t) (f i) (levelAt ats f i t)
+
+-- the counts of line l, step by step, in a list of four numbers a step
+abbrev pub lineIn : List ℕ → ℕ → ℕ → ℕ
+lineIn counts l = λ i. getD counts (4 * i + l - 1) 0
 
 -- i is that step
 pub record In (ats : List ℕ) (n i t : ℕ) : Type 0 where
@@ -27,12 +32,34 @@ pub record Inserted (a b : List ℕ) (n k v : ℕ) : Type 0 where
   pub here : getD b k 0 ≡ v
   pub after : (m : ℕ) → k ≤ m → m < n → getD b (suc m) 0 ≡ getD a m 0
 
--- b is a with x more in the places from i up to j
-pub record Raised (a b : List ℕ) (i j x : ℕ) : Type 0 where
-  pub size : length b ≡ 362
-  pub before : (m : ℕ) → m < i → getD b m 0 ≡ getD a m 0
-  pub between : (m : ℕ) → i ≤ m → m < j → getD b m 0 ≡ getD a m 0 + x
-  pub after : (m : ℕ) → j ≤ m → getD b m 0 ≡ getD a m 0
+-- b is a with the places from lo up to hi moved w places up
+pub record Shifted (a b : List ℕ) (lo hi w : ℕ) : Type 0 where
+  pub size : length b ≡ length a
+  pub still : (m : ℕ) → m < lo + w → getD b m 0 ≡ getD a m 0
+  pub moved : (m : ℕ) → lo ≤ m → m < hi → getD b (m + w) 0 ≡ getD a m 0
+
+-- g is f with step i there twice, among the first n
+pub record Doubled (f g : ℕ → ℕ) (n i : ℕ) : Type 0 where
+  pub before : (m : ℕ) → m ≤ i → g m ≡ f m
+  pub after : (m : ℕ) → i ≤ m → m < n → g (suc m) ≡ f m
+
+-- g is f with x more in the steps from i up to j
+pub record Raised (f g : ℕ → ℕ) (i j x : ℕ) : Type 0 where
+  pub before : (m : ℕ) → m < i → g m ≡ f m
+  pub between : (m : ℕ) → i ≤ m → m < j → g m ≡ f m + x
+  pub after : (m : ℕ) → j ≤ m → g m ≡ f m
+
+-- the same for all four numbers of a step
+abbrev pub Column : ℕ → Type 0
+Column l = (1 ≤ l) × (l ≤ 4)
+
+pub record DoubledIn (a b : List ℕ) (n i : ℕ) : Type 0 where
+  pub size : length b ≡ 1448
+  pub each : (l : ℕ) → Column l → Doubled (lineIn a l) (lineIn b l) n i
+
+pub record RaisedIn (a b : List ℕ) (line i j : ℕ) : Type 0 where
+  pub size : length b ≡ 1448
+  pub each : (l : ℕ) → Column l → Raised (lineIn a l) (lineIn b l) i j (share line l)
 
 -- the first n places of a are given by g
 pub record Filled (g : ℕ → ℕ) (n : ℕ) (a : List ℕ) : Type 0 where

@@ -1,7 +1,8 @@
 // Counts of the three lines in one minute.
 ghost use mathlib.Core.Path.{_≡_};
-ghost use Prim.Native.Nat.{_≤_, max, min};
-ghost use Rattle.rules.specs.Load.{share, limits, soundCounts};
+ghost use Prim.Native.Nat.{_<_, _≤_, max, min};
+ghost use Rattle.rules.specs.Load.{IsLine, share, limits, soundCounts};
+ghost use Rattle.profile.specs.Steps.{lineIn};
 ghost use Rattle.profile.specs.Shows.{ofLines};
 
 pub fn larger(a: u32, b: u32) -> u32
@@ -14,6 +15,14 @@ pub fn smaller(a: u32, b: u32) -> u32
     ensures { λ r. ⌜ r ≡ min a b ⌝ }
 {
     if b < a { b } else { a }
+}
+
+// The count of a line in a step.
+pub fn count_of<'a>(counts: &'a [u32; 1448], i: usize, line: usize) -> u32
+    requires { ⌜ (i < 362) × IsLine line ⌝ }
+    ensures { λ r. ⌜ r ≡ lineIn (now (counts .entry)) line i ⌝ }
+{
+    counts[4 * i + line - 1]
 }
 
 // What one load of a line adds to the count of line l.

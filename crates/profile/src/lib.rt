@@ -15,16 +15,14 @@ ghost use mathlib.Core.List.{[]};
 ghost use Rattle.rules.specs.Load.{IsLine};
 ghost use lib.ListN.{getD};
 ghost use Rattle.profile.specs.Balance.{Unbalanced, WithinLimit};
-ghost use Rattle.profile.specs.Caps.{capsOf, CanCap, EarliestUnder};
+ghost use Rattle.profile.specs.Caps.{CanCap, EarliestUnder};
 ghost use Rattle.profile.specs.Shows.{levelOf, Formed, Shows, CanAdd, Added, loadsIn, EndsFit, CanStart, Earliest};
 
-// The changes: step i begins in minute at[i] and has the counts one[i], two[i], three[i] from there on. The first step begins at the clock.
+// The changes: step i begins in minute at[i] and from there on has the count of line l at counts[4 * i + l - 1]; the fourth number is 0. The first step begins at the clock.
 pub struct Profile {
     pub steps: usize,
     pub at: [u32; 362],
-    pub one: [u32; 362],
-    pub two: [u32; 362],
-    pub three: [u32; 362],
+    pub counts: [u32; 1448],
 }
 
 // A minute, or none.
@@ -40,15 +38,11 @@ impl Profile {
     {
         let mut at = [0u32; 362];
         at[0] = clock;
-        let one = [0u32; 362];
-        let two = [0u32; 362];
-        let three = [0u32; 362];
+        let counts = [0u32; 1448];
         Profile {
             steps: 1,
             at,
-            one,
-            two,
-            three,
+            counts,
         }
     }
 
@@ -59,26 +53,9 @@ impl Profile {
     {
         let n = self.steps;
         let mut at = self.at;
-        let mut one = self.one;
-        let mut two = self.two;
-        let mut three = self.three;
-        let steps = loads::add(
-            &mut at,
-            &mut one,
-            &mut two,
-            &mut three,
-            n,
-            line,
-            time,
-            start,
-        );
-        Profile {
-            steps,
-            at,
-            one,
-            two,
-            three,
-        }
+        let mut counts = self.counts;
+        let steps = loads::add(&mut at, &mut counts, n, line, time, start);
+        Profile { steps, at, counts }
     }
 
     // The profile of the first n loads of three lists.
@@ -95,30 +72,13 @@ impl Profile {
         let p = Profile::new(clock);
         let mut steps = p.steps;
         let mut at = p.at;
-        let mut one = p.one;
-        let mut two = p.two;
-        let mut three = p.three;
+        let mut counts = p.counts;
         let mut i = 0;
         while i < n {
-            steps = loads::add(
-                &mut at,
-                &mut one,
-                &mut two,
-                &mut three,
-                steps,
-                lines[i],
-                times[i],
-                starts[i],
-            );
+            steps = loads::add(&mut at, &mut counts, steps, lines[i], times[i], starts[i]);
             i += 1;
         }
-        Profile {
-            steps,
-            at,
-            one,
-            two,
-            three,
-        }
+        Profile { steps, at, counts }
     }
 
     // The smallest start, not below the clock, with which the loads and one more are sound together.
@@ -127,46 +87,25 @@ impl Profile {
         ensures { λ r. ⌜ Earliest self limit bound line time r ⌝ }
     {
         let n = self.steps;
-        start::earliest(
-            &self.at,
-            &self.one,
-            &self.two,
-            &self.three,
-            n,
-            limit,
-            bound,
-            line,
-            time,
-        )
+        start::earliest(&self.at, &self.counts, n, limit, bound, line, time)
     }
 
     // The smallest start, not below the clock, with the line's count, itself included, at or below the cap in all its minutes.
     pub fn earliest_under(self, caps: LineCaps, line: u32, time: u32) -> u32
-        requires { ⌜ CanStart self time × IsLine line × CanCap (capsOf caps line) ⌝ }
+        requires { ⌜ CanStart self time × IsLine line × CanCap caps line ⌝ }
         ensures { λ r. ⌜ EarliestUnder self caps line time r ⌝ }
     {
         let n = self.steps;
-        start::earliest_under(
-            &self.at,
-            &self.one,
-            &self.two,
-            &self.three,
-            n,
-            &caps.one,
-            &caps.two,
-            &caps.three,
-            line,
-            time,
-        )
+        start::earliest_under(&self.at, &self.counts, n, &caps.caps, line, time)
     }
 
     // The count of a line in a minute.
     pub fn level(self, line: u32, t: u32) -> u32
-        requires { ⌜ Formed self × (getD (self .at) 0 0 ≤ t) ⌝ }
+        requires { ⌜ Formed self × IsLine line × (getD (self .at) 0 0 ≤ t) ⌝ }
         ensures { λ r. ⌜ r ≡ levelOf self line t ⌝ }
     {
         let n = self.steps;
-        balance::level(&self.at, &self.one, &self.two, &self.three, n, line, t)
+        balance::level(&self.at, &self.counts, n, line, t)
     }
 
     // The first minute in which two counts differ by more than the bound.
@@ -175,7 +114,7 @@ impl Profile {
         ensures { λ r. ⌜ Unbalanced self bound r ⌝ }
     {
         let n = self.steps;
-        balance::first_unbalanced(&self.at, &self.one, &self.two, &self.three, n, bound)
+        balance::first_unbalanced(&self.at, &self.counts, n, bound)
     }
 
     // Whether no count is above the limit.
@@ -184,6 +123,6 @@ impl Profile {
         ensures { λ r. ⌜ WithinLimit self limit r ⌝ }
     {
         let n = self.steps;
-        balance::within_limit(&self.at, &self.one, &self.two, &self.three, n, limit)
+        balance::within_limit(&self.at, &self.counts, n, limit)
     }
 }

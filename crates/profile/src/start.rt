@@ -12,7 +12,7 @@ ghost use Prim.Native.Nat.{_-_, _≤_, max};
 ghost use lib.ListN.{getD};
 ghost use Rattle.rules.specs.Load.{IsLine};
 ghost use Rattle.profile.specs.Shows.{profileOf, soundIn, CanStart, UnsoundIn, Earliest};
-ghost use Rattle.profile.specs.Caps.{capsIn, capsOf, CanCap, CanStartUnder, LeastUnder, EarliestUnder};
+ghost use Rattle.profile.specs.Caps.{capsIn, CanCap, EarliestUnder};
 
 // The first start, not below the clock, that reaches the end.
 pub fn reaching(clock: u32, end: u32, time: u32) -> u32
@@ -33,17 +33,15 @@ pub enum Unsound {
 // The first and the last minute in which the counts are not within limit and bound.
 pub fn unsound_minutes<'a>(
     at: &'a [u32; 362],
-    one: &'a [u32; 362],
-    two: &'a [u32; 362],
-    three: &'a [u32; 362],
+    counts: &'a [u32; 1448],
     n: usize,
     limit: u32,
     bound: u32,
 ) -> Unsound
-    requires { ⌜ CanStart (profileOf n (now at) (now one) (now two) (now three)) 0 × (1 ≤ limit) × (1 ≤ bound) ⌝ }
-    ensures { λ r. ⌜ UnsoundIn (soundIn (profileOf n (now (at .entry)) (now (one .entry)) (now (two .entry)) (now (three .entry))) limit bound) (getD (now (at .entry)) 0 0) (getD (now (at .entry)) (n - 1) 0) r ⌝ }
+    requires { ⌜ CanStart (profileOf n (now at) (now counts)) 0 × (1 ≤ limit) × (1 ≤ bound) ⌝ }
+    ensures { λ r. ⌜ UnsoundIn (soundIn (profileOf n (now (at .entry)) (now (counts .entry))) limit bound) (getD (now (at .entry)) 0 0) (getD (now (at .entry)) (n - 1) 0) r ⌝ }
 {
-    let rooms = rooms_within(one, two, three, n, limit, bound, 0);
+    let rooms = rooms_within(counts, n, limit, bound, 0);
     let end = settled(at, &rooms, n);
     let f = first_failing(at, &rooms, n, 0, at[0], end);
     let Failing::At { minute, step: _ } = f else {
@@ -59,21 +57,19 @@ pub fn unsound_minutes<'a>(
 // unsound without it: then it has to cover each minute in which they are.
 pub fn earliest<'a>(
     at: &'a [u32; 362],
-    one: &'a [u32; 362],
-    two: &'a [u32; 362],
-    three: &'a [u32; 362],
+    counts: &'a [u32; 1448],
     n: usize,
     limit: u32,
     bound: u32,
     line: u32,
     time: u32,
 ) -> When
-    requires { ⌜ CanStart (profileOf n (now at) (now one) (now two) (now three)) time × (1 ≤ limit) × (1 ≤ bound) ⌝ }
-    ensures { λ r. ⌜ Earliest (profileOf n (now (at .entry)) (now (one .entry)) (now (two .entry)) (now (three .entry))) limit bound line time r ⌝ }
+    requires { ⌜ CanStart (profileOf n (now at) (now counts)) time × (1 ≤ limit) × (1 ≤ bound) ⌝ }
+    ensures { λ r. ⌜ Earliest (profileOf n (now (at .entry)) (now (counts .entry))) limit bound line time r ⌝ }
 {
     let clock = at[0];
-    let rooms = rooms_within(one, two, three, n, limit, bound, line);
-    let u = unsound_minutes(at, one, two, three, n, limit, bound);
+    let rooms = rooms_within(counts, n, limit, bound, line);
+    let u = unsound_minutes(at, counts, n, limit, bound);
     let Unsound::Between { first, last } = u else {
         return When::Minute(search(at, &rooms, n, time, clock));
     };
@@ -86,42 +82,18 @@ pub fn earliest<'a>(
     }
 }
 
-// The smallest start, from the first step on, with room under the cap of a line in all its minutes.
-pub fn under_cap<'a>(
-    at: &'a [u32; 362],
-    counts: &'a [u32; 362],
-    n: usize,
-    caps: &'a [u32; 61],
-    time: u32,
-) -> u32
-    requires { ⌜ CanStartUnder (now at) (now counts) n time × CanCap (now caps) ⌝ }
-    ensures { λ r. ⌜ LeastUnder (now (at .entry)) (now (counts .entry)) n (now (caps .entry)) time r ⌝ }
-{
-    let rooms = rooms_under(counts, caps, n);
-    search(at, &rooms, n, time, at[0])
-}
-
 // The smallest start, not below the clock, with the line's count, itself included, at or below the cap in all its minutes.
 pub fn earliest_under<'a>(
     at: &'a [u32; 362],
-    one: &'a [u32; 362],
-    two: &'a [u32; 362],
-    three: &'a [u32; 362],
+    counts: &'a [u32; 1448],
     n: usize,
-    first: &'a [u32; 61],
-    second: &'a [u32; 61],
-    third: &'a [u32; 61],
+    caps: &'a [u32; 244],
     line: u32,
     time: u32,
 ) -> u32
-    requires { ⌜ CanStart (profileOf n (now at) (now one) (now two) (now three)) time × IsLine line × CanCap (capsOf (capsIn (now first) (now second) (now third)) line) ⌝ }
-    ensures { λ r. ⌜ EarliestUnder (profileOf n (now (at .entry)) (now (one .entry)) (now (two .entry)) (now (three .entry))) (capsIn (now (first .entry)) (now (second .entry)) (now (third .entry))) line time r ⌝ }
+    requires { ⌜ CanStart (profileOf n (now at) (now counts)) time × IsLine line × CanCap (capsIn (now caps)) line ⌝ }
+    ensures { λ r. ⌜ EarliestUnder (profileOf n (now (at .entry)) (now (counts .entry))) (capsIn (now (caps .entry))) line time r ⌝ }
 {
-    if line == 1 {
-        return under_cap(at, one, n, first, time);
-    }
-    if line == 2 {
-        return under_cap(at, two, n, second, time);
-    }
-    under_cap(at, three, n, third, time)
+    let rooms = rooms_under(counts, line as usize, caps, n);
+    search(at, &rooms, n, time, at[0])
 }

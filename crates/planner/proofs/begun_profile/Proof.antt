@@ -10,17 +10,17 @@ use Rattle.planner.proofs.begun_profile.Statement.{statement}
 use Rattle.planner.proofs.begun_profile.Tie as tie
 
 abbrev Inv-loop : tie.InvT-loop
-Inv-loop clock charges n steps₀ at₀ one₀ two₀ three₀ i₀ steps at one two three i =
-    (i ≤ n) × Shows (profileOf steps at one two three) clock (loadsOf (begunBelow clock charges i))
+Inv-loop clock charges n steps₀ at₀ counts₀ i₀ steps at counts i =
+    (i ≤ n) × Shows (profileOf steps at counts) clock (loadsOf (begunBelow clock charges i))
 
 abbrev μ-loop : tie.MeasureT-loop
-μ-loop clock charges n steps₀ at₀ one₀ two₀ three₀ i₀ steps at one two three i = n - i
+μ-loop clock charges n steps₀ at₀ counts₀ i₀ steps at counts i = n - i
 
 new-requires : tie.Need-new-requires Inv-loop μ-loop
 new-requires c κs = search needs
 
 loop-holds : tie.Need-loop-holds Inv-loop μ-loop
-loop-holds c = (omega arith, c .before .before .before .before .new .ensures)
+loop-holds c = (omega arith, c .before .before .new .ensures)
 
 mul-if1 : tie.Need-mul-if1 Inv-loop μ-loop
 mul-if1 c = omega arith
@@ -48,8 +48,8 @@ element-copy-out-add-3 c = omega arith
 
 add-requires : tie.Need-add-requires Inv-loop μ-loop
 add-requires c κs =
-    let l = c .before .before .before .before .before .before .before .before .before .before in
-    begun-can-add (l .before .before .before .before .before .before .pre) (l .loop .inv .1) (omega arith)
+    let l = c .before .before .before .before .before .before .before .before in
+    begun-can-add (l .before .before .before .before .pre) (l .loop .inv .1) (omega arith)
 
 add-i : tie.Need-add-i Inv-loop μ-loop
 add-i c = omega arith
@@ -63,20 +63,20 @@ loop-again c =
     ⊎-elim
     (λ w. (
       omega arith,
-      begun-on (l .before .before .before .before .before .before .pre) (l .loop .inv .1) (omega arith) (w .0 .taken) (w .8 .ensures)
-          (same-parts (w .9) (w .10) (w .11) (w .12) (w .13)),
+      begun-on (l .before .before .before .before .pre) (l .loop .inv .1) (omega arith) (w .0 .taken) (w .6 .ensures)
+          (same-parts (w .7) (w .8) (w .9)),
     ))
     (λ w. (
       omega arith,
-      begun-past (l .before .before .before .before .before .before .pre) (l .loop .inv .1) (omega arith) (w .0 .left)
-          (same-parts (w .1) (w .2) (w .3) (w .4) (w .5)),
+      begun-past (l .before .before .before .before .pre) (l .loop .inv .1) (omega arith) (w .0 .left)
+          (same-parts (w .1) (w .2) (w .3)),
     ))
     (c .if1 .came)
 
 returns : tie.Need-returns Inv-loop μ-loop
 returns c =
     let l = c .before in
-    let e : l .loop .i ≡ l .before .before .before .before .before .before .args .t1 .held = omega arith in
+    let e : l .loop .i ≡ l .before .before .before .before .args .t1 .held = omega arith in
     rw (← e) (l .loop .inv .1)
 
 pub begun-profile-spec : {M : Type 1} → statement M

@@ -42,7 +42,7 @@ returns-2 : tie.Need-returns-2 Inv-loop μ-loop
 returns-2 c = rounds-spent (c .before .before .before .before .before .before .before .loop .inv) (c .before .before .before .before .before .before .play .ensures) (c .before .before .before .outcome .given .1) (c .before .if1 .taken) (c .none .ensures .0) (c .none .ensures .1)
 
 lower-requires : tie.Need-lower-requires Inv-loop μ-loop
-lower-requires c κs = (c .before .before .before .before .before .before .loop .inv .shown .sizes, lowers-fit (c .before .before .before .before .before .before .loop .inv) (c .before .before .before .before .before .play .ensures) (c .before .before .outcome .given .1) .0)
+lower-requires c κs = (c .before .before .before .before .before .before .loop .inv .shown .size, lowers-fit (c .before .before .before .before .before .before .loop .inv) (c .before .before .before .before .before .play .ensures) (c .before .before .outcome .given .1) .0)
 
 add-rounds : tie.Need-add-rounds Inv-loop μ-loop
 add-rounds c = omega arith

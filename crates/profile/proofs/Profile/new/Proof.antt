@@ -15,7 +15,7 @@ returns c =
     shows-none _ _
     (record {
       at-size = refl;
-      line-sizes = each-line _ refl refl refl;
+      counts-size = refl;
       some = omega arith;
       fits = omega arith;
       rises = λ i j a b. absurd (omega arith);

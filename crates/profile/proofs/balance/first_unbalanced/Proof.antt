@@ -9,16 +9,16 @@ use Rattle.profile.proofs.balance.first_unbalanced.Statement.{statement
 use Rattle.profile.proofs.balance.first_unbalanced.Tie as tie
 
 abbrev Inv-loop : tie.InvT-loop
-Inv-loop at one two three n bound i line₀ line = Compared (profileOf n at one two three) i bound line
+Inv-loop at counts n bound i line₀ line = Compared (profileOf n at counts) i bound line
 
 abbrev μ-loop : tie.MeasureT-loop
-μ-loop at one two three n bound i line₀ line = 4 - line
+μ-loop at counts n bound i line₀ line = 4 - line
 
 abbrev Inv-minutes : tie.InvT-minutes
-Inv-minutes at one two three n bound i₀ i = (i < n) × Walked (Balanced bound) (profileOf n at one two three) i
+Inv-minutes at counts n bound i₀ i = (i < n) × Walked (Balanced bound) (profileOf n at counts) i
 
 abbrev μ-minutes : tie.MeasureT-minutes
-μ-minutes at one two three n bound i₀ i = n - i
+μ-minutes at counts n bound i₀ i = n - i
 
 minutes-holds : tie.Need-minutes-holds Inv-loop μ-loop Inv-minutes μ-minutes
 minutes-holds c = (c .pre .some, walked-none _ _ (c .pre))

@@ -1,5 +1,5 @@
 -- `profile::caps::level` meets its contract. The invariant: the first k places are as they should be.
-use Prim.Native.Nat.{ℕ, _-_, _≤_}
+use Prim.Native.Nat.{ℕ, _*_, _-_, _≤_}
 use mathlib.Core.Path.{_≡_, refl, subst}
 use native.Mathlib.Omega.{arith}
 use lib.ListN.{getD-replicate}
@@ -9,13 +9,16 @@ use Rattle.profile.proofs.caps.level.Statement.{statement}
 use Rattle.profile.proofs.caps.level.Tie as tie
 
 abbrev Inv-loop : tie.InvT-loop
-Inv-loop n caps₀ k₀ caps k = (k ≤ n) × Level k caps
+Inv-loop n caps₀ k₀ caps k = (k ≤ 4 * n) × Level k caps
 
 abbrev μ-loop : tie.MeasureT-loop
-μ-loop n caps₀ k₀ caps k = n - k
+μ-loop n caps₀ k₀ caps k = 4 * n - k
 
 loop-holds : tie.Need-loop-holds Inv-loop μ-loop
-loop-holds c = (omega arith, level-none _ refl (λ k h. getD-replicate 61 k 0 0 h))
+loop-holds c = (omega arith, level-none _ refl (λ k h. getD-replicate 244 k 0 0 h))
+
+mul-loop : tie.Need-mul-loop Inv-loop μ-loop
+mul-loop c = omega arith
 
 mul-caps : tie.Need-mul-caps Inv-loop μ-loop
 mul-caps c = omega arith
@@ -35,7 +38,7 @@ loop-again c = (omega arith, level-more (c .before .loop .inv .1) (omega arith))
 returns : tie.Need-returns Inv-loop μ-loop
 returns c =
     let l = c .before in
-    let e : l .loop .k ≡ c .before .before .args .n = omega arith in
+    let e : l .loop .k ≡ 4 * c .before .before .args .n = omega arith in
     subst (λ (k : ℕ). Level k (l .loop .caps)) e (l .loop .inv .1)
 
 pub level-spec : {M : Type 1} → statement M
@@ -45,6 +48,7 @@ level-spec =
     Inv-loop
     μ-loop
     loop-holds
+    mul-loop
     mul-caps
     array-write-caps
     add-k

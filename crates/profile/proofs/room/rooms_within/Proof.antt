@@ -8,12 +8,15 @@ use Rattle.profile.proofs.Lines.{line-one, line-two, line-three}
 use Rattle.profile.proofs.Starts.{within-none, within-more}
 use Rattle.profile.proofs.room.rooms_within.Statement.{statement}
 use Rattle.profile.proofs.room.rooms_within.Tie as tie
+use Rattle.profile.proofs.counts.count_of.Reads as count-of-reads
+use Rattle.profile.proofs.counts.share_of.Reads as share-of-reads
+use Rattle.profile.proofs.room.within.Reads as within-reads
 
 abbrev Inv-loop : tie.InvT-loop
-Inv-loop one two three n limit bound line rooms₀ a b c i₀ rooms i = (i ≤ n) × RoomsWithin one two three i limit bound line rooms
+Inv-loop counts n limit bound line rooms₀ a b c i₀ rooms i = (i ≤ n) × RoomsWithin counts i limit bound line rooms
 
 abbrev μ-loop : tie.MeasureT-loop
-μ-loop one two three n limit bound line rooms₀ a b c i₀ rooms i = n - i
+μ-loop counts n limit bound line rooms₀ a b c i₀ rooms i = n - i
 
 share-of-requires : tie.Need-share-of-requires Inv-loop μ-loop
 share-of-requires c κs = search needs
@@ -25,34 +28,25 @@ share-of-requires-3 : tie.Need-share-of-requires-3 Inv-loop μ-loop
 share-of-requires-3 c κs = search needs
 
 loop-holds : tie.Need-loop-holds Inv-loop μ-loop
-loop-holds c = (omega arith, within-none _ _ _ _ _ _ _ refl)
+loop-holds c = (omega arith, within-none _ _ _ _ _ refl)
 
-mul-within : tie.Need-mul-within Inv-loop μ-loop
-mul-within c = omega arith
+count-of-requires : tie.Need-count-of-requires Inv-loop μ-loop
+count-of-requires c κs = (omega arith, line-one)
 
-element-copy-out-within : tie.Need-element-copy-out-within Inv-loop μ-loop
-element-copy-out-within c = omega arith
+add-x : tie.Need-add-x Inv-loop μ-loop
+add-x c = omega (arith, c .before .before .before .before .before .before .pre .1 1 line-one (c .before .before .loop .i) (omega arith), c .count-of .ensures, c .before .before .before .before .before .share-of .ensures .1)
 
-add-within : tie.Need-add-within Inv-loop μ-loop
-add-within c = omega (arith, c .before .before .before .before .before .before .pre .1 1 line-one (c .before .before .loop .i) (omega arith), c .before .before .before .before .before .share-of .ensures .1)
+count-of-requires-2 : tie.Need-count-of-requires-2 Inv-loop μ-loop
+count-of-requires-2 c κs = (omega arith, line-two)
 
-mul-within-2 : tie.Need-mul-within-2 Inv-loop μ-loop
-mul-within-2 c = omega arith
+add-y : tie.Need-add-y Inv-loop μ-loop
+add-y c = omega (arith, c .before .before .before .before .before .before .before .pre .1 2 line-two (c .before .before .before .loop .i) (omega arith), c .count-of2 .ensures, c .before .before .before .before .before .share-of2 .ensures .1)
 
-element-copy-out-within-2 : tie.Need-element-copy-out-within-2 Inv-loop μ-loop
-element-copy-out-within-2 c = omega arith
+count-of-requires-3 : tie.Need-count-of-requires-3 Inv-loop μ-loop
+count-of-requires-3 c κs = (omega arith, line-three)
 
-add-within-2 : tie.Need-add-within-2 Inv-loop μ-loop
-add-within-2 c = omega (arith, c .before .before .before .before .before .before .before .pre .1 2 line-two (c .before .before .before .loop .i) (omega arith), c .before .before .before .before .before .share-of2 .ensures .1)
-
-mul-within-3 : tie.Need-mul-within-3 Inv-loop μ-loop
-mul-within-3 c = omega arith
-
-element-copy-out-within-3 : tie.Need-element-copy-out-within-3 Inv-loop μ-loop
-element-copy-out-within-3 c = omega arith
-
-add-within-3 : tie.Need-add-within-3 Inv-loop μ-loop
-add-within-3 c = omega (arith, c .before .before .before .before .before .before .before .before .pre .1 3 line-three (c .before .before .before .before .loop .i) (omega arith), c .before .before .before .before .before .share-of3 .ensures .1)
+add-z : tie.Need-add-z Inv-loop μ-loop
+add-z c = omega (arith, c .before .before .before .before .before .before .before .before .pre .1 3 line-three (c .before .before .before .before .loop .i) (omega arith), c .count-of3 .ensures, c .before .before .before .before .before .share-of3 .ensures .1)
 
 within-requires : tie.Need-within-requires Inv-loop μ-loop
 within-requires c κs = search needs
@@ -70,14 +64,14 @@ loop-less : tie.Need-loop-less Inv-loop μ-loop
 loop-less c = omega arith
 
 loop-again : tie.Need-loop-again Inv-loop μ-loop
-loop-again c = (omega arith, within-more (c .before .before .before .before .before .loop .inv .1) (omega arith) (c .before .before .before .before .before .before .before .before .share-of .ensures .0) (c .before .before .before .before .before .before .before .share-of2 .ensures .0) (c .before .before .before .before .before .before .share-of3 .ensures .0) (c .within .ensures))
+loop-again c = (omega arith, within-more (c .before .before .before .before .before .loop .inv .1) (omega arith) (omega (arith, c .before .before .before .count-of .ensures, c .before .before .before .before .before .before .before .before .share-of .ensures .0)) (omega (arith, c .before .before .count-of2 .ensures, c .before .before .before .before .before .before .before .share-of2 .ensures .0)) (omega (arith, c .before .count-of3 .ensures, c .before .before .before .before .before .before .share-of3 .ensures .0)) (c .within .ensures))
 
 returns : tie.Need-returns Inv-loop μ-loop
 returns c =
     let l = c .before in
     let a = c .before .before .before .before .before .args in
     let e : l .loop .i ≡ a .n = omega arith in
-    subst (λ (k : ℕ). RoomsWithin (a .one .now) (a .two .now) (a .three .now) k (a .limit) (a .bound) (a .line) (l .loop .rooms)) e (l .loop .inv .1)
+    subst (λ (k : ℕ). RoomsWithin (a .counts .now) k (a .limit) (a .bound) (a .line) (l .loop .rooms)) e (l .loop .inv .1)
 
 pub rooms-within-spec : {M : Type 1} → statement M
 rooms-within-spec =
@@ -89,15 +83,12 @@ rooms-within-spec =
     share-of-requires-2
     share-of-requires-3
     loop-holds
-    mul-within
-    element-copy-out-within
-    add-within
-    mul-within-2
-    element-copy-out-within-2
-    add-within-2
-    mul-within-3
-    element-copy-out-within-3
-    add-within-3
+    count-of-requires
+    add-x
+    count-of-requires-2
+    add-y
+    count-of-requires-3
+    add-z
     within-requires
     mul-rooms
     array-write-rooms

@@ -32,8 +32,8 @@ enum-told c = search needs
 returns : tie.Need-returns
 returns c = unsound-none (c .before .before .before .before .before .before .before .before .pre .0 .formed) (c .before .before .before .before .before .before .before .rooms-within .ensures) (c .before .before .before .before .before .settled .ensures .0) (told-nothing _ _ _ _ _ _ (c .before .before .first-failing .ensures) (c .enum-told .given .1))
 
-sub-t17 : tie.Need-sub-t17
-sub-t17 c =
+sub-t15 : tie.Need-sub-t15
+sub-t15 c =
     let h = told-at _ _ _ _ _ _ _ _ (c .before .before .before .first-failing .ensures) (c .before .f .given .1) in
     omega (arith, h .high)
 
@@ -51,5 +51,5 @@ unsound-minutes-spec =
     enum-known-f
     enum-told
     returns
-    sub-t17
+    sub-t15
     returns-2)

@@ -1,46 +1,21 @@
 -- `profile::caps::LineCaps::lower` meets its contract.
 use borrow.Author.Needs.{needs}
-use mathlib.Core.Path.{subst}
-use Rattle.profile.specs.Caps.{Lowered}
-use Rattle.profile.proofs.Lines.{each-line, line-one, line-two, line-three}
-use Rattle.profile.proofs.Lowerings.{caps-lowered}
+use native.Mathlib.Omega.{arith}
+use Rattle.profile.proofs.Lowerings.{caps-other, caps-lowered}
 use Rattle.profile.proofs.caps.LineCaps.lower.Statement.{statement}
 use Rattle.profile.proofs.caps.LineCaps.lower.Tie as tie
 
-first-place-requires : tie.Need-first-place-requires
-first-place-requires c κs = search needs
+returns : tie.Need-returns
+returns c = caps-other _ _ _ _ (λ h. omega (arith, h .low, c .if1 .taken))
+
+returns-2 : tie.Need-returns-2
+returns-2 c = caps-other _ _ _ _ (λ h. omega (arith, h .high, c .if2 .taken))
 
 lower-requires : tie.Need-lower-requires
-lower-requires c κs = c .before .before .pre .0 1 line-one
+lower-requires c κs = search needs
 
-first-place-requires-2 : tie.Need-first-place-requires-2
-first-place-requires-2 c κs = search needs
-
-lower-requires-2 : tie.Need-lower-requires-2
-lower-requires-2 c κs = c .before .before .before .before .before .pre .0 2 line-two
-
-first-place-requires-3 : tie.Need-first-place-requires-3
-first-place-requires-3 c κs = search needs
-
-lower-requires-3 : tie.Need-lower-requires-3
-lower-requires-3 c κs = c .before .before .before .before .before .before .before .before .pre .0 3 line-three
-
-returns : tie.Need-returns
-returns c =
-    caps-lowered _ _ _ _ _ (c .before .before .before .before .before .before .before .before .before .pre .1) (c .before .before .before .before .before .before .before .before .before .pre .0)
-    (each-line _
-    (subst (Lowered _ _ _) (c .before .before .before .before .before .before .before .first-place .ensures) (c .before .before .before .before .before .before .lower .ensures))
-    (subst (Lowered _ _ _) (c .before .before .before .before .first-place2 .ensures) (c .before .before .before .lower2 .ensures))
-    (subst (Lowered _ _ _) (c .before .first-place3 .ensures) (c .lower3 .ensures)))
+returns-3 : tie.Need-returns-3
+returns-3 c = caps-lowered _ _ _ _ _ (c .before .before .before .before .pre .1) (c .lower .ensures) (record { low = c .before .before .before .if1 .left; high = c .before .before .if2 .left })
 
 pub lower-spec : {M : Type 1} → statement M
-lower-spec =
-    tie.close
-    (tie.spec
-    first-place-requires
-    lower-requires
-    first-place-requires-2
-    lower-requires-2
-    first-place-requires-3
-    lower-requires-3
-    returns)
+lower-spec = tie.close (tie.spec returns returns-2 lower-requires returns-3)

@@ -1,21 +1,15 @@
 -- `profile::caps::LineCaps::new` meets its contract.
 use borrow.Author.Needs.{needs}
-use Rattle.profile.proofs.Lines.{each-line}
 use Rattle.profile.proofs.Lowerings.{level-shown}
 use Rattle.profile.proofs.caps.LineCaps.new.Statement.{statement}
 use Rattle.profile.proofs.caps.LineCaps.new.Tie as tie
+use Rattle.profile.proofs.caps.level.Reads as level-reads
 
 level-requires : tie.Need-level-requires
 level-requires c κs = search needs
 
-level-requires-2 : tie.Need-level-requires-2
-level-requires-2 c κs = search needs
-
-level-requires-3 : tie.Need-level-requires-3
-level-requires-3 c κs = search needs
-
 returns : tie.Need-returns
-returns c = level-shown _ _ (each-line _ (c .before .before .level .ensures) (c .before .level2 .ensures) (c .level3 .ensures))
+returns c = level-shown _ _ (c .level .ensures)
 
 pub new-spec : {M : Type 1} → statement M
-new-spec = tie.close (tie.spec level-requires level-requires-2 level-requires-3 returns)
+new-spec = tie.close (tie.spec level-requires returns)
