@@ -24,10 +24,11 @@ use Rattle.charges.proofs.Storing.{zeros}
 use Rattle.profile.specs.declared.Profile.{Profile}
 use Rattle.profile.specs.declared.When.{When}
 use Rattle.profile.specs.declared.When.the-variants.{Minute, Never}
-use Rattle.profile.specs.Shows.{Shows, Added, CanAdd, CanStart, foundAt, Earliest}
-use Rattle.profile.specs.Caps.{CapsShown, EarliestUnder}
-use Rattle.profile.proofs.Adds.{can-add, last-added}
-use Rattle.profile.proofs.Starts.{can-start}
+use Rattle.profile.specs.Shows.{Shows, Added, CanAdd, foundAt}
+use Rattle.search.specs.Starts.{CanStart, Earliest}
+use Rattle.search.specs.Caps.{CapsShown, EarliestUnder}
+use Rattle.profile.proofs.Shown.{can-add, last-added}
+use Rattle.search.proofs.Starts.{can-start}
 use Rattle.planner.specs.Ready.{begunOf, chargeIn, Ready, queueFrom, Queue}
 use Rattle.planner.specs.Placed.{PlanShown, AllPlaced, searchIn, searchOf, Starts}
 use Rattle.planner.specs.declared.Rule.{Rule}

@@ -20,13 +20,13 @@ use Rattle.charges.specs.Places.{Ordered}
 use Rattle.profile.specs.declared.Profile.{Profile}
 use Rattle.profile.specs.declared.When.{When}
 use Rattle.profile.specs.declared.When.the-variants.{Minute, Never}
-use Rattle.profile.specs.declared.caps.LineCaps.{LineCaps}
+use Rattle.search.specs.declared.caps.LineCaps.{LineCaps}
 use Rattle.profile.specs.Shows.{ofLines, levelOf, levels, Formed, Shows, foundAt}
-use Rattle.profile.specs.Caps.{CapsShown}
+use Rattle.search.specs.Caps.{CapsShown}
 use Rattle.profile.specs.Balance.{Unbalanced}
 use Rattle.profile.proofs.Lines.{line-one, line-two, line-three}
-use Rattle.profile.proofs.Adds.{count-few}
-use Rattle.profile.proofs.Balances.{largest-same, smallest-same}
+use Rattle.profile.proofs.Shown.{count-few}
+use Rattle.profile.proofs.Picks.{largest-same, smallest-same}
 use Rattle.planner.specs.declared.Placement.{Placement}
 use Rattle.planner.specs.declared.Proposed.{Proposed}
 use Rattle.planner.specs.declared.Outcome.{Outcome}

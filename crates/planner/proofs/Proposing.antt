@@ -18,8 +18,8 @@ use Rattle.charges.specs.declared.Places.{Places}
 use Rattle.charges.specs.Places.{Ordered}
 use Rattle.charges.proofs.Storing.{zeros}
 use Rattle.profile.specs.declared.Profile.{Profile}
-use Rattle.profile.specs.declared.caps.LineCaps.{LineCaps}
-use Rattle.profile.specs.Caps.{CapsShown}
+use Rattle.search.specs.declared.caps.LineCaps.{LineCaps}
+use Rattle.search.specs.Caps.{CapsShown}
 use Rattle.planner.specs.Starts.{waitingCount, WaitingStarts}
 use Rattle.planner.specs.declared.Proposed.{Proposed}
 use Rattle.planner.specs.Answers.{Proposes}

@@ -16,7 +16,7 @@ use Rattle.charges.specs.Held.{Listed}
 use Rattle.charges.proofs.Walking.{keep-hit, keep-miss, keep-length}
 use Rattle.profile.specs.declared.Profile.{Profile}
 use Rattle.profile.specs.Shows.{profileOf, Shows, Added, CanAdd}
-use Rattle.profile.proofs.Adds.{can-add}
+use Rattle.profile.proofs.Shown.{can-add}
 use Rattle.rules.proofs.Validity.{last-until}
 use Rattle.planner.proofs.Causes.{last-below}
 

@@ -14,8 +14,8 @@ use Rattle.charges.specs.declared.Places.{Places}
 use Rattle.profile.specs.declared.Profile.{Profile}
 use Rattle.profile.specs.declared.When.{When}
 use Rattle.profile.specs.Shows.{Shows, foundAt}
-use Rattle.profile.specs.declared.caps.LineCaps.{LineCaps}
-use Rattle.profile.specs.Caps.{CapsShown}
+use Rattle.search.specs.declared.caps.LineCaps.{LineCaps}
+use Rattle.search.specs.Caps.{CapsShown}
 use Rattle.planner.specs.declared.Rule.{Rule}
 use Rattle.planner.specs.declared.Placement.{Placement}
 use Rattle.planner.specs.Starts.{Stored}

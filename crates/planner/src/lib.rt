@@ -2,14 +2,17 @@
 use charges::Charges;
 use charges::Places;
 use charges::start_below;
+use profile::COLUMNS;
 use profile::Profile;
+use profile::STEPS;
 use profile::When;
 use profile::balance::largest_line;
 use profile::balance::smallest_line;
-use profile::caps::LineCaps;
 use profile::loads::add;
-use profile::start::earliest;
-use profile::start::earliest_under;
+use search::caps::LineCaps;
+use search::caps::PLACES;
+use search::start::earliest;
+use search::start::earliest_under;
 ghost use mathlib.Core.Path.{_≡_};
 ghost use Prim.Native.Nat.{_≤_};
 ghost use lib.ListN.{length, take};
@@ -20,8 +23,9 @@ ghost use Rattle.rules.specs.Judgement.{restarted};
 ghost use Rattle.charges.specs.Arrays.{Columns, Filled, Holds, chargesOf};
 ghost use Rattle.charges.specs.Held.{Listed};
 ghost use Rattle.charges.specs.Places.{Ordered};
-ghost use Rattle.profile.specs.Shows.{profileOf, Shows, CanStart};
-ghost use Rattle.profile.specs.Caps.{capsIn, CanCap};
+ghost use Rattle.profile.specs.Shows.{profileOf, Shows};
+ghost use Rattle.search.specs.Starts.{CanStart};
+ghost use Rattle.search.specs.Caps.{capsIn, CanCap};
 ghost use Rattle.planner.specs.Starts.{WaitingStarts, waitingCount};
 ghost use Rattle.planner.specs.Ready.{begunOf, Ready, Queue};
 ghost use Rattle.planner.specs.Answers.{Comparable, Plays, Proposes, Replans, askedIn};
@@ -129,13 +133,13 @@ fn begun_profile(charges: Charges, clock: u32) -> Profile
 
 // The smallest start that the rule allows.
 fn smallest_start<'a>(
-    at: &'a [u32; 362],
-    counts: &'a [u32; 1448],
+    at: &'a [u32; STEPS],
+    counts: &'a [u32; COLUMNS * STEPS],
     n: usize,
     capped: bool,
     limit: u32,
     bound: u32,
-    caps: &'a [u32; 244],
+    caps: &'a [u32; COLUMNS * PLACES],
     line: u32,
     time: u32,
 ) -> When

@@ -5,6 +5,7 @@ use Prim.Native.Nat.{_≤_, _-_}
 use borrow.Author.Needs.{needs}
 use Rattle.rules.specs.Charge.{loadsOf}
 use Rattle.profile.specs.Shows.{profileOf, Shows}
+use Rattle.profile.proofs.Shown.{added-shows}
 use Rattle.planner.proofs.Showing.{begunBelow, begun-can-add, begun-on, begun-past, same-parts}
 use Rattle.planner.proofs.begun_profile.Statement.{statement}
 use Rattle.planner.proofs.begun_profile.Tie as tie
@@ -63,7 +64,7 @@ loop-again c =
     ⊎-elim
     (λ w. (
       omega arith,
-      begun-on (l .before .before .before .before .pre) (l .loop .inv .1) (omega arith) (w .0 .taken) (w .6 .ensures)
+      begun-on (l .before .before .before .before .pre) (l .loop .inv .1) (omega arith) (w .0 .taken) (added-shows (w .6 .ensures))
           (same-parts (w .7) (w .8) (w .9)),
     ))
     (λ w. (

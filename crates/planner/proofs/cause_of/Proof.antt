@@ -1,4 +1,5 @@
 use borrow.Author.Tests.{not-true, not-false}
+use Rattle.profile.proofs.Balances.{limit-shows, unbalanced-shows}
 use Rattle.planner.proofs.Judging.{ends-fit, judges-three, judges-four, judges-five, judges-six, judges-seven, judges-none}
 use borrow.Author.Needs.{needs}
 use Rattle.planner.proofs.cause_of.Statement.{statement}
@@ -32,7 +33,7 @@ within-limit-requires c κs = c .of .ensures .formed
 returns-3 : tie.Need-returns-3
 returns-3 c =
     judges-five (c .before .before .before .before .before .before .before .before .before .before .before .before .before .pre .1) (c .before .before .before .before .before .before .before .before .before .before .before .start-below .ensures) (c .before .before .before .before .before .before .before .before .before .before .if1 .left) (c .before .before .before .before .before .before .before .before .before .last-end .ensures) (c .before .before .before .before .before .before .before .before .last-end2 .ensures) (c .before .before .before .before .before .before .before .if2 .left)
-    (c .before .before .of .ensures) (c .before .within-limit .ensures) (not-true _ (c .if3 .taken))
+    (c .before .before .of .ensures) (limit-shows (c .before .within-limit .ensures)) (not-true _ (c .if3 .taken))
 
 first-unbalanced-requires : tie.Need-first-unbalanced-requires
 first-unbalanced-requires c κs = c .before .before .of .ensures .formed
@@ -43,7 +44,7 @@ enum-told c = search needs
 returns-4 : tie.Need-returns-4
 returns-4 c =
     judges-six (c .before .before .before .before .before .before .before .before .before .before .before .before .before .before .before .before .pre .1) (c .before .before .before .before .before .before .before .before .before .before .before .before .before .before .start-below .ensures) (c .before .before .before .before .before .before .before .before .before .before .before .before .before .if1 .left) (c .before .before .before .before .before .before .before .before .before .before .before .before .last-end .ensures) (c .before .before .before .before .before .before .before .before .before .before .before .last-end2 .ensures) (c .before .before .before .before .before .before .before .before .before .before .if2 .left)
-    (c .before .before .before .before .before .of .ensures) (c .before .before .before .before .within-limit .ensures) (not-false _ (c .before .before .before .if3 .left)) (c .before .before .first-unbalanced .ensures) (c .enum-told .given .1)
+    (c .before .before .before .before .before .of .ensures) (limit-shows (c .before .before .before .before .within-limit .ensures)) (not-false _ (c .before .before .before .if3 .left)) (unbalanced-shows (c .before .before .first-unbalanced .ensures)) (c .enum-told .given .1)
 
 enum-told-2 : tie.Need-enum-told-2
 enum-told-2 c = search needs
@@ -57,13 +58,13 @@ lateness-requires-2 c κs = search needs
 returns-5 : tie.Need-returns-5
 returns-5 c =
     judges-seven (c .before .before .before .before .before .before .before .before .before .before .before .before .before .before .before .before .before .before .before .pre .1) (c .before .before .before .before .before .before .before .before .before .before .before .before .before .before .before .before .before .start-below .ensures) (c .before .before .before .before .before .before .before .before .before .before .before .before .before .before .before .before .if1 .left) (c .before .before .before .before .before .before .before .before .before .before .before .before .before .before .before .last-end .ensures) (c .before .before .before .before .before .before .before .before .before .before .before .before .before .before .last-end2 .ensures) (c .before .before .before .before .before .before .before .before .before .before .before .before .before .if2 .left)
-    (c .before .before .before .before .before .before .before .before .of .ensures) (c .before .before .before .before .before .before .before .within-limit .ensures) (not-false _ (c .before .before .before .before .before .before .if3 .left)) (c .before .before .before .before .before .first-unbalanced .ensures) (c .before .before .before .enum-told2 .given .1)
+    (c .before .before .before .before .before .before .before .before .of .ensures) (limit-shows (c .before .before .before .before .before .before .before .within-limit .ensures)) (not-false _ (c .before .before .before .before .before .before .if3 .left)) (unbalanced-shows (c .before .before .before .before .before .first-unbalanced .ensures)) (c .before .before .before .enum-told2 .given .1)
     (c .before .before .lateness .ensures) (c .before .lateness2 .ensures) (c .if4 .taken)
 
 returns-6 : tie.Need-returns-6
 returns-6 c =
     judges-none (c .before .before .before .before .before .before .before .before .before .before .before .before .before .before .before .before .before .before .before .pre .1) (c .before .before .before .before .before .before .before .before .before .before .before .before .before .before .before .before .before .start-below .ensures) (c .before .before .before .before .before .before .before .before .before .before .before .before .before .before .before .before .if1 .left) (c .before .before .before .before .before .before .before .before .before .before .before .before .before .before .before .last-end .ensures) (c .before .before .before .before .before .before .before .before .before .before .before .before .before .before .last-end2 .ensures) (c .before .before .before .before .before .before .before .before .before .before .before .before .before .if2 .left)
-    (c .before .before .before .before .before .before .before .before .of .ensures) (c .before .before .before .before .before .before .before .within-limit .ensures) (not-false _ (c .before .before .before .before .before .before .if3 .left)) (c .before .before .before .before .before .first-unbalanced .ensures) (c .before .before .before .enum-told2 .given .1)
+    (c .before .before .before .before .before .before .before .before .of .ensures) (limit-shows (c .before .before .before .before .before .before .before .within-limit .ensures)) (not-false _ (c .before .before .before .before .before .before .if3 .left)) (unbalanced-shows (c .before .before .before .before .before .first-unbalanced .ensures)) (c .before .before .before .enum-told2 .given .1)
     (c .before .before .lateness .ensures) (c .before .lateness2 .ensures) (c .if4 .left)
 
 pub cause-of-spec : {M : Type 1} → statement M

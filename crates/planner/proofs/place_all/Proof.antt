@@ -3,10 +3,11 @@ use Prim.Native.Nat.{_≤_, _-_}
 use borrow.Author.Needs.{needs}
 use Rattle.rules.specs.Search.{Caps}
 use Rattle.profile.specs.Shows.{profileOf}
-use Rattle.profile.specs.Caps.{CapsShown}
-use Rattle.profile.proofs.Lowerings.{can-cap}
+use Rattle.search.specs.Caps.{CapsShown}
+use Rattle.search.proofs.Lowerings.{can-cap}
 use Rattle.planner.specs.Ready.{begunOf}
 use Rattle.planner.specs.Placed.{searchOf}
+use Rattle.profile.proofs.Shown.{added-shows}
 use Rattle.planner.proofs.Plans.{PlacedSoFar, placed-start, placed-end, next-inside, next-below, next-can-start, next-stuck, next-can-add, next-placed}
 use Rattle.planner.proofs.place_all.Statement.{statement}
 use Rattle.planner.proofs.place_all.Tie as tie
@@ -132,7 +133,7 @@ loop-again c =
       omega (arith, c .before .before .before .before .before .before .before .before .before .before .before .before .before .before .loop-test .taken),
       λ cap s.
           next-placed (b .args .rule) cap s (b .pre .0) (b .pre .1) (l .loop .inv .1 cap s) (c .before .before .before .before .before .before .before .before .before .before .before .before .before .before .loop-test .taken)
-          (c .before .before .before .before .before .before .smallest-start .ensures) (c .before .before .before .before .found .given .1) (c .add .ensures),
+          (c .before .before .before .before .before .before .smallest-start .ensures) (c .before .before .before .before .found .given .1) (added-shows (c .add .ensures)),
     )
 
 returns-2 : tie.Need-returns-2 Inv-loop μ-loop

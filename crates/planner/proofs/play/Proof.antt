@@ -1,3 +1,4 @@
+use Rattle.profile.proofs.Balances.{unbalanced-shows}
 use Rattle.planner.proofs.Queueing.{queue-line-by-line}
 use Rattle.planner.proofs.Playing.{round-formed, plays-balanced, round-comparable, plays-asked}
 use borrow.Author.Needs.{needs}
@@ -24,12 +25,12 @@ waiting-starts-requires c κs = search needs
 returns : tie.Need-returns
 returns c =
     let s = c .before .before .before .before .before .before .before in
-    plays-balanced (s .pre .0) (s .pre .1) (s .pre .3) (c .before .before .before .before .before .before .place-all .ensures) _ (c .before .before .before .before .first-unbalanced .ensures) (c .before .before .enum-told .given .1) (c .waiting-starts .ensures)
+    plays-balanced (s .pre .0) (s .pre .1) (s .pre .3) (c .before .before .before .before .before .before .place-all .ensures) _ (unbalanced-shows (c .before .before .before .before .first-unbalanced .ensures)) (c .before .before .enum-told .given .1) (c .waiting-starts .ensures)
 
 unbalanced-in-requires : tie.Need-unbalanced-in-requires
 unbalanced-in-requires c κs =
     let s = c .before .before .before .before .before .before in
-    round-comparable (s .pre .0) (s .pre .1) (s .pre .3) (c .before .before .before .before .before .place-all .ensures) _ (c .before .before .before .first-unbalanced .ensures) (c .before .unbalanced .given .1) (s .pre .2)
+    round-comparable (s .pre .0) (s .pre .1) (s .pre .3) (c .before .before .before .before .before .place-all .ensures) _ (unbalanced-shows (c .before .before .before .first-unbalanced .ensures)) (c .before .unbalanced .given .1) (s .pre .2)
 
 none-requires : tie.Need-none-requires
 none-requires c κs = search needs
@@ -37,7 +38,7 @@ none-requires c κs = search needs
 returns-2 : tie.Need-returns-2
 returns-2 c =
     let s = c .before .before .before .before .before .before .before .before in
-    plays-asked (s .pre .0) (s .pre .1) (s .pre .3) (c .before .before .before .before .before .before .before .place-all .ensures) _ (c .before .before .before .before .before .first-unbalanced .ensures) (c .before .before .before .unbalanced .given .1) (s .pre .2)
+    plays-asked (s .pre .0) (s .pre .1) (s .pre .3) (c .before .before .before .before .before .before .before .place-all .ensures) _ (unbalanced-shows (c .before .before .before .before .before .first-unbalanced .ensures)) (c .before .before .before .unbalanced .given .1) (s .pre .2)
     (c .none .ensures .0) (c .none .ensures .1) (c .before .unbalanced-in .ensures)
 
 pub play-spec : {M : Type 1} → statement M
