@@ -1,4 +1,6 @@
 // Limit and balance, step by step, and the lines with the largest and the smallest count.
+use crate::COLUMNS;
+use crate::STEPS;
 use crate::When;
 use crate::counts::count_of;
 use crate::counts::larger;
@@ -6,11 +8,10 @@ use crate::counts::smaller;
 use crate::steps::place;
 ghost use mathlib.Core.Path.{_≡_};
 ghost use Prim.Native.Nat.{_-_, _<_, _≤_, max, min};
-ghost use lib.ListN.{getD};
 ghost use Rattle.rules.specs.Replan.{largestLine, smallestLine};
 ghost use Rattle.rules.specs.Load.{IsLine};
-ghost use Rattle.profile.specs.Shows.{ofLines, profileOf, levelOf, Formed};
-ghost use Rattle.profile.specs.Balance.{Unbalanced, WithinLimit};
+ghost use Rattle.profile.specs.Shows.{ofLines, profileOf, levelOf, firstMinute, Formed};
+ghost use Rattle.profile.specs.Balance.{FirstUnbalanced, LimitKept};
 
 // By how much two counts differ.
 pub fn difference(a: u32, b: u32) -> u32
@@ -20,8 +21,14 @@ pub fn difference(a: u32, b: u32) -> u32
 }
 
 // The count of a line in a minute.
-pub fn level<'a>(at: &'a [u32; 362], counts: &'a [u32; 1448], n: usize, line: u32, t: u32) -> u32
-    requires { ⌜ Formed (profileOf n (now at) (now counts)) × IsLine line × (getD (now at) 0 0 ≤ t) ⌝ }
+pub fn level<'a>(
+    at: &'a [u32; STEPS],
+    counts: &'a [u32; COLUMNS * STEPS],
+    n: usize,
+    line: u32,
+    t: u32,
+) -> u32
+    requires { ⌜ Formed (profileOf n (now at) (now counts)) × IsLine line × (firstMinute (profileOf n (now at) (now counts)) ≤ t) ⌝ }
     ensures { λ r. ⌜ r ≡ levelOf (profileOf n (now (at .entry)) (now (counts .entry))) line t ⌝ }
 {
     let i = place(at, n, t);
@@ -31,13 +38,13 @@ pub fn level<'a>(at: &'a [u32; 362], counts: &'a [u32; 1448], n: usize, line: u3
 // The first minute in which two counts differ by more than the bound: step by step, and in each line 1 against 2,
 // 2 against 3, 3 against 1.
 pub fn first_unbalanced<'a>(
-    at: &'a [u32; 362],
-    counts: &'a [u32; 1448],
+    at: &'a [u32; STEPS],
+    counts: &'a [u32; COLUMNS * STEPS],
     n: usize,
     bound: u32,
 ) -> When
     requires { ⌜ Formed (profileOf n (now at) (now counts)) ⌝ }
-    ensures { λ r. ⌜ Unbalanced (profileOf n (now (at .entry)) (now (counts .entry))) bound r ⌝ }
+    ensures { λ r. ⌜ FirstUnbalanced (profileOf n (now (at .entry)) (now (counts .entry))) bound r ⌝ }
 {
     let mut i = 0;
     let minute = 'minutes: loop {
@@ -59,9 +66,14 @@ pub fn first_unbalanced<'a>(
 }
 
 // Whether no count is above the limit.
-pub fn within_limit<'a>(at: &'a [u32; 362], counts: &'a [u32; 1448], n: usize, limit: u32) -> bool
+pub fn within_limit<'a>(
+    at: &'a [u32; STEPS],
+    counts: &'a [u32; COLUMNS * STEPS],
+    n: usize,
+    limit: u32,
+) -> bool
     requires { ⌜ Formed (profileOf n (now at) (now counts)) ⌝ }
-    ensures { λ r. ⌜ WithinLimit (profileOf n (now (at .entry)) (now (counts .entry))) limit r ⌝ }
+    ensures { λ r. ⌜ LimitKept (profileOf n (now (at .entry)) (now (counts .entry))) limit r ⌝ }
 {
     let mut i = 0;
     while i < n {

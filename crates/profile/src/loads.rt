@@ -1,9 +1,11 @@
 // One more load, in the lent lists of a profile.
+use crate::COLUMNS;
+use crate::STEPS;
 use crate::counts::larger;
 use crate::steps::place;
 use crate::steps::raise;
 use crate::steps::shift;
-ghost use Rattle.profile.specs.Shows.{profileOf, CanSplit, Split, CanAdd, Added};
+ghost use Rattle.profile.specs.Shows.{profileOf, CanSplit, Split, CanAdd, LoadAdded};
 
 // The number of steps, and the one that begins in the minute asked for.
 pub struct Step {
@@ -12,7 +14,7 @@ pub struct Step {
 }
 
 // The same levels, with t the beginning of a step.
-pub fn split(at: &mut [u32; 362], counts: &mut [u32; 1448], n: usize, t: u32) -> Step
+pub fn split(at: &mut [u32; STEPS], counts: &mut [u32; COLUMNS * STEPS], n: usize, t: u32) -> Step
     requires { ⌜ CanSplit (profileOf n (now at) (now counts)) t ⌝ }
     ensures { λ r. ⌜ Split (profileOf n (now (at .entry)) (now (counts .entry))) (profileOf (r .steps) (now (at .exit)) (now (counts .exit))) t (r .step) ⌝ }
 {
@@ -23,7 +25,7 @@ pub fn split(at: &mut [u32; 362], counts: &mut [u32; 1448], n: usize, t: u32) ->
     let k = i + 1;
     shift(at, k, n, 1);
     at[k] = t;
-    shift(counts, 4 * i, 4 * n, 4);
+    shift(counts, COLUMNS * i, COLUMNS * n, COLUMNS);
     Step {
         steps: n + 1,
         step: k,
@@ -32,15 +34,15 @@ pub fn split(at: &mut [u32; 362], counts: &mut [u32; 1448], n: usize, t: u32) ->
 
 // One more load, of which what lies before the clock is left out. The answer: the number of steps.
 pub fn add(
-    at: &mut [u32; 362],
-    counts: &mut [u32; 1448],
+    at: &mut [u32; STEPS],
+    counts: &mut [u32; COLUMNS * STEPS],
     n: usize,
     line: u32,
     time: u32,
     start: u32,
 ) -> usize
     requires { ⌜ CanAdd (profileOf n (now at) (now counts)) time start ⌝ }
-    ensures { λ r. ⌜ Added (profileOf n (now (at .entry)) (now (counts .entry))) (profileOf r (now (at .exit)) (now (counts .exit))) line time start ⌝ }
+    ensures { λ r. ⌜ LoadAdded (profileOf n (now (at .entry)) (now (counts .entry))) (profileOf r (now (at .exit)) (now (counts .exit))) line time start ⌝ }
 {
     let until = start + time;
     let from = larger(at[0], start);

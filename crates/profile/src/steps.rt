@@ -1,13 +1,15 @@
 // The places of a list of steps: where a minute lies, one put in, some raised.
+use crate::COLUMNS;
+use crate::STEPS;
 ghost use mathlib.Core.Path.{_≡_};
-ghost use Prim.Native.Nat.{ℕ, _+_, _<_, _≤_, _^_};
+ghost use Prim.Native.Nat.{ℕ, _+_, _*_, _<_, _≤_, _^_};
 ghost use lib.ListN.{length, getD};
-ghost use Rattle.profile.specs.Steps.{lineIn, In, Rising, Shifted, RaisedIn};
+ghost use Rattle.profile.specs.Steps.{mostSteps, columns, lineIn, In, Rising, Shifted, RaisedIn};
 ghost use Rattle.rules.specs.Load.{IsLine};
 
 // The last of the n steps that begins at or before t.
-pub fn place<'a>(at: &'a [u32; 362], n: usize, t: u32) -> usize
-    requires { ⌜ (1 ≤ n) × (n ≤ 362) × (getD (now at) 0 0 ≤ t) × Rising (now at) n ⌝ }
+pub fn place<'a>(at: &'a [u32; STEPS], n: usize, t: u32) -> usize
+    requires { ⌜ (1 ≤ n) × (n ≤ mostSteps) × (getD (now at) 0 0 ≤ t) × Rising (now at) n ⌝ }
     ensures { λ r. ⌜ In (now (at .entry)) n r t ⌝ }
 {
     let mut low = 0;
@@ -25,7 +27,7 @@ pub fn place<'a>(at: &'a [u32; 362], n: usize, t: u32) -> usize
 
 // Moves what stands in the places from `low` up to `high` w places up.
 pub fn shift(a: &mut [u32], low: usize, high: usize, w: usize)
-    requires { ⌜ (low ≤ high) × (high + w ≤ length (now a)) × (length (now a) ≤ 1448) ⌝ }
+    requires { ⌜ (low ≤ high) × (high + w ≤ length (now a)) × (length (now a) ≤ columns * mostSteps) ⌝ }
     ensures { λ r. ⌜ Shifted (now (a .entry)) (now (a .exit)) low high w ⌝ }
 {
     let mut j = high;
@@ -36,13 +38,13 @@ pub fn shift(a: &mut [u32], low: usize, high: usize, w: usize)
 }
 
 // One more on the line in the steps from i up to j.
-pub fn raise(counts: &mut [u32; 1448], line: usize, i: usize, j: usize)
-    requires { ⌜ (length (now counts) ≡ 1448) × IsLine line × (i ≤ j) × (j ≤ 362) × ((m : ℕ) → m < j → lineIn (now counts) line m + 1 < 2 ^ 32) ⌝ }
+pub fn raise(counts: &mut [u32; COLUMNS * STEPS], line: usize, i: usize, j: usize)
+    requires { ⌜ (length (now counts) ≡ columns * mostSteps) × IsLine line × (i ≤ j) × (j ≤ mostSteps) × ((m : ℕ) → m < j → lineIn (now counts) line m + 1 < 2 ^ 32) ⌝ }
     ensures { λ r. ⌜ RaisedIn (now (counts .entry)) (now (counts .exit)) line i j ⌝ }
 {
     let mut k = i;
     while k < j {
-        let p = 4 * k + line - 1;
+        let p = COLUMNS * k + line - 1;
         counts[p] = counts[p] + 1;
         k += 1;
     }

@@ -19,8 +19,9 @@ use Rattle.rules.proofs.Ends.{last-until}
 use Rattle.charges.specs.declared.Charges.{Charges}
 use Rattle.charges.specs.Arrays.{charge, chargeAt, chargesOf, Holds}
 use Rattle.profile.specs.declared.Profile.{Profile}
-use Rattle.profile.specs.Shows.{Shows, loadsIn, EndsFit, CanStart}
-use Rattle.profile.proofs.Starts.{can-start}
+use Rattle.profile.specs.Shows.{Shows, loadsIn, EndsFit}
+use Rattle.search.specs.Starts.{CanStart}
+use Rattle.search.proofs.Starts.{can-start}
 use Rattle.station.specs.declared.Station.{Station}
 use Rattle.station.specs.View.{view, Valid}
 use Rattle.station.specs.Answers.{giving}

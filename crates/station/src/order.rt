@@ -2,6 +2,7 @@
 use crate::Station;
 use profile::Profile;
 use profile::When;
+use search::start::earliest;
 ghost use mathlib.Core.Path.{_≡_};
 ghost use mathlib.Core.List.{[]};
 ghost use Rattle.rules.specs.Basics.{firstOf};
@@ -68,7 +69,16 @@ impl Station {
         let held = self.charges;
         let count = held.held;
         let profile = Profile::of(&held.lines, &held.times, &held.starts, count, self.clock);
-        let found = profile.earliest(self.limit, self.bound, line, time);
+        let steps = profile.steps;
+        let found = earliest(
+            &profile.at,
+            &profile.counts,
+            steps,
+            self.limit,
+            self.bound,
+            line,
+            time,
+        );
         let When::Minute(start) = found else {
             return Ordering {
                 answer: OrderAnswer::Refused(0),

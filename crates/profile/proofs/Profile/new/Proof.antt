@@ -3,7 +3,7 @@ use borrow.Author.Needs.{needs}
 use mathlib.Core.Path.{refl}
 use native.Mathlib.Omega.{arith}
 use Rattle.profile.proofs.Lines.{each-line}
-use Rattle.profile.proofs.Adds.{shows-none}
+use Rattle.profile.proofs.Shown.{shows-none}
 use Rattle.profile.proofs.Profile.new.Statement.{statement}
 use Rattle.profile.proofs.Profile.new.Tie as tie
 

@@ -4,7 +4,7 @@ use mathlib.Core.Path.{_≡_, subst}
 use native.Mathlib.Omega.{arith}
 use borrow.Author.Needs.{needs}
 use Rattle.profile.specs.Shows.{profileOf, Shows, loadsIn}
-use Rattle.profile.proofs.Adds.{can-add, length-loads, loads-more}
+use Rattle.profile.proofs.Shown.{can-add, length-loads, loads-more}
 use Rattle.profile.proofs.Profile.of.Statement.{statement}
 use Rattle.profile.proofs.Profile.of.Tie as tie
 

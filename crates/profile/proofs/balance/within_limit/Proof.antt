@@ -2,17 +2,15 @@
 use Prim.Native.Nat.{_-_}
 use native.Mathlib.Omega.{arith}
 use borrow.Author.Needs.{needs}
-use Rattle.rules.proofs.Counts.{Limited}
+use Rattle.rules.specs.Load.{limited}
 use Rattle.profile.specs.Shows.{profileOf}
-use Rattle.profile.proofs.Lines.{line-one, line-two, line-three}
-use Rattle.profile.proofs.Balances.{Walked, walked-none, walked-more, walked-done, limited-respects, limited-step, limit-kept, limit-broken, limit-above}
+use Rattle.profile.proofs.Lines.{limited-tests}
+use Rattle.profile.proofs.Balances.{Walked, walked-none, walked-more, walked-fails, walked-done, first-some, limit-below, limit-above}
 use Rattle.profile.proofs.balance.within_limit.Statement.{statement}
 use Rattle.profile.proofs.balance.within_limit.Tie as tie
-use Rattle.profile.proofs.counts.count_of.Reads as count-of-reads
-use Rattle.profile.proofs.counts.larger.Reads as larger-reads
 
 abbrev Inv-loop : tie.InvT-loop
-Inv-loop at counts n limit i₀ i = Walked (Limited limit) (profileOf n at counts) i
+Inv-loop at counts n limit i₀ i = Walked (limited limit) (profileOf n at counts) i
 
 abbrev μ-loop : tie.MeasureT-loop
 μ-loop at counts n limit i₀ i = n - i
@@ -21,13 +19,13 @@ loop-holds : tie.Need-loop-holds Inv-loop μ-loop
 loop-holds c = walked-none _ _ (c .pre)
 
 count-of-requires : tie.Need-count-of-requires Inv-loop μ-loop
-count-of-requires c κs = (omega (arith, c .before .before .pre .fits), line-one)
+count-of-requires c κs = (omega (arith, c .before .before .pre .fits), record { low = omega arith; high = omega arith })
 
 count-of-requires-2 : tie.Need-count-of-requires-2 Inv-loop μ-loop
-count-of-requires-2 c κs = (omega (arith, c .before .before .before .pre .fits), line-two)
+count-of-requires-2 c κs = (omega (arith, c .before .before .before .pre .fits), record { low = omega arith; high = omega arith })
 
 count-of-requires-3 : tie.Need-count-of-requires-3 Inv-loop μ-loop
-count-of-requires-3 c κs = (omega (arith, c .before .before .before .before .pre .fits), line-three)
+count-of-requires-3 c κs = (omega (arith, c .before .before .before .before .pre .fits), record { low = omega arith; high = omega arith })
 
 larger-requires : tie.Need-larger-requires Inv-loop μ-loop
 larger-requires c κs = search needs
@@ -36,7 +34,7 @@ larger-requires-2 : tie.Need-larger-requires-2 Inv-loop μ-loop
 larger-requires-2 c κs = search needs
 
 returns : tie.Need-returns Inv-loop μ-loop
-returns c = limit-broken (c .before .before .before .before .before .before .before .loop .i) (c .before .before .before .before .before .before .before .before .pre) (omega arith) (limit-above _ (c .before .before .before .before .before .count-of .ensures) (c .before .before .before .before .count-of2 .ensures) (c .before .before .before .count-of3 .ensures) (c .before .before .larger .ensures) (c .before .larger2 .ensures) (c .if1 .taken))
+returns c = record { answer = first-some (walked-fails (limited-tests _) (c .before .before .before .before .before .before .before .before .pre) (c .before .before .before .before .before .before .before .loop .inv) (omega arith) (limit-above _ (c .before .before .before .before .before .count-of .ensures) (c .before .before .before .before .count-of2 .ensures) (c .before .before .before .count-of3 .ensures) (c .before .before .larger .ensures) (c .before .larger2 .ensures) (omega (arith, c .if1 .taken)))) }
 
 add-i : tie.Need-add-i Inv-loop μ-loop
 add-i c = omega (arith, c .before .before .before .before .before .before .before .before .pre .fits)
@@ -45,10 +43,10 @@ loop-less : tie.Need-loop-less Inv-loop μ-loop
 loop-less c = omega arith
 
 loop-again : tie.Need-loop-again Inv-loop μ-loop
-loop-again c = walked-more (limited-respects _) (c .before .before .before .before .before .before .before .before .pre) (c .before .before .before .before .before .before .before .loop .inv) (omega arith) (limited-step _ (c .before .before .before .before .before .count-of .ensures) (c .before .before .before .before .count-of2 .ensures) (c .before .before .before .count-of3 .ensures) (c .before .before .larger .ensures) (c .before .larger2 .ensures) (c .if1 .left))
+loop-again c = walked-more (limited-tests _) (c .before .before .before .before .before .before .before .before .pre) (c .before .before .before .before .before .before .before .loop .inv) (omega arith) (limit-below _ (c .before .before .before .before .before .count-of .ensures) (c .before .before .before .before .count-of2 .ensures) (c .before .before .before .count-of3 .ensures) (c .before .before .larger .ensures) (c .before .larger2 .ensures) (omega (arith, c .if1 .left)))
 
 returns-2 : tie.Need-returns-2 Inv-loop μ-loop
-returns-2 c = limit-kept (walked-done (c .before .loop .inv) (omega arith))
+returns-2 c = record { answer = walked-done (c .before .loop .inv) (omega arith) }
 
 pub within-limit-spec : {M : Type 1} → statement M
 within-limit-spec =

@@ -2,7 +2,7 @@
 use borrow.Author.Needs.{needs}
 use mathlib.Core.Path.{refl}
 use native.Mathlib.Omega.{arith}
-use Rattle.profile.proofs.Levels.{shifted-insert, shifted-double}
+use Rattle.profile.proofs.Shifts.{shifted-insert, shifted-double}
 use Rattle.profile.proofs.Adds.{split-none, split-some}
 use Rattle.profile.proofs.loads.split.Statement.{statement}
 use Rattle.profile.proofs.loads.split.Tie as tie
@@ -17,7 +17,7 @@ element-copy-out-if1 : tie.Need-element-copy-out-if1
 element-copy-out-if1 c = search needs
 
 returns : tie.Need-returns
-returns c = search needs
+returns c = split-none _ _ _ (c .before .before .before .before .pre .formed) (c .before .before .place .ensures) (c .if1 .taken)
 
 add-k : tie.Need-add-k
 add-k c = search needs
@@ -47,7 +47,7 @@ returns-2 : tie.Need-returns-2
 returns-2 c =
     let s = c .before .before .before .before .before .before .before .before .pre in
     let h = c .before .before .before .before .before .before .place .ensures in
-    split-some _ _ (c .before .before .before .before .before .before .place .result) _ (s .formed) (s .room) h (c .before .before .before .before .if1 .left) refl (shifted-insert (s .formed .at-size) (s .room) (omega (arith, h .below)) (c .before .before .shift .ensures)) (shifted-double (s .formed .counts-size) (c .shift2 .ensures))
+    split-some _ _ (c .before .before .before .before .before .before .place .result) _ (s .formed) (s .room) h (c .before .before .before .before .if1 .left) refl (shifted-insert (s .formed .at-size) (s .room) (omega (arith, h .below)) (c .before .before .shift .ensures) (omega arith)) (shifted-double (s .formed .counts-size) (c .shift2 .ensures))
 
 pub split-spec : {M : Type 1} → statement M
 split-spec =

@@ -4,7 +4,7 @@ use mathlib.Core.Path.{_≡_, refl}
 use native.Mathlib.Omega.{arith}
 use borrow.Author.Needs.{needs}
 use Rattle.profile.specs.Steps.{RaisedIn}
-use Rattle.profile.proofs.Levels.{raised-none, raised-on}
+use Rattle.profile.proofs.Shifts.{raised-none, raised-on}
 use Rattle.profile.proofs.steps.raise.Statement.{statement}
 use Rattle.profile.proofs.steps.raise.Tie as tie
 
@@ -36,7 +36,7 @@ add-counts : tie.Need-add-counts Inv-loop μ-loop
 add-counts c =
     let l = c .before .before in
     let s = l .before in
-    omega (arith, s .pre .1 .low, s .pre .1 .high, l .loop .inv .2 .each (s .args .line) (s .pre .1 .low, omega (arith, s .pre .1 .high)) .after (l .loop .k) (omega arith), s .pre .4 (l .loop .k) (omega arith))
+    omega (arith, s .pre .1 .low, s .pre .1 .high, l .loop .inv .2 .each (s .args .line) (s .pre .1) .after (l .loop .k) (omega arith), s .pre .4 (l .loop .k) (omega arith))
 
 mul-counts-2 : tie.Need-mul-counts-2 Inv-loop μ-loop
 mul-counts-2 c = search needs

@@ -2,7 +2,7 @@
 use Prim.Native.Nat.{_-_}
 use mathlib.Core.Path.{refl}
 use native.Mathlib.Omega.{arith}
-use Rattle.profile.proofs.Levels.{Shifting, shifting-on, shifting-done}
+use Rattle.profile.proofs.Shifts.{Shifting, shifting-on, shifting-done}
 use Rattle.profile.proofs.steps.shift.Statement.{statement}
 use Rattle.profile.proofs.steps.shift.Tie as tie
 

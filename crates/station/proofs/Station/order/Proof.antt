@@ -2,6 +2,7 @@ use mathlib.Core.Path.{_≡_, ap, sym, _∙_}
 use native.Mathlib.Omega.{arith}
 use Rattle.rules.specs.Calls.{order}
 use Rattle.profile.specs.Shows.{foundAt}
+use Rattle.search.proofs.Starts.{earliest-shows}
 use Rattle.station.proofs.Refusing.{call-refused, call-gives}
 use Rattle.station.proofs.Ordered.{drawn, ends-fit, Orderable, order-granted, can-search, orderedStation, call-ordered, call-nothing}
 use borrow.Author.Needs.{needs}
@@ -39,8 +40,8 @@ of-requires c κs =
 
 earliest-requires : tie.Need-earliest-requires
 earliest-requires c κs =
-    let s = c .before .before .before .before .before .before .before .before in (
-      can-search (s .args .self) (c .of .result) (s .args .time) (s .pre) (c .of .ensures) (granted (c .before .before .before .before .before .before) .time-most),
+    let s = c .before .before .before .before .before .before .before .before .before .before .before in (
+      can-search (s .args .self) (c .before .before .before .of .result) (s .args .time) (s .pre) (c .before .before .before .of .ensures) (granted (c .before .before .before .before .before .before .before .before .before) .time-most),
       s .pre .state .limit-low,
       s .pre .state .bound-low,
     )
@@ -53,36 +54,36 @@ enum-told c = search needs
 
 returns-2 : tie.Need-returns-2
 returns-2 c =
-    let s = c .before .before .before .before .before .before .before .before .before .before .before in
+    let s = c .before .before .before .before .before .before .before .before .before .before .before .before .before .before in
     let a = c .before .before in
     record {
       result =
           call-nothing (s .args .self) (s .args .line) (s .args .time) (s .args .due)
-          (c .before .before .before .before .before .before .before .before .before .before .order-refusal .result) (c .before .before .before .before .before .before .before .before .before .before .order-refusal .ensures) (none (c .before .before .before .before .before .before .before .before .before))
-          (a .earliest .ensures (s .args .self .clock) (drawn (s .args .self .charges)) (a .before .of .ensures)
+          (c .before .before .before .before .before .before .before .before .before .before .before .before .before .order-refusal .result) (c .before .before .before .before .before .before .before .before .before .before .before .before .before .order-refusal .ensures) (none (c .before .before .before .before .before .before .before .before .before .before .before .before))
+          (earliest-shows (a .earliest .ensures) (s .args .self .clock) (drawn (s .args .self .charges)) (a .before .before .before .before .of .ensures)
           ∙ ap foundAt (c .enum-told .given .1));
       valid = s .pre;
     }
 
 push-requires : tie.Need-push-requires
 push-requires c κs =
-    let s = c .before .before .before .before .before .before .before .before .before .before .before .before in
-    (s .pre .columns, granted (c .before .before .before .before .before .before .before .before .before .before) .room)
+    let s = c .before .before .before .before .before .before .before .before .before .before .before .before .before .before .before in
+    (s .pre .columns, granted (c .before .before .before .before .before .before .before .before .before .before .before .before .before) .room)
 
 add-next : tie.Need-add-next
-add-next c = omega (arith, granted (c .before .before .before .before .before .before .before .before .before .before .before) .tickets-left)
+add-next c = omega (arith, granted (c .before .before .before .before .before .before .before .before .before .before .before .before .before .before) .tickets-left)
 
 returns-3 : tie.Need-returns-3
 returns-3 c =
-    let s = c .before .before .before .before .before .before .before .before .before .before .before .before .before in
+    let s = c .before .before .before .before .before .before .before .before .before .before .before .before .before .before .before .before in
     let found = c .before .before in
     let a = found .before .before in
     call-gives (s .args .self) (order (s .args .line) (s .args .time) (s .args .due)) _
     (orderedStation (s .args .self) (c .push .result)) _ (s .pre) (c .push .ensures .columns)
     (call-ordered (s .args .self) (s .args .line) (s .args .time) (s .args .due)
-    (c .before .before .before .before .before .before .before .before .before .before .before .before .order-refusal .result) (c .before .before .before .before .before .before .before .before .before .before .before .before .order-refusal .ensures) (none (c .before .before .before .before .before .before .before .before .before .before .before))
+    (c .before .before .before .before .before .before .before .before .before .before .before .before .before .before .before .order-refusal .result) (c .before .before .before .before .before .before .before .before .before .before .before .before .before .before .before .order-refusal .ensures) (none (c .before .before .before .before .before .before .before .before .before .before .before .before .before .before))
     (found .found .given .0 .0) (c .push .result)
-    (a .earliest .ensures (s .args .self .clock) (drawn (s .args .self .charges)) (a .before .of .ensures)
+    (earliest-shows (a .earliest .ensures) (s .args .self .clock) (drawn (s .args .self .charges)) (a .before .before .before .before .of .ensures)
     ∙ ap foundAt (found .found .given .1))
     (c .push .ensures))
 
