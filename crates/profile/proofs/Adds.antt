@@ -8,7 +8,7 @@ use native.Mathlib.Omega.{arith}
 use borrow.Author.Tests.{le-leb, lt-leb, ne-eqb}
 use lib.Dec.{leb, ltb, eqb}
 use lib.ListN.{length, getD}
-use Rattle.rules.specs.Load.{loadFrom, IsLine, active, share, draws}
+use Rattle.rules.specs.Load.{draw, loadFrom, IsLine, active, share, draws}
 use Rattle.rules.proofs.Ranges.{below-or-not}
 use Rattle.rules.proofs.Counts.{draws-before, draws-after}
 use Rattle.profile.specs.Steps.{mostSteps, columns, levelAt, In, Rising, Inserted, DoubledIn, RaisedIn}
@@ -76,7 +76,7 @@ small-step p f s l hl m h =
 -- a load that draws nothing from the first minute on
 add-idle :
     {p : Profile} {line time start : ℕ} → Formed p →
-    ((l : ℕ) → IsLine l → (t : ℕ) → firstMinute p ≤ t → draws (loadFrom line time start) l t ≡ 0) → LoadAdded p p line time start
+    ((l : ℕ) → IsLine l → (t : ℕ) → firstMinute p ≤ t → draws (loadFrom (draw line time) start) l t ≡ 0) → LoadAdded p p line time start
 add-idle f h =
     record {
       formed = f;
@@ -90,14 +90,14 @@ add-idle f h =
 pub add-none : (p : Profile) (line time start : ℕ) → Formed p → start + time ≤ max (firstMinute p) start → LoadAdded p p line time start
 add-none p line time start f h = add-idle f (λ l hl t a. idle l t a (below-or-not t start))
   where
-    idle : (l t : ℕ) → getD (p .at) 0 0 ≤ t → (t < start) ⊎ (start ≤ t) → draws (loadFrom line time start) l t ≡ 0
-    idle l t a (inl b) = draws-before (loadFrom line time start) l t b
-    idle l t a (inr b) = draws-after (loadFrom line time start) l t (omega arith)
+    idle : (l t : ℕ) → getD (p .at) 0 0 ≤ t → (t < start) ⊎ (start ≤ t) → draws (loadFrom (draw line time) start) l t ≡ 0
+    idle l t a (inl b) = draws-before (loadFrom (draw line time) start) l t b
+    idle l t a (inr b) = draws-after (loadFrom (draw line time) start) l t (omega arith)
 
 -- it is on no line
 pub add-other : (p : Profile) (line time start : ℕ) → Formed p → (IsLine line → ⊥) → LoadAdded p p line time start
 add-other p line time start f not =
-    add-idle f (λ l hl t a. nothing (active (loadFrom line time start) t) l (ne-eqb line l (λ e. not (subst IsLine (sym e) hl))))
+    add-idle f (λ l hl t a. nothing (active (loadFrom (draw line time) start) t) l (ne-eqb line l (λ e. not (subst IsLine (sym e) hl))))
   where
     nothing : (b : Bool) (l : ℕ) → eqb line l ≡ false → cond b (share line l) 0 ≡ 0
     nothing true l e = rw e refl
@@ -143,14 +143,14 @@ module _ {p p₁ q : Profile} {time start from i j : ℕ} (can : CanAdd p time s
         (λ b. le-leb from u (omega arith) ∙ sym (le-leb start u b))
         (below-or-not u start)
 
-    new-level : (l : ℕ) → IsLine l → (u : ℕ) → getD (p .at) 0 0 ≤ u → levelOf r l u ≡ levelOf p l u + draws (loadFrom line time start) l u
+    new-level : (l : ℕ) → IsLine l → (u : ℕ) → getD (p .at) 0 0 ≤ u → levelOf r l u ≡ levelOf p l u + draws (loadFrom (draw line time) start) l u
     new-level l hl u a =
         ap (λ (n : ℕ). levelAt (r .at) (lineOf r l) n u) en ∙ ap (λ (x : List ℕ). levelAt x (lineOf r l) (q .steps) u) ea
         ∙ raise-level (q .at) (s₂ .formed .rises) i-below (s₂ .below) (ra .each l hl) u (omega (arith, s₁ .starts, s₂ .starts))
         ∙ ap (λ (x : ℕ). levelOf q l u + cond (leb x u && ltb u (getD (q .at) j 0)) (share line l) 0) i-begins
         ∙ ap (λ (x : ℕ). levelOf q l u + cond (leb from u && ltb u x) (share line l) 0) (s₂ .begins)
         ∙ ap (λ (b : Bool). levelOf q l u + cond (b && ltb u (start + time)) (share line l) 0) (clipped u a)
-        ∙ ap (λ (x : ℕ). x + draws (loadFrom line time start) l u) (same-level l hl u a)
+        ∙ ap (λ (x : ℕ). x + draws (loadFrom (draw line time) start) l u) (same-level l hl u a)
 
     pub add-done : LoadAdded p r line time start
     add-done =

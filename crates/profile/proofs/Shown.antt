@@ -5,7 +5,7 @@ use mathlib.Core.Bool.{Bool}
 use mathlib.Core.List.{List, [], _∷_}
 use native.Mathlib.Omega.{arith}
 use lib.ListN.{length, getD, length-append}
-use Rattle.rules.specs.Load.{Load, loadFrom, IsLine, draws, count, counts, lastUntil}
+use Rattle.rules.specs.Load.{Draw, draw, Load, loadFrom, IsLine, draws, count, counts, lastUntil}
 use Rattle.rules.specs.Search.{added}
 use Rattle.rules.proofs.Lists.{length-tabulate, tabulate-next}
 use Rattle.rules.proofs.Counts.{draws-most}
@@ -21,26 +21,26 @@ pub shown-test :
     (t : ℕ) → clock ≤ t → test (levels p t) ≡ test (counts loads t)
 shown-test same s t a = same _ _ (λ l hl. s .counted l hl t a)
 
-pub last-added : (xs : List Load) (line time s : ℕ) → lastUntil (added xs line time s) ≡ max (lastUntil xs) (s + time)
-last-added [] line time s = omega arith
-last-added (x ∷ xs) line time s = omega (arith, last-added xs line time s)
+pub last-added : (xs : List Load) (a : Draw) (s : ℕ) → lastUntil (added xs a s) ≡ max (lastUntil xs) (s + a .time)
+last-added [] a s = omega arith
+last-added (x ∷ xs) a s = omega (arith, last-added xs a s)
 
-pub length-added : (xs : List Load) (line time s : ℕ) → length (added xs line time s) ≡ length xs + 1
-length-added xs line time s = length-append xs (loadFrom line time s ∷ [])
+pub length-added : (xs : List Load) (a : Draw) (s : ℕ) → length (added xs a s) ≡ length xs + 1
+length-added xs a s = length-append xs (loadFrom a s ∷ [])
 
 -- whatever loads p shows, q shows them and one more
 pub added-shows : {p q : Profile} {line time start : ℕ} → LoadAdded p q line time start → Added p q line time start
 added-shows {p} {q} {line} {time} {start} h clock loads s =
     record {
       formed = h .formed;
-      few = omega (arith, length-added loads line time start, s .few, h .few);
+      few = omega (arith, length-added loads (draw line time) start, s .few, h .few);
       starts = h .starts ∙ s .starts;
       ends = λ i lt.
-          let last = last-added loads line time start in
-          h .ends (max clock (lastUntil (added loads line time start))) (λ k b. omega (arith, s .ends k b, last)) (omega (arith, last)) i lt;
+          let last = last-added loads (draw line time) start in
+          h .ends (max clock (lastUntil (added loads (draw line time) start))) (λ k b. omega (arith, s .ends k b, last)) (omega (arith, last)) i lt;
       counted = λ l hl t a.
-          h .level l hl t (omega (arith, s .starts)) ∙ ap (λ (x : ℕ). x + draws (loadFrom line time start) l t) (s .counted l hl t a)
-          ∙ sym (count-added loads line time start l t);
+          h .level l hl t (omega (arith, s .starts)) ∙ ap (λ (x : ℕ). x + draws (loadFrom (draw line time) start) l t) (s .counted l hl t a)
+          ∙ sym (count-added loads (draw line time) start l t);
     }
 
 -- no load
@@ -73,10 +73,10 @@ can-add p clock loads time start s few fit =
     record { formed = s .formed; small = shows-small p clock loads s (omega arith); room = omega (arith, s .few); ends-fit = fit }
 
 pub length-loads : (lines times starts : List ℕ) (n : ℕ) → length (loadsIn lines times starts n) ≡ n
-length-loads lines times starts n = length-tabulate (λ i. loadFrom (getD lines i 0) (getD times i 0) (getD starts i 0)) n 0
+length-loads lines times starts n = length-tabulate (λ i. loadFrom (draw (getD lines i 0) (getD times i 0)) (getD starts i 0)) n 0
 
 -- the first i loads, and one more
 pub loads-more : (p q : Profile) (clock : ℕ) (lines times starts : List ℕ) (i : ℕ) → Shows p clock (loadsIn lines times starts i) →
     LoadAdded p q (getD lines i 0) (getD times i 0) (getD starts i 0) → Shows q clock (loadsIn lines times starts (i + 1))
 loads-more p q clock lines times starts i s h =
-    rw (tabulate-next (λ i. loadFrom (getD lines i 0) (getD times i 0) (getD starts i 0)) i) (added-shows h clock (loadsIn lines times starts i) s)
+    rw (tabulate-next (λ i. loadFrom (draw (getD lines i 0) (getD times i 0)) (getD starts i 0)) i) (added-shows h clock (loadsIn lines times starts i) s)

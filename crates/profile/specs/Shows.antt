@@ -6,7 +6,7 @@ use mathlib.Core.List.{List}
 use lib.Dec.{eqb}
 use lib.ListN.{length, getD}
 use Rattle.rules.specs.Basics.{tabulate, Found, at, nothing}
-use Rattle.rules.specs.Load.{Load, loadFrom, IsLine, draws, count, lastUntil}
+use Rattle.rules.specs.Load.{draw, Load, loadFrom, IsLine, draws, count, lastUntil}
 use Rattle.rules.specs.Search.{added}
 use Rattle.profile.specs.Steps.{mostSteps, columns, levelAt, lineIn, Rising}
 use Rattle.profile.specs.declared.Profile.{Profile}
@@ -94,16 +94,16 @@ pub record LoadAdded (p q : Profile) (line time start : ℕ) : Type 0 where
   pub few : q .steps ≤ p .steps + 2
   pub starts : firstMinute q ≡ firstMinute p
   pub ends : (b : ℕ) → StepsBy b p → start + time ≤ b → StepsBy b q
-  pub level : (l : ℕ) → IsLine l → (t : ℕ) → firstMinute p ≤ t → levelOf q l t ≡ levelOf p l t + draws (loadFrom line time start) l t
+  pub level : (l : ℕ) → IsLine l → (t : ℕ) → firstMinute p ≤ t → levelOf q l t ≡ levelOf p l t + draws (loadFrom (draw line time) start) l t
 
 -- whatever loads p shows, q shows them and one more
 abbrev pub Added : Profile → Profile → ℕ → ℕ → ℕ → Type 0
 Added p q line time start =
-    (clock : ℕ) (loads : List Load) → Shows p clock loads → Shows q clock (added loads line time start)
+    (clock : ℕ) (loads : List Load) → Shows p clock loads → Shows q clock (added loads (draw line time) start)
 
 -- the first n loads of three lists
 abbrev pub loadsIn : List ℕ → List ℕ → List ℕ → ℕ → List Load
-loadsIn lines times starts n = tabulate (λ i. loadFrom (getD lines i 0) (getD times i 0) (getD starts i 0)) n 0
+loadsIn lines times starts n = tabulate (λ i. loadFrom (draw (getD lines i 0) (getD times i 0)) (getD starts i 0)) n 0
 
 -- each of their ends is a number of 32 bits
 abbrev pub EndsFit : List ℕ → List ℕ → ℕ → Type 0

@@ -6,7 +6,7 @@ use mathlib.Core.List.{List}
 use mathlib.Core.Logic.{_⊎_, inl, inr, ⊎-elim}
 use native.Mathlib.Omega.{arith}
 use lib.ListN.{length}
-use Rattle.rules.specs.Load.{Load, loadFrom, limits, share, counts, lastUntil, soundCounts, sound}
+use Rattle.rules.specs.Load.{draw, Load, loadFrom, limits, share, counts, lastUntil, soundCounts, sound}
 use Rattle.rules.specs.Search.{added, earliest}
 use Rattle.rules.proofs.Ranges.{fails, below-or-not, first-is, first-nothing}
 use Rattle.rules.proofs.Counts.{draws-before, draws-after, draws-in, count-past, sound-at, sound-all, sound-from, sound-true}
@@ -28,13 +28,13 @@ use Rattle.search.proofs.Within.{within-levels}
 module _ (p : Profile) (limit bound line time s t : ℕ) where
   -- in its minutes
   pub with-in : s ≤ t → t < s + time → soundWith p limit bound line time s t ≡ soundCounts (limits limit bound) (λ l. levelOf p l t + share line l)
-  with-in a b = sound-tests (limits limit bound) _ _ (λ l h. ap (λ (x : ℕ). levelOf p l t + x) (draws-in (loadFrom line time s) l t a b))
+  with-in a b = sound-tests (limits limit bound) _ _ (λ l h. ap (λ (x : ℕ). levelOf p l t + x) (draws-in (loadFrom (draw line time) s) l t a b))
 
   -- in another minute
   pub with-out : (t < s) ⊎ (s + time ≤ t) → soundWith p limit bound line time s t ≡ soundIn p limit bound t
   with-out w =
       sound-tests (limits limit bound) _ _
-      (λ l h. ⊎-elim (λ a. omega (arith, draws-before (loadFrom line time s) l t a)) (λ a. omega (arith, draws-after (loadFrom line time s) l t a)) w)
+      (λ l h. ⊎-elim (λ a. omega (arith, draws-before (loadFrom (draw line time) s) l t a)) (λ a. omega (arith, draws-after (loadFrom (draw line time) s) l t a)) w)
 
 -- The answers of `earliest`: r is the smallest start, from the first minute on and reaching the end of what is unsound, with room in all its minutes
 module _ {p : Profile} {time limit bound line start first end r : ℕ} {rooms : List ℕ} (can : CanStart p time)
@@ -96,30 +96,30 @@ module _ {p : Profile} {time limit bound line start first end r : ℕ} {rooms : 
 module _ {p : Profile} {clock : ℕ} {loads : List Load} (s : Shows p clock loads) where
   sound-with :
       (limit bound line time i t : ℕ) → clock ≤ t →
-      soundWith p limit bound line time i t ≡ soundCounts (limits limit bound) (counts (added loads line time i) t)
+      soundWith p limit bound line time i t ≡ soundCounts (limits limit bound) (counts (added loads (draw line time) i) t)
   sound-with limit bound line time i t a =
-      sound-tests (limits limit bound) _ _ (λ l h. omega (arith, s .counted l h t a, count-added loads line time i l t))
+      sound-tests (limits limit bound) _ _ (λ l h. omega (arith, s .counted l h t a, count-added loads (draw line time) i l t))
 
   -- the rules' plan with one more load is sound, or not
   with-sound :
       (limit bound line time i : ℕ) → ((t : ℕ) → firstMinute p ≤ t → soundWith p limit bound line time i t ≡ true) →
-      sound (limits limit bound) clock (added loads line time i) ≡ true
+      sound (limits limit bound) clock (added loads (draw line time) i) ≡ true
   with-sound limit bound line time i h =
-      sound-true (limits limit bound) clock (added loads line time i)
+      sound-true (limits limit bound) clock (added loads (draw line time) i)
       (λ t a.
-      sound-at (limits limit bound) (counts (added loads line time i) t)
+      sound-at (limits limit bound) (counts (added loads (draw line time) i) t)
       (sym (sound-with limit bound line time i t a) ∙ h t (omega (arith, s .starts))))
 
   with-unsound :
       (limit bound line time i : ℕ) → Fails (soundWith p limit bound line time i) (firstMinute p) →
-      sound (limits limit bound) clock (added loads line time i) ≡ false
+      sound (limits limit bound) clock (added loads (draw line time) i) ≡ false
   with-unsound limit bound line time i h =
-      fails (sound (limits limit bound) clock (added loads line time i))
+      fails (sound (limits limit bound) clock (added loads (draw line time) i))
       (λ e.
       true≢false
       (sym
-      (sound-all (limits limit bound) (counts (added loads line time i) (h .minute))
-      (sound-from (limits limit bound) clock (added loads line time i) e (h .minute) (omega (arith, s .starts, h .low))))
+      (sound-all (limits limit bound) (counts (added loads (draw line time) i) (h .minute))
+      (sound-from (limits limit bound) clock (added loads (draw line time) i) e (h .minute) (omega (arith, s .starts, h .low))))
       ∙ sym (sound-with limit bound line time i (h .minute) (omega (arith, s .starts, h .low)))
       ∙ h .fails))
 
@@ -141,9 +141,9 @@ pub earliest-shows : {p : Profile} {limit bound line time : ℕ} {r : When} → 
 unfolding earliest
 earliest-shows {p} {limit} {bound} {line} {time} {r} k clock loads s = go r (k .answer)
   where
-    go : (r : When) → StartsIf p limit bound line time r → earliest (limits limit bound) clock loads line time ≡ foundAt r
+    go : (r : When) → StartsIf p limit bound line time r → earliest (limits limit bound) clock loads (draw line time) ≡ foundAt r
     go (Minute i) h =
-        first-is (λ i. sound (limits limit bound) clock (added loads line time i)) (suc (lastUntil loads - clock)) clock i
+        first-is (λ i. sound (limits limit bound) clock (added loads (draw line time) i)) (suc (lastUntil loads - clock)) clock i
         (record {
           low = omega (arith, s .starts, h .low);
           high = omega (arith, s .starts, h .low, h .high, s .ends (p .steps - 1) (omega (arith, s .formed .some)));
@@ -151,5 +151,5 @@ earliest-shows {p} {limit} {bound} {line} {time} {r} k clock loads s = go r (k .
           least = λ j a b. with-unsound s limit bound line time j (h .least j (omega (arith, s .starts)) b);
         })
     go Never h =
-        first-nothing (λ i. sound (limits limit bound) clock (added loads line time i)) (suc (lastUntil loads - clock)) clock
+        first-nothing (λ i. sound (limits limit bound) clock (added loads (draw line time) i)) (suc (lastUntil loads - clock)) clock
         (λ j a b. with-unsound s limit bound line time j (h j (omega (arith, s .starts))))

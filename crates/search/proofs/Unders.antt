@@ -7,7 +7,7 @@ use native.Mathlib.Omega.{arith}
 use borrow.Author.Tests.{lt-ltb, ltb-true}
 use lib.Dec.{ltb}
 use lib.ListN.{length, set}
-use Rattle.rules.specs.Load.{IsLine, count, lastUntil}
+use Rattle.rules.specs.Load.{draw, IsLine, count, lastUntil}
 use Rattle.rules.specs.Search.{earliestUnder}
 use Rattle.rules.proofs.Ranges.{fails, first-is}
 use Rattle.rules.proofs.Searches.{underTest, under-at, under-all}
@@ -55,20 +55,20 @@ module _ {p : Profile} {c : LineCaps} {line time : ℕ} {rooms : List ℕ} (can 
 pub under-shows : {p : Profile} {c : LineCaps} {line time r : ℕ} → IsLine line → EarliestStartUnder p c line time r → EarliestUnder p c line time r
 unfolding earliestUnder
 under-shows {p} {c} {line} {time} {r} h m clock xs cap s w =
-    first-is (underTest cap xs line time) (suc (lastUntil xs - clock)) clock r
+    first-is (underTest cap xs (draw line time)) (suc (lastUntil xs - clock)) clock r
     (record {
       low = omega (arith, m .least .low, s .starts);
       high = omega (arith, m .high, m .least .low, s .starts, s .ends (p .steps - 1) (omega (arith, s .formed .some)));
       here =
-          under-all cap xs line time r
+          under-all cap xs (draw line time) r
           (λ t a b.
           omega (arith, ltb-true (count xs line t) (cap line t) (sym (test t (omega (arith, m .least .low, s .starts))) ∙ m .least .passes t a b)));
       least = λ u a b.
           let x = m .least .failed u (omega (arith, s .starts)) b in
-          fails (underTest cap xs line time u)
+          fails (underTest cap xs (draw line time) u)
           (λ e.
           true≢false
-          (sym (lt-ltb (count xs line (x .minute)) (cap line (x .minute)) (omega (arith, under-at cap xs line time u e (x .minute) (x .low) (x .high))))
+          (sym (lt-ltb (count xs line (x .minute)) (cap line (x .minute)) (omega (arith, under-at cap xs (draw line time) u e (x .minute) (x .low) (x .high))))
           ∙ sym (test (x .minute) (omega (arith, x .low)))
           ∙ x .fails));
     })

@@ -6,7 +6,7 @@ use mathlib.Core.List.{List}
 use lib.Dec.{ltb}
 use lib.ListN.{length, getD}
 use Rattle.rules.specs.Basics.{at}
-use Rattle.rules.specs.Load.{Load, IsLine}
+use Rattle.rules.specs.Load.{draw, Load, IsLine}
 use Rattle.rules.specs.Search.{Caps, earliestUnder}
 use Rattle.rules.specs.Replan.{lowered}
 use Rattle.profile.specs.Steps.{columns, lineIn}
@@ -80,4 +80,4 @@ pub record CanCap (c : LineCaps) (l : ℕ) : Type 0 where
 -- whatever loads p and caps c show, the answer is the rules' smallest start under the cap
 abbrev pub EarliestUnder : Profile → LineCaps → ℕ → ℕ → ℕ → Type 0
 EarliestUnder p c line time r =
-    (clock : ℕ) (loads : List Load) (cap : Caps) → Shows p clock loads → CapsShown c cap → earliestUnder cap clock loads line time ≡ at r
+    (clock : ℕ) (loads : List Load) (cap : Caps) → Shows p clock loads → CapsShown c cap → earliestUnder cap clock loads (draw line time) ≡ at r

@@ -3,7 +3,7 @@ use Prim.Native.Nat.{ℕ, _+_, _-_, _^_, _≤_, _<_}
 use mathlib.Core.Path.{_≡_}
 use mathlib.Core.Bool.{Bool, true, false}
 use mathlib.Core.List.{List}
-use Rattle.rules.specs.Load.{Load, loadFrom, IsLine, draws, limits, soundCounts}
+use Rattle.rules.specs.Load.{draw, Load, loadFrom, IsLine, draws, limits, soundCounts}
 use Rattle.rules.specs.Search.{earliest}
 use Rattle.profile.specs.Minutes.{Passes, Fails}
 use Rattle.profile.specs.Shows.{lineOf, levelOf, levels, firstMinute, lastMinute, Formed, Small, Shows, foundAt}
@@ -29,7 +29,7 @@ soundIn p limit bound t = soundCounts (limits limit bound) (levels p t)
 -- the same with one more load of a line from minute s on
 abbrev pub soundWith : Profile → ℕ → ℕ → ℕ → ℕ → ℕ → ℕ → Bool
 soundWith p limit bound line time s t =
-    soundCounts (limits limit bound) (λ l. levelOf p l t + draws (loadFrom line time s) l t)
+    soundCounts (limits limit bound) (λ l. levelOf p l t + draws (loadFrom (draw line time) s) l t)
 
 -- every minute before `first` is sound, and every minute from `end` on; `first` is not, if it is a minute at all, and neither is the minute before `end`
 pub record UnsoundWithin (p : Profile) (limit bound first end : ℕ) : Type 0 where
@@ -60,4 +60,4 @@ pub record EarliestStart (p : Profile) (limit bound line time : ℕ) (r : When) 
 -- whatever loads p shows, the answer is the rules' earliest start
 abbrev pub Earliest : Profile → ℕ → ℕ → ℕ → ℕ → When → Type 0
 Earliest p limit bound line time r =
-    (clock : ℕ) (loads : List Load) → Shows p clock loads → earliest (limits limit bound) clock loads line time ≡ foundAt r
+    (clock : ℕ) (loads : List Load) → Shows p clock loads → earliest (limits limit bound) clock loads (draw line time) ≡ foundAt r
