@@ -20,8 +20,9 @@ use Rattle.profile.proofs.Balances.{largest-same, smallest-same}
 use Rattle.planner.specs.declared.rounds.Outcome.the-variants.{Ends, Lowers}
 use Rattle.planner.specs.Starts.{waitingCount, WaitingStarts}
 use Rattle.planner.specs.Ready.{begunOf}
-use Rattle.planner.specs.Placed.{AllPlaced, linesPlaced}
-use Rattle.planner.specs.Answers.{askedIn, Comparable}
+use Rattle.planner.specs.Placed.{AllPlaced}
+use Rattle.planner.specs.Lines.{linesPlaced}
+use Rattle.planner.specs.Rounds.{askedIn, Comparable}
 use Rattle.planner.proofs.Placing.{placed-active}
 use Rattle.planner.proofs.Showing.{loads-append}
 use Rattle.planner.proofs.Profiles.{smallest-is}

@@ -16,8 +16,9 @@ use Rattle.planner.specs.declared.Proposed.{Proposed}
 use Rattle.planner.specs.declared.rounds.Round.{Round}
 use Rattle.planner.specs.Starts.{waitingCount}
 use Rattle.planner.specs.Ready.{Ready}
-use Rattle.planner.specs.Placed.{Capped}
-use Rattle.planner.specs.Answers.{proposalOf, Plays, Replans}
+use Rattle.planner.specs.Lines.{Capped}
+use Rattle.planner.specs.Answers.{proposalOf}
+use Rattle.planner.specs.Rounds.{Plays, Replans}
 
 abbrev pub replanned : Proposal → ℕ → Replanned
 replanned p made = record { proposal = p; rounds = made }

@@ -28,8 +28,9 @@ use Rattle.planner.specs.declared.rounds.Outcome.{Outcome}
 use Rattle.planner.specs.declared.rounds.Outcome.the-variants.{Ends, Lowers}
 use Rattle.planner.specs.Starts.{WaitingStarts}
 use Rattle.planner.specs.Ready.{begunOf, Ready}
-use Rattle.planner.specs.Placed.{AllPlaced, linesPlaced, Capped, LinesUnder}
-use Rattle.planner.specs.Answers.{askedIn, Comparable, Plays}
+use Rattle.planner.specs.Placed.{AllPlaced}
+use Rattle.planner.specs.Lines.{linesPlaced, Capped, LinesUnder}
+use Rattle.planner.specs.Rounds.{askedIn, Comparable, Plays}
 use Rattle.planner.proofs.Showing.{length-loads-of}
 use Rattle.planner.proofs.Profiles.{shown-few, largest-alike, smallest-alike}
 use Rattle.planner.proofs.Asking.{round-balanced, round-ends, round-lowers}

@@ -22,7 +22,7 @@ use Rattle.charges.specs.Places.{placeAt, PlacesIn, Ordered}
 use Rattle.charges.proofs.Passing.{rising-all}
 use Rattle.charges.proofs.Sorting.{length-sorted}
 use Rattle.planner.specs.Ready.{begunOf}
-use Rattle.planner.specs.Placed.{InLines}
+use Rattle.planner.specs.Lines.{InLines}
 use Rattle.planner.proofs.Showing.{begun-and-waiting}
 
 -- the charge at the k-th place

@@ -11,7 +11,7 @@ ghost use Rattle.rules.specs.Charge.{loadsOf};
 ghost use Rattle.charges.specs.Held.{Listed};
 ghost use Rattle.profile.specs.Shows.{Shows};
 ghost use Rattle.planner.specs.Ready.{begunOf};
-ghost use Rattle.planner.specs.Placed.{Capped, InLines, LinesUnder};
+ghost use Rattle.planner.specs.Lines.{Capped, InLines, LinesUnder};
 
 // The profile of the begun charges and those placed, and the start of each placed one at its place.
 pub struct Placement {

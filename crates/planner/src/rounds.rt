@@ -17,8 +17,8 @@ ghost use Rattle.rules.specs.Replan.{byLines};
 ghost use Rattle.charges.specs.Arrays.{chargesOf};
 ghost use Rattle.profile.specs.Shows.{Shows};
 ghost use Rattle.planner.specs.Ready.{begunOf, Ready};
-ghost use Rattle.planner.specs.Placed.{Capped, InLines};
-ghost use Rattle.planner.specs.Answers.{Comparable, Plays, Replans, askedIn};
+ghost use Rattle.planner.specs.Lines.{Capped, InLines};
+ghost use Rattle.planner.specs.Rounds.{Comparable, Plays, Replans, askedIn};
 
 // A round ends the replan, or the line's cap has to be lowered from the minute on.
 pub enum Outcome {

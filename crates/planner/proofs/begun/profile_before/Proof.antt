@@ -1,3 +1,4 @@
+-- The profile shows those of the first i charges whose starts are below `before`.
 use native.Mathlib.Omega.{arith}
 use mathlib.Core.Path.{_≡_}
 use mathlib.Core.Logic.{⊎-elim}

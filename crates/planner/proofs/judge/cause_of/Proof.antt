@@ -1,3 +1,4 @@
+-- Each way out is the first of causes 3 to 6 that applies.
 use borrow.Author.Tests.{not-true, not-false}
 use borrow.Author.Needs.{needs}
 use Rattle.planner.proofs.Judging.{ends-fit, judges-three, judges-four, judges-five, judges-six, judges-none}

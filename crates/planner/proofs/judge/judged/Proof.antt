@@ -1,3 +1,4 @@
+-- Kept with the cause, or taken: the answer is that of the rules.
 use borrow.Author.Needs.{needs}
 use Rattle.planner.proofs.Judging.{judges-kept, judges-taken}
 use Rattle.planner.proofs.judge.judged.Statement.{statement}

@@ -1,3 +1,4 @@
+-- Cause 7 is the last that the rules look at.
 use mathlib.Core.Path.{_≡_, refl}
 use Prim.Native.Nat.{ℕ, zero, suc}
 use borrow.Author.Tests.{lt-ltb, le-ltb}

@@ -1,3 +1,4 @@
+-- The first k charges of the queue are placed as the rules place them.
 use native.Mathlib.Omega.{arith}
 use Prim.Native.Nat.{_≤_, _-_}
 use borrow.Author.Needs.{needs}
@@ -13,7 +14,6 @@ use Rattle.planner.proofs.Proposing.{latest-none, latest-starts}
 use Rattle.planner.proofs.latest.latest.Statement.{statement}
 use Rattle.planner.proofs.latest.latest.Tie as tie
 
--- The first k charges of the queue are placed as the rules place them.
 abbrev Inv-loop : tie.InvT-loop
 Inv-loop clock limit bound charges queue n steps₀ at₀ counts₀ placed₀ k₀ steps at counts placed k =
     (k ≤ n)

@@ -1,3 +1,4 @@
+-- Whatever the caps are, the first k charges of the queue are placed as the rules place them.
 use native.Mathlib.Omega.{arith}
 use Prim.Native.Nat.{_≤_, _-_}
 use Rattle.rules.specs.Search.{Caps}
@@ -12,7 +13,6 @@ use Rattle.planner.proofs.Finding.{capped-can-add, capped-placed}
 use Rattle.planner.proofs.lines.place_lines.Statement.{statement}
 use Rattle.planner.proofs.lines.place_lines.Tie as tie
 
--- Whatever the caps are, the first k charges of the queue are placed as the rules place them.
 abbrev Inv-loop : tie.InvT-loop
 Inv-loop clock charges queue caps n steps₀ at₀ counts₀ starts₀ k₀ steps at counts starts k =
     (k ≤ n)

@@ -1,3 +1,4 @@
+-- The rounds that are left, from the caps as they stand, are the whole of the replan.
 use native.Mathlib.Omega.{arith}
 use Prim.Native.Nat.{_-_}
 use borrow.Author.Needs.{needs}

@@ -1,3 +1,4 @@
+-- A round is that of the rules, whatever caps the lists of minutes stand for.
 use borrow.Author.Needs.{needs}
 use Rattle.planner.proofs.Playing.{round-formed, plays-balanced, round-comparable, plays-asked}
 use Rattle.planner.proofs.rounds.play.Statement.{statement}

@@ -1,3 +1,4 @@
+-- The levels of the two profiles decide what is asked for.
 use native.Mathlib.Omega.{arith}
 use Rattle.profile.proofs.Lines.{line-one, line-two, line-three}
 use Rattle.planner.proofs.Profiles.{largest-is, smallest-is}
