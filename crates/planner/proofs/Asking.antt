@@ -16,7 +16,7 @@ use Rattle.charges.specs.declared.Charges.{Charges}
 use Rattle.charges.specs.Arrays.{chargesOf}
 use Rattle.profile.specs.declared.Profile.{Profile}
 use Rattle.profile.specs.Shows.{ofLines, levelOf, levels}
-use Rattle.profile.proofs.Balances.{largest-same, smallest-same}
+use Rattle.profile.proofs.Picks.{largest-same, smallest-same}
 use Rattle.planner.specs.declared.rounds.Outcome.the-variants.{Ends, Lowers}
 use Rattle.planner.specs.Starts.{waitingCount, WaitingStarts}
 use Rattle.planner.specs.Ready.{begunOf}

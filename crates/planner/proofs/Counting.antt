@@ -9,8 +9,8 @@ use Rattle.rules.specs.Replan.{Proposal, none, Outcome, ends, lowers, lowered, 
 use Rattle.rules.proofs.Rounds.{lowered-at-least-one}
 use Rattle.charges.specs.declared.Charges.{Charges}
 use Rattle.charges.specs.Arrays.{chargesOf, Filled}
-use Rattle.profile.specs.declared.caps.LineCaps.{LineCaps}
-use Rattle.profile.specs.Caps.{CapsShown, LoweredAt}
+use Rattle.search.specs.declared.caps.LineCaps.{LineCaps}
+use Rattle.search.specs.Caps.{CapsShown, LoweredAt}
 use Rattle.planner.specs.declared.rounds.Outcome.the-variants.{Ends, Lowers}
 use Rattle.planner.specs.declared.Proposed.{Proposed}
 use Rattle.planner.specs.declared.rounds.Round.{Round}

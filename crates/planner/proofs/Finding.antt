@@ -6,7 +6,7 @@ use native.Mathlib.Omega.{arith}
 use lib.ListN.{set}
 use Rattle.rules.specs.Basics.{at}
 use Rattle.rules.specs.Load.{Limits, limits}
-use Rattle.rules.specs.Charge.{Charge, loadsOf}
+use Rattle.rules.specs.Charge.{Charge, drawOf, loadsOf}
 use Rattle.rules.specs.Search.{Caps}
 use Rattle.rules.specs.Replan.{stuck, placeAll, soundStart, cappedStart}
 use Rattle.rules.proofs.Searches.{earliest-first, under-first}
@@ -17,24 +17,27 @@ use Rattle.charges.specs.Places.{placeAt}
 use Rattle.profile.specs.declared.Profile.{Profile}
 use Rattle.profile.specs.declared.When.{When}
 use Rattle.profile.specs.declared.When.the-variants.{Minute, Never}
-use Rattle.profile.specs.declared.caps.LineCaps.{LineCaps}
-use Rattle.profile.specs.Shows.{Added, CanAdd, foundAt, Earliest}
-use Rattle.profile.specs.Caps.{CapsShown, EarliestUnder}
+use Rattle.search.specs.declared.caps.LineCaps.{LineCaps}
+use Rattle.profile.specs.Shows.{LoadAdded, CanAdd, foundAt}
+use Rattle.search.specs.Starts.{EarliestStart}
+use Rattle.search.specs.Caps.{CapsShown, EarliestStartUnder}
+use Rattle.search.proofs.Starts.{earliest-shows}
+use Rattle.search.proofs.Unders.{under-shows}
 use Rattle.planner.specs.Ready.{begunOf, Ready}
 use Rattle.planner.proofs.Queueing.{chargeIn, queueFrom, Queue}
-use Rattle.planner.proofs.Plans.{PlacedSoFar, Near, next-stuck, next-can-add, next-placed}
+use Rattle.planner.proofs.Plans.{PlacedSoFar, Near, next-inside, next-stuck, next-can-add, next-placed}
 
 -- So that the plan is sound
 
 sound-near : (y : Limits) (clock : ℕ) (begun : List Charge) → Near clock begun (soundStart y clock begun)
 sound-near y clock begun placed x s e =
-    omega (arith, earliest-first y clock (loadsOf (begun ++ placed)) (x .line) (x .time) s e .high)
+    omega (arith, earliest-first y clock (loadsOf (begun ++ placed)) (drawOf x) s e .high)
 
 module _ {limit bound clock : ℕ} {c : Charges} {q : Places} {k : ℕ} {p : Profile} {starts : List ℕ}
     (r : Ready clock limit bound c) (u : Queue clock c q)
-    (v : PlacedSoFar (soundStart (limits limit bound) clock (begunOf clock c)) clock c q k p starts) (low : k < q .count) (w : When) (e : Earliest p limit bound (chargeIn c q k .line) (chargeIn c q k .time) w) where
+    (v : PlacedSoFar (soundStart (limits limit bound) clock (begunOf clock c)) clock c q k p starts) (low : k < q .count) (w : When) (e : EarliestStart p limit bound (chargeIn c q k .line) (chargeIn c q k .time) w) where
   found : soundStart (limits limit bound) clock (begunOf clock c) (v .placed) (chargeIn c q k) ≡ foundAt w
-  found = e clock (loadsOf (begunOf clock c ++ v .placed)) (v .plan .shows)
+  found = earliest-shows e clock (loadsOf (begunOf clock c ++ v .placed)) (v .plan .shows)
 
   pub sound-stuck :
       w ≡ Never → placeAll (soundStart (limits limit bound) clock (begunOf clock c)) [] (queueFrom c q 0) ≡ stuck
@@ -48,7 +51,7 @@ module _ {limit bound clock : ℕ} {c : Charges} {q : Places} {k : ℕ} {p : Pro
 
     pub sound-placed :
         {p′ : Profile}
-        → Added p p′ (chargeIn c q k .line) (chargeIn c q k .time) s
+        → LoadAdded p p′ (chargeIn c q k .line) (chargeIn c q k .time) s
         → PlacedSoFar (soundStart (limits limit bound) clock (begunOf clock c)) clock c q (k + 1) p′ (set starts (placeAt q k) s)
     sound-placed a =
         next-placed (r .listed) u v low (sound-near (limits limit bound) clock (begunOf clock c))
@@ -58,14 +61,16 @@ module _ {limit bound clock : ℕ} {c : Charges} {q : Places} {k : ℕ} {p : Pro
 
 capped-near : (cap : Caps) (clock : ℕ) (begun : List Charge) → Near clock begun (cappedStart cap clock begun)
 capped-near cap clock begun placed x s e =
-    omega (arith, under-first cap clock (loadsOf (begun ++ placed)) (x .line) (x .time) s e .high)
+    omega (arith, under-first cap clock (loadsOf (begun ++ placed)) (drawOf x) s e .high)
 
 module _ {cap : Caps} {caps : LineCaps} {clock : ℕ} {c : Charges} {q : Places} {k : ℕ} {p : Profile} {starts : List ℕ}
     (shown : CapsShown caps cap) (h : Listed c) (u : Queue clock c q)
     (v : PlacedSoFar (cappedStart cap clock (begunOf clock c)) clock c q k p starts) (low : k < q .count) {s : ℕ}
-    (e : EarliestUnder p caps (chargeIn c q k .line) (chargeIn c q k .time) s) where
+    (e : EarliestStartUnder p caps (chargeIn c q k .line) (chargeIn c q k .time) s) where
   found-under : cappedStart cap clock (begunOf clock c) (v .placed) (chargeIn c q k) ≡ at s
-  found-under = e clock (loadsOf (begunOf clock c ++ v .placed)) cap (v .plan .shows) shown
+  found-under =
+      under-shows (h .small (placeAt q k) (next-inside h (u .places) low) .on-line) e clock (loadsOf (begunOf clock c ++ v .placed)) cap
+      (v .plan .shows) shown
 
   pub capped-can-add : CanAdd p (chargeIn c q k .time) s
   capped-can-add =
@@ -73,7 +78,7 @@ module _ {cap : Caps} {caps : LineCaps} {clock : ℕ} {c : Charges} {q : Places}
 
   pub capped-placed :
       {p′ : Profile}
-      → Added p p′ (chargeIn c q k .line) (chargeIn c q k .time) s
+      → LoadAdded p p′ (chargeIn c q k .line) (chargeIn c q k .time) s
       → PlacedSoFar (cappedStart cap clock (begunOf clock c)) clock c q (k + 1) p′ (set starts (placeAt q k) s)
   capped-placed a =
       next-placed h u v low (capped-near cap clock (begunOf clock c)) found-under a

@@ -11,7 +11,7 @@ use lib.Seq.{getD-set-same, getD-set-other}
 use borrow.Author.Tests.{eqb-true, eqb-false}
 use Rattle.rules.specs.Basics.{Found, at, nothing}
 use Rattle.rules.specs.Load.{lastUntil}
-use Rattle.rules.specs.Charge.{Charge, starting, loadsOf}
+use Rattle.rules.specs.Charge.{Charge, starting, drawOf, loadsOf}
 use Rattle.rules.specs.Search.{added}
 use Rattle.rules.specs.Replan.{stuck, placeAll, startIn}
 use Rattle.rules.proofs.Lists.{each-append}
@@ -22,8 +22,9 @@ use Rattle.charges.specs.declared.places.Places.{Places}
 use Rattle.charges.specs.Places.{placeAt, PlacesIn}
 use Rattle.charges.proofs.Storing.{zeros}
 use Rattle.profile.specs.declared.Profile.{Profile}
-use Rattle.profile.specs.Shows.{Shows, Added, CanAdd, CanStart}
-use Rattle.profile.proofs.Adds.{last-added}
+use Rattle.profile.specs.Shows.{Shows, LoadAdded, CanAdd}
+use Rattle.search.specs.Starts.{CanStart}
+use Rattle.profile.proofs.Shown.{last-added, added-shows}
 use Rattle.planner.specs.Ready.{begunOf}
 use Rattle.planner.specs.Placed.{PlanShown, AllPlaced}
 use Rattle.planner.proofs.Placing.{place-none, place-on, place-stuck, Missing, start-last, start-other}
@@ -125,8 +126,7 @@ module _ {find : List Charge → Charge → Found} {clock : ℕ} {c : Charges} {
 
       grown :
           loadsOf (begunOf clock c ++ (v .placed ++ (starting (chargeIn c q k) s ∷ [])))
-          ≡ added (loadsOf (begunOf clock c ++ v .placed)) (chargeIn c q k .line)
-          (chargeIn c q k .time) s
+          ≡ added (loadsOf (begunOf clock c ++ v .placed)) (drawOf (chargeIn c q k)) s
       grown =
           rw (← (append-assoc (begunOf clock c) (v .placed) (starting (chargeIn c q k) s ∷ [])))
           (loads-append (begunOf clock c ++ v .placed) (starting (chargeIn c q k) s ∷ []))
@@ -158,7 +158,7 @@ module _ {find : List Charge → Charge → Found} {clock : ℕ} {c : Charges} {
 
       pub next-placed :
           {p′ : Profile}
-          → Added p p′ (chargeIn c q k .line) (chargeIn c q k .time) s
+          → LoadAdded p p′ (chargeIn c q k .line) (chargeIn c q k .time) s
           → PlacedSoFar find clock c q (k + 1) p′ (set starts (placeAt q k) s)
       next-placed a =
           let many : length (v .placed ++ (starting (chargeIn c q k) s ∷ [])) ≡ length (v .placed) + 1 =
@@ -171,15 +171,14 @@ module _ {find : List Charge → Charge → Found} {clock : ℕ} {c : Charges} {
             many = many ∙ ap (λ (m : ℕ). m + 1) (v .many);
             plan =
                 record {
-                  shows = rw grown (a clock (loadsOf (begunOf clock c ++ v .placed)) (v .plan .shows));
+                  shows = rw grown (added-shows a clock (loadsOf (begunOf clock c ++ v .placed)) (v .plan .shows));
                   stored = stored-on;
                   size = length-set starts (placeAt q k) s ∙ v .plan .size;
                   ends =
                       rw (grown, many)
                       (omega (
                         arith,
-                        last-added (loadsOf (begunOf clock c ++ v .placed)) (chargeIn c q k .line)
-                            (chargeIn c q k .time) s,
+                        last-added (loadsOf (begunOf clock c ++ v .placed)) (drawOf (chargeIn c q k)) s,
                         near (v .placed) (chargeIn c q k) s found,
                         v .plan .ends,
                         h .small (placeAt q k) (next-inside h (u .places) low) .time-most,

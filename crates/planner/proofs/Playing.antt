@@ -18,9 +18,9 @@ use Rattle.charges.specs.Arrays.{Filled}
 use Rattle.profile.specs.declared.Profile.{Profile}
 use Rattle.profile.specs.declared.When.{When}
 use Rattle.profile.specs.declared.When.the-variants.{Minute, Never}
-use Rattle.profile.specs.declared.caps.LineCaps.{LineCaps}
+use Rattle.search.specs.declared.caps.LineCaps.{LineCaps}
 use Rattle.profile.specs.Shows.{levelOf, levels, Formed, Shows, foundAt}
-use Rattle.profile.specs.Caps.{CapsShown}
+use Rattle.search.specs.Caps.{CapsShown}
 use Rattle.profile.specs.Balance.{Unbalanced}
 use Rattle.planner.specs.declared.lines.Placement.{Placement}
 use Rattle.planner.specs.declared.Proposed.{Proposed}

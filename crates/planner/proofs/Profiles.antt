@@ -8,11 +8,12 @@ use Rattle.rules.specs.Load.{Load, IsLine, lastUntil}
 use Rattle.rules.specs.Replan.{largestLine, smallestLine}
 use Rattle.rules.proofs.Rounds.{largest-line, smallest-line}
 use Rattle.profile.specs.declared.Profile.{Profile}
-use Rattle.profile.specs.Shows.{profileOf, ofLines, levelOf, Shows, CanAdd, CanStart}
+use Rattle.profile.specs.Shows.{profileOf, ofLines, levelOf, Shows, CanAdd}
+use Rattle.search.specs.Starts.{CanStart}
 use Rattle.profile.proofs.Lines.{line-one, line-two, line-three}
-use Rattle.profile.proofs.Adds.{can-add, count-few}
-use Rattle.profile.proofs.Starts.{can-start}
-use Rattle.profile.proofs.Balances.{largest-same, smallest-same}
+use Rattle.profile.proofs.Shown.{can-add, count-few}
+use Rattle.search.proofs.Starts.{can-start}
+use Rattle.profile.proofs.Picks.{largest-same, smallest-same}
 
 -- profiles with the same parts are the same
 pub same-parts :

@@ -15,7 +15,8 @@ use Rattle.charges.specs.Arrays.{chargeAt, chargesOf}
 use Rattle.charges.specs.Held.{Listed}
 use Rattle.charges.proofs.Walking.{keep-hit, keep-miss, keep-length}
 use Rattle.profile.specs.declared.Profile.{Profile}
-use Rattle.profile.specs.Shows.{Shows, Added, CanAdd, EndsFit}
+use Rattle.profile.specs.Shows.{Shows, LoadAdded, CanAdd, EndsFit}
+use Rattle.profile.proofs.Shown.{added-shows}
 use Rattle.rules.proofs.Ends.{last-until}
 use Rattle.planner.proofs.Causes.{last-below}
 use Rattle.planner.proofs.Profiles.{shown-can-add}
@@ -106,7 +107,7 @@ module _ (before : ℕ) (c : Charges) (i : ℕ) {clock : ℕ} {p : Profile} (s :
   pub begun-on :
       {q r : Profile}
       → chargeAt c i .start < before
-      → Added p q (chargeAt c i .line) (chargeAt c i .time) (chargeAt c i .start)
+      → LoadAdded p q (chargeAt c i .line) (chargeAt c i .time) (chargeAt c i .start)
       → r ≡ q
       → Shows r clock (loadsOf (begunBelow before c (i + 1)))
   begun-on j a e =
@@ -115,7 +116,7 @@ module _ (before : ℕ) (c : Charges) (i : ℕ) {clock : ℕ} {p : Profile} (s :
         keep-hit (isBegun before) (chargeAt c) i (lt-ltb (chargeAt c i .start) before j),
         loads-append (begunBelow before c i) (chargeAt c i ∷ []),
       )
-      (a clock (loadsOf (begunBelow before c i)) s)
+      (added-shows a clock (loadsOf (begunBelow before c i)) s)
 
   pub begun-past : {r : Profile} → before ≤ chargeAt c i .start → r ≡ p → Shows r clock (loadsOf (begunBelow before c (i + 1)))
   begun-past j e = rw (e, keep-miss (isBegun before) (chargeAt c) i (le-ltb (chargeAt c i .start) before j)) s

@@ -8,8 +8,8 @@ use Rattle.charges.specs.declared.Charges.{Charges}
 use Rattle.charges.specs.Arrays.{chargesOf}
 use Rattle.charges.specs.declared.places.Places.{Places}
 use Rattle.charges.specs.Places.{Ordered}
-use Rattle.profile.specs.declared.caps.LineCaps.{LineCaps}
-use Rattle.profile.specs.Caps.{CapsShown}
+use Rattle.search.specs.declared.caps.LineCaps.{LineCaps}
+use Rattle.search.specs.Caps.{CapsShown}
 use Rattle.planner.specs.declared.lines.Placement.{Placement}
 use Rattle.planner.specs.Ready.{begunOf}
 use Rattle.planner.specs.Placed.{AllPlaced}

@@ -12,8 +12,8 @@ use Rattle.charges.specs.declared.Charges.{Charges}
 use Rattle.charges.specs.Arrays.{chargesOf}
 use Rattle.profile.specs.declared.Profile.{Profile}
 use Rattle.profile.specs.Shows.{levelOf, levels, Formed}
-use Rattle.profile.specs.declared.caps.LineCaps.{LineCaps}
-use Rattle.profile.specs.Caps.{CapsShown}
+use Rattle.search.specs.declared.caps.LineCaps.{LineCaps}
+use Rattle.search.specs.Caps.{CapsShown}
 use Rattle.planner.specs.Starts.{waitingCount}
 use Rattle.planner.specs.declared.rounds.Replanned.{Replanned}
 use Rattle.planner.specs.declared.rounds.Outcome.{Outcome}

@@ -6,7 +6,7 @@ use charges::Charges;
 use charges::PLACES;
 use profile::When;
 use profile::loads::add;
-use profile::start::earliest;
+use search::start::earliest;
 ghost use Rattle.rules.specs.Load.{limits};
 ghost use Rattle.rules.specs.Replan.{latest as latestOf};
 ghost use Rattle.charges.specs.Arrays.{chargesOf};

@@ -9,7 +9,7 @@ use profile::Profile;
 use profile::When;
 use profile::balance::largest_line;
 use profile::balance::smallest_line;
-use profile::caps::LineCaps;
+use search::caps::LineCaps;
 ghost use mathlib.Core.Path.{_≡_};
 ghost use Rattle.rules.specs.Charge.{loadsOf};
 ghost use Rattle.rules.specs.Load.{limits};

@@ -1,6 +1,7 @@
 -- Each way out is the first of causes 3 to 6 that applies.
 use borrow.Author.Tests.{not-true, not-false}
 use borrow.Author.Needs.{needs}
+use Rattle.profile.proofs.Balances.{limit-shows, unbalanced-shows}
 use Rattle.planner.proofs.Judging.{ends-fit, judges-three, judges-four, judges-five, judges-six, judges-none}
 use Rattle.planner.proofs.judge.cause_of.Statement.{statement}
 use Rattle.planner.proofs.judge.cause_of.Tie as tie
@@ -35,7 +36,7 @@ returns-3 : tie.Need-returns-3
 returns-3 c =
     judges-five _ _ _ (c .before .before .before .before .before .before .before .before .before .pre .1) (c .before .before .before .before .before .before .before .start-below .ensures) (c .before .before .before .before .before .before .if1 .left) (c .before .before .before .before .before .last-end .ensures)
     (c .before .before .before .before .last-end2 .ensures) (c .before .before .before .before .before .before .before .before .before .pre .0) (c .before .before .before .if2 .left) (c .before .before .profile-before .ensures)
-    (c .before .within-limit .ensures) (not-true _ (c .if3 .taken))
+    (limit-shows (c .before .within-limit .ensures)) (not-true _ (c .if3 .taken))
 
 first-unbalanced-requires : tie.Need-first-unbalanced-requires
 first-unbalanced-requires c κs = c .before .before .profile-before .ensures .formed
@@ -47,7 +48,7 @@ returns-4 : tie.Need-returns-4
 returns-4 c =
     judges-six _ _ _ (c .before .before .before .before .before .before .before .before .before .before .before .before .pre .1) (c .before .before .before .before .before .before .before .before .before .before .start-below .ensures) (c .before .before .before .before .before .before .before .before .before .if1 .left) (c .before .before .before .before .before .before .before .before .last-end .ensures)
     (c .before .before .before .before .before .before .before .last-end2 .ensures) (c .before .before .before .before .before .before .before .before .before .before .before .before .pre .0) (c .before .before .before .before .before .before .if2 .left) (c .before .before .before .before .before .profile-before .ensures)
-    (c .before .before .before .before .within-limit .ensures) (not-false _ (c .before .before .before .if3 .left)) _ (c .before .before .first-unbalanced .ensures)
+    (limit-shows (c .before .before .before .before .within-limit .ensures)) (not-false _ (c .before .before .before .if3 .left)) _ (unbalanced-shows (c .before .before .first-unbalanced .ensures))
     (c .enum-told .given .1)
 
 enum-told-2 : tie.Need-enum-told-2
@@ -57,7 +58,7 @@ returns-5 : tie.Need-returns-5
 returns-5 c =
     judges-none _ _ _ (c .before .before .before .before .before .before .before .before .before .before .before .before .pre .1) (c .before .before .before .before .before .before .before .before .before .before .start-below .ensures) (c .before .before .before .before .before .before .before .before .before .if1 .left) (c .before .before .before .before .before .before .before .before .last-end .ensures)
     (c .before .before .before .before .before .before .before .last-end2 .ensures) (c .before .before .before .before .before .before .before .before .before .before .before .before .pre .0) (c .before .before .before .before .before .before .if2 .left) (c .before .before .before .before .before .profile-before .ensures)
-    (c .before .before .before .before .within-limit .ensures) (not-false _ (c .before .before .before .if3 .left)) _ (c .before .before .first-unbalanced .ensures)
+    (limit-shows (c .before .before .before .before .within-limit .ensures)) (not-false _ (c .before .before .before .if3 .left)) _ (unbalanced-shows (c .before .before .first-unbalanced .ensures))
     (c .enum-told2 .given .1)
 
 pub cause-of-spec : {M : Type 1} → statement M

@@ -4,8 +4,8 @@ use Prim.Native.Nat.{_≤_, _-_}
 use Rattle.rules.specs.Search.{Caps}
 use Rattle.rules.specs.Replan.{cappedStart}
 use Rattle.profile.specs.Shows.{profileOf}
-use Rattle.profile.specs.Caps.{CapsShown}
-use Rattle.profile.proofs.Lowerings.{can-cap}
+use Rattle.search.specs.Caps.{CapsShown}
+use Rattle.search.proofs.Lowerings.{can-cap}
 use Rattle.planner.specs.Ready.{begunOf}
 use Rattle.planner.proofs.Queueing.{queue-line-by-line, queue-whole}
 use Rattle.planner.proofs.Plans.{PlacedSoFar, placed-start, placed-end, next-inside, next-below, next-can-start}

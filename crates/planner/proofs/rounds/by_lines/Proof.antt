@@ -2,6 +2,7 @@
 use native.Mathlib.Omega.{arith}
 use Prim.Native.Nat.{_-_}
 use borrow.Author.Needs.{needs}
+use Rattle.search.proofs.Lowerings.{lowered-shows}
 use Rattle.planner.proofs.Showing.{listed-ends}
 use Rattle.planner.proofs.Counting.{Rounds, rounds-capped, rounds-start, rounds-done, rounds-spent, lowers-fit, rounds-next}
 use Rattle.planner.proofs.rounds.by_lines.Statement.{statement}
@@ -53,7 +54,7 @@ loop-less : tie.Need-loop-less Inv-loop μ-loop
 loop-less c = omega arith
 
 loop-again : tie.Need-loop-again Inv-loop μ-loop
-loop-again c = rounds-next (c .before .before .before .before .before .before .before .loop .inv) (c .before .before .before .before .before .before .play .ensures) (c .before .before .before .outcome .given .1) (c .before .if1 .left) (c .lower .ensures)
+loop-again c = rounds-next (c .before .before .before .before .before .before .before .loop .inv) (c .before .before .before .before .before .before .play .ensures) (c .before .before .before .outcome .given .1) (c .before .if1 .left) (lowered-shows (c .lower .ensures))
 
 pub by-lines-spec : {M : Type 1} → statement M
 by-lines-spec =
