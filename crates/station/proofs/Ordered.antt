@@ -8,13 +8,12 @@ use lib.Dec.{ltb}
 use lib.ListN.{length}
 use borrow.Author.Tests.{ltb-false, leb-false}
 use Rattle.rules.specs.Basics.{at, nothing, firstOf}
-use Rattle.rules.specs.Load.{Load, lastUntil, limits}
+use Rattle.rules.specs.Load.{Load, draw, lastUntil, limits}
 use Rattle.rules.specs.Charge.{loadOf, loadsOf}
 use Rattle.rules.specs.Search.{earliest}
 use Rattle.rules.specs.Calls.{refused, ordered, limitsOf, refusals, newCharge, orderedAt, ordering, order, step}
-use Rattle.rules.proofs.Ranges.{or-right}
+use Rattle.rules.proofs.Granted.{refusals-none, order-granted}
 use Rattle.rules.proofs.Lists.{length-tabulate, map-tabulate}
-use Rattle.rules.proofs.Tables.{NoneHolds, firstOf-none}
 use Rattle.rules.proofs.Ends.{last-until}
 use Rattle.charges.specs.declared.Charges.{Charges}
 use Rattle.charges.specs.Arrays.{charge, chargeAt, chargesOf, Holds}
@@ -52,26 +51,20 @@ last-drawn s v =
       v .state .next-high,
     )
 
--- what neither of refusals 4 to 14 turns away
+-- what neither of refusals 4 to 14 turns away, read off the arrays
 pub record Orderable (s : Station) (line time due : ℕ) : Type 0 where
   pub time-most : time ≤ 1440
   pub room : s .charges .held < 180
   pub tickets-left : s .next ≤ 65535
 
-pub order-granted :
+pub orderable :
     (s : Station) (line time due : ℕ) → firstOf (refusals (view s) (order line time due)) ≡ 0 → Orderable s line time due
-order-granted s line time due e =
-    let p : NoneHolds (refusals (view s) (order line time due))
-    = firstOf-none (refusals (view s) (order line time due)) (omega arith) e in
+orderable s line time due e =
+    let g = order-granted (view s) line time due (refusals-none (view s) (order line time due) e) in
     record {
-      time-most = ltb-false 1440 time (or-right (ltb time 1) (ltb 1440 time) (p .1 .0));
-      room =
-          omega (
-            arith,
-            leb-false 180 (length (chargesOf (s .charges))) (p .1 .1 .1 .1 .0),
-            length-tabulate (chargeAt (s .charges)) (s .charges .held) 0,
-          );
-      tickets-left = ltb-false 65535 (s .next) (p .1 .1 .1 .1 .1 .0);
+      time-most = g .time-high;
+      room = omega (arith, g .room, length-tabulate (chargeAt (s .charges)) (s .charges .held) 0);
+      tickets-left = g .ticket-left;
     }
 
 pub can-search :
@@ -99,7 +92,7 @@ orderedStation s c =
 module _ (s : Station) (line time due k : ℕ) (e : k ≡ firstOf (refusals (view s) (order line time due))) (z : k ≡ 0) where
   pub call-ordered :
       (start : ℕ) (c : Charges)
-      → earliest (limits (s .limit) (s .bound)) (s .clock) (drawn (s .charges)) line time ≡ at start
+      → earliest (limits (s .limit) (s .bound)) (s .clock) (drawn (s .charges)) (draw line time) ≡ at start
       → Holds (chargesOf (s .charges) ++ (charge (s .next) line (s .clock) time due start ∷ [])) c
       → giving (ordered (s .next) start) (orderedStation s c) [] ≡ step (view s) (order line time due)
   unfolding ordering
@@ -108,14 +101,14 @@ module _ (s : Station) (line time due k : ℕ) (e : k ≡ firstOf (refusals (vie
       (sym
       (call-granted s (order line time due) k e z
       ∙ ap (orderedAt (view s) (newCharge (view s) line time due))
-      (ap (λ (xs : List Load). earliest (limitsOf (view s)) (s .clock) xs line time) (loads-drawn (s .charges)) ∙ f)))
+      (ap (λ (xs : List Load). earliest (limitsOf (view s)) (s .clock) xs (draw line time)) (loads-drawn (s .charges)) ∙ f)))
 
   pub call-nothing :
-      earliest (limits (s .limit) (s .bound)) (s .clock) (drawn (s .charges)) line time ≡ nothing
+      earliest (limits (s .limit) (s .bound)) (s .clock) (drawn (s .charges)) (draw line time) ≡ nothing
       → giving (refused 0) s [] ≡ step (view s) (order line time due)
   unfolding ordering
   call-nothing f =
       sym
       (call-granted s (order line time due) k e z
       ∙ ap (orderedAt (view s) (newCharge (view s) line time due))
-      (ap (λ (xs : List Load). earliest (limitsOf (view s)) (s .clock) xs line time) (loads-drawn (s .charges)) ∙ f))
+      (ap (λ (xs : List Load). earliest (limitsOf (view s)) (s .clock) xs (draw line time)) (loads-drawn (s .charges)) ∙ f))

@@ -1,5 +1,6 @@
 use mathlib.Core.Path.{sym, _∙_}
 use native.Mathlib.Omega.{arith}
+use Rattle.station.specs.Answers.{settingsOf}
 use Rattle.station.proofs.Opened.{open-refused, open-opened}
 use Rattle.station.proofs.Refusing.{opening-gives}
 use borrow.Author.Needs.{needs}

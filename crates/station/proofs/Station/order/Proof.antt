@@ -4,7 +4,7 @@ use Rattle.rules.specs.Calls.{order}
 use Rattle.profile.specs.Shows.{foundAt}
 use Rattle.search.proofs.Starts.{earliest-shows}
 use Rattle.station.proofs.Refusing.{call-refused, call-gives}
-use Rattle.station.proofs.Ordered.{drawn, ends-fit, Orderable, order-granted, can-search, orderedStation, call-ordered, call-nothing}
+use Rattle.station.proofs.Ordered.{drawn, ends-fit, Orderable, orderable, can-search, orderedStation, call-ordered, call-nothing}
 use borrow.Author.Needs.{needs}
 use Rattle.station.proofs.Station.order.Statement.{statement}
 use Rattle.station.proofs.Station.order.Tie as tie
@@ -30,7 +30,7 @@ module _ (c : tie.Else1) where
   granted : Orderable (c .before .before .args .self) (c .before .before .args .line) (c .before .before .args .time) (c .before .before .args .due)
   granted =
       let s = c .before .before in
-      order-granted (s .args .self) (s .args .line) (s .args .time) (s .args .due)
+      orderable (s .args .self) (s .args .line) (s .args .time) (s .args .due)
       (sym (c .before .order-refusal .ensures) ∙ none)
 
 of-requires : tie.Need-of-requires
