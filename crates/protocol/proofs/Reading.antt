@@ -31,7 +31,7 @@ use Rattle.protocol.specs.Lines.{
   passedOver,
   readLine,
   meaning,
-  OfferFits,
+  StartsFit,
 }
 use Rattle.protocol.proofs.Splitting.{first-part}
 use Rattle.protocol.specs.declared.number.Reason.{Reason}
@@ -161,19 +161,19 @@ module _ (name : CallName) (words : List (List ℕ)) {least most : ℕ} {read : 
       let h : neededBy name ≤ n = rw (← l) ((rw e at enough) .0) in
       rw (k, ← l, ← m, ← r, e) (call-told name n list h)
 
-offer-told : (name : CallName) (k : ℕ) (list : List ℕ) → k ≤ allowedBy name → OfferFits (lineOf name k list)
+offer-told : (name : CallName) (k : ℕ) (list : List ℕ) → k ≤ allowedBy name → StartsFit (lineOf name k list)
 offer-told Open k list h = tt
-offer-told Order k list h = tt
-offer-told Move k list h = tt
+offer-told Order k list h = omega arith
+offer-told Move k list h = omega arith
 offer-told Offer k list h = h
-offer-told Latest k list h = tt
-offer-told Lines k list h = tt
-offer-told Enquire k list h = tt
+offer-told Latest k list h = omega arith
+offer-told Lines k list h = omega arith
+offer-told Enquire k list h = omega arith
 offer-told Unknown k list h = tt
 
 pub offer-fits :
     (name : CallName) (k : ℕ) (list : List ℕ) (least : ℕ) {most : ℕ} {read : code.Numbers}
-    → most ≡ allowedBy name → read ≡ count.Count k → Enough least most read → OfferFits (lineOf name k list)
+    → most ≡ allowedBy name → read ≡ count.Count k → Enough least most read → StartsFit (lineOf name k list)
 offer-fits name k list least m e enough = offer-told name k list (rw (← m) ((rw e at enough) .1))
 
 -- A line

@@ -13,6 +13,8 @@ use Rattle.protocol.specs.declared.number.Number.{Number}
 use Rattle.protocol.specs.declared.number.Number.the-variants.{Value, Wrong}
 use Rattle.protocol.specs.declared.word.CallName.{CallName}
 use Rattle.protocol.specs.declared.word.CallName.the-variants.{Open, Order, Move, Offer, Latest, Lines, Enquire, Unknown}
+use Rattle.station.specs.Applied as applied
+use Rattle.station.specs.declared.calls.Call.the-variants as code
 use Rattle.protocol.specs.declared.request.Line as declared
 use Rattle.protocol.specs.declared.request.Line.the-variants as line
 use Rattle.protocol.specs.declared.request.Numbers as declared-numbers
@@ -124,33 +126,23 @@ Enough least most (count.Wrong reason) = Unit {0}
 abbrev pub meaning : declared.Line → List ℕ → Request
 meaning line.Nothing list = nothing
 meaning (line.Open limit percent) list = opening limit percent
-meaning (line.Order on time due) list = call (order on time due)
-meaning (line.Move target places) list = call (move target (lentList places))
-meaning (line.Offer k) list = call (offer (take k list))
-meaning line.Latest list = call replanLatest
-meaning (line.Lines allowance) list = call (replanLines allowance)
-meaning (line.Enquire ticket) list = call (enquire ticket)
+meaning (line.Call c k places) list = call (applied.callOf c (take k list) (lentList places))
 meaning (line.Error reason) list = error reason
 
 -- the code's call of a name, from the numbers at the front of the list
 abbrev pub lineOf : CallName → ℕ → List ℕ → declared.Line
 lineOf Open k list = line.Open (getD list 0 0) (getD list 1 0)
-lineOf Order k list = line.Order (getD list 0 0) (getD list 1 0) (getD list 2 0)
-lineOf Move k list = line.Move (getD list 0 0) (getD list 1 0)
-lineOf Offer k list = line.Offer k
-lineOf Latest k list = line.Latest
-lineOf Lines k list = line.Lines (getD list 0 0)
-lineOf Enquire k list = line.Enquire (getD list 0 0)
+lineOf Order k list = line.Call (code.Order (getD list 0 0) (getD list 1 0) (getD list 2 0)) 0 0
+lineOf Move k list = line.Call (code.Move (getD list 0 0)) 0 (getD list 1 0)
+lineOf Offer k list = line.Call code.Offer k 0
+lineOf Latest k list = line.Call code.ReplanLatest 0 0
+lineOf Lines k list = line.Call (code.ReplanLines (getD list 0 0)) 0 0
+lineOf Enquire k list = line.Call (code.Enquire (getD list 0 0)) 0 0
 lineOf Unknown k list = line.Error UnknownCall
 
--- an offer has at most 180 numbers
-abbrev pub OfferFits : declared.Line → Type 0
-OfferFits line.Nothing = Unit {0}
-OfferFits (line.Open limit percent) = Unit {0}
-OfferFits (line.Order on time due) = Unit {0}
-OfferFits (line.Move target places) = Unit {0}
-OfferFits (line.Offer k) = k ≤ 180
-OfferFits line.Latest = Unit {0}
-OfferFits (line.Lines allowance) = Unit {0}
-OfferFits (line.Enquire ticket) = Unit {0}
-OfferFits (line.Error reason) = Unit {0}
+-- a call has at most 180 starts
+abbrev pub StartsFit : declared.Line → Type 0
+StartsFit line.Nothing = Unit {0}
+StartsFit (line.Open limit percent) = Unit {0}
+StartsFit (line.Call c k places) = k ≤ 180
+StartsFit (line.Error reason) = Unit {0}

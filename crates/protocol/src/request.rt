@@ -15,7 +15,7 @@ ghost use Rattle.protocol.specs.Lines.{
   readCall,
   readLine,
   meaning,
-  OfferFits,
+  StartsFit,
 };
 use crate::number::Number;
 use crate::number::Reason;
@@ -23,17 +23,21 @@ use crate::number::read_number;
 use crate::word::CallName;
 use crate::word::call_named;
 use crate::word::part_end;
+use station::calls::Call;
 
-// What a line asks for. The numbers of an offer stand in the list that was lent for reading.
+// What a line asks for. The starts of an offer stand at the front of the list that was lent for reading, and a clock move
+// asks for so many places to report to; any other call has none of either.
 pub enum Line {
     Nothing,
-    Open { limit: u32, percent: u32 },
-    Order { line: u32, time: u32, due: u32 },
-    Move { target: u32, places: u32 },
-    Offer { count: usize },
-    Latest,
-    Lines { allowance: u32 },
-    Enquire { ticket: u32 },
+    Open {
+        limit: u32,
+        percent: u32,
+    },
+    Call {
+        call: Call,
+        starts: usize,
+        places: u32,
+    },
     Error(Reason),
 }
 
@@ -133,19 +137,40 @@ fn call_of(name: CallName, count: usize, numbers: &[u32]) -> Line
             limit: first,
             percent: second,
         },
-        CallName::Order => Line::Order {
-            line: first,
-            time: second,
-            due: third,
+        CallName::Order => Line::Call {
+            call: Call::Order {
+                line: first,
+                time: second,
+                due: third,
+            },
+            starts: 0,
+            places: 0,
         },
-        CallName::Move => Line::Move {
-            target: first,
+        CallName::Move => Line::Call {
+            call: Call::Move { target: first },
+            starts: 0,
             places: second,
         },
-        CallName::Offer => Line::Offer { count },
-        CallName::Latest => Line::Latest,
-        CallName::Lines => Line::Lines { allowance: first },
-        CallName::Enquire => Line::Enquire { ticket: first },
+        CallName::Offer => Line::Call {
+            call: Call::Offer,
+            starts: count,
+            places: 0,
+        },
+        CallName::Latest => Line::Call {
+            call: Call::ReplanLatest,
+            starts: 0,
+            places: 0,
+        },
+        CallName::Lines => Line::Call {
+            call: Call::ReplanLines { allowance: first },
+            starts: 0,
+            places: 0,
+        },
+        CallName::Enquire => Line::Call {
+            call: Call::Enquire { ticket: first },
+            starts: 0,
+            places: 0,
+        },
         CallName::Unknown => Line::Error(Reason::UnknownCall),
     }
 }
@@ -154,7 +179,7 @@ fn call_of(name: CallName, count: usize, numbers: &[u32]) -> Line
 fn read_call(line: &[u8], end: usize, name: CallName, numbers: &mut [u32]) -> Line
     requires { ⌜ (end ≤ length (now line)) × (180 ≤ length (now numbers)) ⌝ }
     ensures { λ r. ⌜ meaning r (now (numbers .exit)) ≡ readCall name (partsAfter 32 (now (line .entry)) end (length (now (line .entry)))) ⌝ }
-    ensures { λ r. ⌜ OfferFits r ⌝ }
+    ensures { λ r. ⌜ StartsFit r ⌝ }
 {
     if !is_known(name) {
         return Line::Error(Reason::UnknownCall);
@@ -170,7 +195,7 @@ fn read_call(line: &[u8], end: usize, name: CallName, numbers: &mut [u32]) -> Li
 pub fn read_line(line: &[u8], numbers: &mut [u32]) -> Line
     requires { ⌜ 180 ≤ length (now numbers) ⌝ }
     ensures { λ r. ⌜ meaning r (now (numbers .exit)) ≡ readLine (now (line .entry)) ⌝ }
-    ensures { λ r. ⌜ OfferFits r ⌝ }
+    ensures { λ r. ⌜ StartsFit r ⌝ }
 {
     if line.len() > 4096 {
         return Line::Error(Reason::LineTooLong);

@@ -1,4 +1,4 @@
--- `console::serve_last` is safe: the line and its answer stand in their buffers.
+-- `console::serve_last` meets its contract: what is kept is answered, and the text that is written stands in the buffer.
 use mathlib.Core.Path.{sym}
 use native.Mathlib.Omega.{arith}
 use lib.Seq.{length-take-le}
@@ -6,17 +6,8 @@ use borrow.Author.Needs.{needs}
 use Rattle.console.proofs.serve.serve_last.Statement.{statement}
 use Rattle.console.proofs.serve.serve_last.Tie as tie
 
-say-too-long-requires : tie.Need-say-too-long-requires
-say-too-long-requires c κs = search needs
-
-same-length : tie.Need-same-length
-same-length c = search needs
-
-returns : tie.Need-returns
-returns c = search needs
-
 slice-aggregate-reply-line : tie.Need-slice-aggregate-reply-line
-slice-aggregate-reply-line c = sym (length-take-le _ _ (c .before .before .before .before .before .before .before .pre .1 .0))
+slice-aggregate-reply-line c = sym (length-take-le _ _ (c .before .before .before .before .before .before .pre .1 .0))
 
 reply-line-requires : tie.Need-reply-line-requires
 reply-line-requires c κs = search needs
@@ -25,10 +16,14 @@ slice-reshare-prefix-write-all : tie.Need-slice-reshare-prefix-write-all
 slice-reshare-prefix-write-all c = search needs
 
 slice-aggregate-write-all : tie.Need-slice-aggregate-write-all
-slice-aggregate-write-all c = sym (length-take-le _ _ (omega (arith, c .before .before .before .before .before .before .before .reply-line .ensures .printed .within, c .before .before .before .before .before .before .before .reply-line .kept .1 .1 .1 .1 .0)))
+slice-aggregate-write-all c =
+    sym (length-take-le _ _ (omega (arith, c .before .before .before .before .before .before .before .reply-line .ensures .printed .within, c .before .before .before .before .before .before .before .reply-line .kept .1 .1 .1 .1 .0)))
 
 write-all-requires : tie.Need-write-all-requires
 write-all-requires c κs = search needs
+
+same-length : tie.Need-same-length
+same-length c = search needs
 
 same-length-2 : tie.Need-same-length-2
 same-length-2 c = search needs
@@ -36,25 +31,19 @@ same-length-2 c = search needs
 same-length-3 : tie.Need-same-length-3
 same-length-3 c = search needs
 
-same-length-4 : tie.Need-same-length-4
-same-length-4 c = search needs
-
-returns-2 : tie.Need-returns-2
-returns-2 c = search needs
+returns : tie.Need-returns
+returns c = search needs
 
 pub serve-last-spec : {M : Type 1} → statement M
 serve-last-spec =
     tie.close
     (tie.spec
-    say-too-long-requires
-    same-length
-    returns
     slice-aggregate-reply-line
     reply-line-requires
     slice-reshare-prefix-write-all
     slice-aggregate-write-all
     write-all-requires
+    same-length
     same-length-2
     same-length-3
-    same-length-4
-    returns-2)
+    returns)
