@@ -2,12 +2,12 @@
 use mathlib.Core.Path.{_≡_, refl, sym, ap, subst, _∙_}
 use mathlib.Core.Bool.{Bool, true, false, cond}
 use mathlib.Core.List.{List, [], _∷_, _++_}
-use Prim.Native.Nat.{ℕ, zero, suc, _*_, _≤_, min}
+use Prim.Native.Nat.{ℕ, zero, suc, _+_, _*_, _≤_, min}
 use native.Mathlib.Omega.{arith}
 use lib.Dec.{ltb, eqb}
 use borrow.Author.Tests.{ltb-false}
 use lib.ListN.{length, take, drop, replicate, length-replicate}
-use lib.Seq.{take-at}
+use lib.Seq.{sets, sets-eq, take-at, drop-at}
 use Rattle.rules.specs.Basics.{Found, at, nothing, firstOf, keep, sortedBy}
 use Rattle.rules.specs.Charge.{Charge, endOf, isBegun, loadsOf, activeFor}
 use Rattle.rules.specs.Search.{earliest}
@@ -50,8 +50,8 @@ use Rattle.rules.specs.Calls.{
 }
 use Rattle.rules.proofs.Lists.{length-keep}
 use Rattle.charges.proofs.Sorting.{length-sorted}
-use Rattle.protocol.specs.Answers.{Printed, answerLine}
-use Rattle.protocol.specs.Lines.{readLine, meaning, lentList}
+use Rattle.protocol.specs.Answers.{Printed, answerLine, pairsOf}
+use Rattle.protocol.specs.Lines.{readLine, meaning, lentList, Lent, Asks}
 use Rattle.protocol.specs.declared.request.Line.{Line}
 use Rattle.station.specs.declared.Station.{Station}
 use Rattle.station.specs.declared.calls.Call.{Call}
@@ -60,7 +60,7 @@ use Rattle.station.specs.declared.calls.Answer as code
 use Rattle.station.specs.View.{view, Valid}
 use Rattle.station.specs.Answers.{Gives}
 use Rattle.station.specs.Applied.{callOf, listAfter, answerOf, Applies}
-use Rattle.console.specs.Reply.{told, reply, countOf, Replied}
+use Rattle.console.specs.Reply.{told, reply, reportOf, lineReport, Replied, Lists}
 use Rattle.console.specs.Session.{answered}
 
 pub replied :
@@ -76,7 +76,7 @@ replied {r} {a} {s} {list} {before} {at} {after} {next} g p =
 -- Only a clock move reports
 
 -- the lent list is printed where something is reported, and nowhere else
-pub line-same : (a : Answer) (list other : List ℕ) → countOf a ≡ 0 → answerLine a list ≡ answerLine a other
+pub line-same : (a : Answer) (list other : List ℕ) → pairsOf a ≡ 0 → answerLine a list ≡ answerLine a other
 unfolding answerLine
 line-same (refused k) list other e = refl
 line-same (opened d) list other e = refl
@@ -86,29 +86,29 @@ line-same (planned c b a k) list other e = refl
 line-same (waiting u) list other e = refl
 line-same (charging u v) list other e = refl
 
-refused-none : (i : ℕ) (s : State) (list : List ℕ) (r : Result) → countOf (r .answer) ≡ 0 → countOf (answering i s list r .answer) ≡ 0
+refused-none : (i : ℕ) (s : State) (list : List ℕ) (r : Result) → pairsOf (r .answer) ≡ 0 → pairsOf (answering i s list r .answer) ≡ 0
 refused-none zero s list r e = e
 refused-none (suc k) s list r e = refl
 
-ordered-none : (s : State) (c : ℕ → Charge) (f : Found) → countOf (orderedAt s c f .answer) ≡ 0
+ordered-none : (s : State) (c : ℕ → Charge) (f : Found) → pairsOf (orderedAt s c f .answer) ≡ 0
 ordered-none s c (at start) = refl
 ordered-none s c nothing = refl
 
-decided-none : (s : State) (rounds : ℕ) (ss list : List ℕ) (cause : ℕ) → countOf (decided s rounds ss list cause .answer) ≡ 0
+decided-none : (s : State) (rounds : ℕ) (ss list : List ℕ) (cause : ℕ) → pairsOf (decided s rounds ss list cause .answer) ≡ 0
 decided-none s rounds ss list zero = refl
 decided-none s rounds ss list (suc k) = refl
 
-tested-none : (s : State) (rounds : ℕ) (p : Proposal) (list : List ℕ) → countOf (tested s rounds p list .answer) ≡ 0
+tested-none : (s : State) (rounds : ℕ) (p : Proposal) (list : List ℕ) → pairsOf (tested s rounds p list .answer) ≡ 0
 tested-none s rounds (starts ss) list = decided-none s rounds ss list (judged (limitsOf s) (s .clock) (s .charges) ss)
 tested-none s rounds (none cause) list = refl
 
-enquired-none : (clock : ℕ) (cs : List Charge) (ticket : ℕ) → countOf (rules.told clock cs ticket) ≡ 0
+enquired-none : (clock : ℕ) (cs : List Charge) (ticket : ℕ) → pairsOf (rules.told clock cs ticket) ≡ 0
 enquired-none clock [] ticket = refl
 enquired-none clock (c ∷ cs) ticket = go (eqb (c .ticket) ticket) (isBegun clock c) (enquired-none clock cs ticket)
   where
     go :
-        (a b : Bool) → countOf (rules.told clock cs ticket) ≡ 0
-        → countOf (cond a (cond b (charging (c .start) (endOf c)) (waiting (c .start))) (rules.told clock cs ticket)) ≡ 0
+        (a b : Bool) → pairsOf (rules.told clock cs ticket) ≡ 0
+        → pairsOf (cond a (cond b (charging (c .start) (endOf c)) (waiting (c .start))) (rules.told clock cs ticket)) ≡ 0
     go true true h = refl
     go true false h = refl
     go false b h = h
@@ -116,13 +116,13 @@ enquired-none clock (c ∷ cs) ticket = go (eqb (c .ticket) ticket) (isBegun clo
 -- "report list under 360 places" is refused, and no more charges are reported than are held
 few-moved :
     (s : State) (target : ℕ) (list : List ℕ) → length (s .charges) ≤ 180
-    → (countOf (step s (move target list) .answer) ≤ 180) × (2 * countOf (step s (move target list) .answer) ≤ length list)
+    → (pairsOf (step s (move target list) .answer) ≤ 180) × (2 * pairsOf (step s (move target list) .answer) ≤ length list)
 unfolding moving
 few-moved s target list few = go (ltb 1000000 target) refl (ltb (length list) 360) refl (ltb target (s .clock)) refl
   where
     go :
         (a : Bool) → ltb 1000000 target ≡ a → (b : Bool) → ltb (length list) 360 ≡ b → (d : Bool) → ltb target (s .clock) ≡ d
-        → (countOf (step s (move target list) .answer) ≤ 180) × (2 * countOf (step s (move target list) .answer) ≤ length list)
+        → (pairsOf (step s (move target list) .answer) ≤ 180) × (2 * pairsOf (step s (move target list) .answer) ≤ length list)
     go true p b q d u = rw p (omega arith)
     go false p true q d u = rw (p, q) (omega arith)
     go false p false q true u = rw (p, q, u) (omega arith)
@@ -140,7 +140,7 @@ Reports (Enquire ticket) n places = n ≡ 0
 
 reports :
     (s : State) (c : Call) (ss list : List ℕ) → length (s .charges) ≤ 180
-    → Reports c (countOf (step s (callOf c ss list) .answer)) (length list)
+    → Reports c (pairsOf (step s (callOf c ss list) .answer)) (length list)
 unfolding ordering offering replanningLatest replanningLines enquiring
 reports s (Order line time due) ss list few =
     refused-none (firstOf (refusals s (order line time due))) s [] (ordering s line time due) (ordered-none s (rules.newCharge s line time due) (earliest (limitsOf s) (s .clock) (loadsOf (s .charges)) line (activeFor (rules.newCharge s line time due 0))))
@@ -161,7 +161,7 @@ few-reports (ReplanLines allowance) n places h = omega arith
 few-reports (Enquire ticket) n places h = omega arith
 
 line-after :
-    (c : Call) (a : Answer) (ss list : List ℕ) (places : ℕ) → Reports c (countOf a) places
+    (c : Call) (a : Answer) (ss list : List ℕ) (places : ℕ) → Reports c (pairsOf a) places
     → answerLine a list ≡ answerLine a (listAfter c ss list)
 line-after (Order line time due) a ss list places h = line-same a list [] h
 line-after (Move target) a ss list places h = refl
@@ -172,13 +172,13 @@ line-after (Enquire ticket) a ss list places h = line-same a list [] h
 
 module _ {s : Station} (c : Call) {ss list after : List ℕ} {a : code.Answer} {next : Station} (v : Valid s)
     (p : Applies (view s) c ss list after a next) where
-  reports-so : Reports c (countOf (answerOf a)) (length list)
+  reports-so : Reports c (pairsOf (answerOf a)) (length list)
   reports-so =
-      subst (λ (x : Result). Reports c (countOf (x .answer)) (length list)) (sym (p .gives .result))
+      subst (λ (x : Result). Reports c (pairsOf (x .answer)) (length list)) (sym (p .gives .result))
       (reports (view s) c ss list (v .state .few))
 
-  pub few-told : (countOf (answerOf a) ≤ 180) × (2 * countOf (answerOf a) ≤ length list)
-  few-told = few-reports c (countOf (answerOf a)) (length list) reports-so
+  pub few-told : (pairsOf (answerOf a) ≤ 180) × (2 * pairsOf (answerOf a) ≤ length list)
+  few-told = few-reports c (pairsOf (answerOf a)) (length list) reports-so
 
   -- a call is answered by what it gives, printed with the list that was lent for its report
   pub call-replied :
@@ -188,13 +188,46 @@ module _ {s : Station} (c : Call) {ss list after : List ℕ} {a : code.Answer} {
       replied (p .gives)
       (subst (λ (x : List ℕ). Printed x before at out end) (line-after c (answerOf a) ss after (length list) reports-so) q)
 
+-- The lists that are lent
+
+after-report :
+    (s : State) (c : Call) (ss after : List ℕ) (places : ℕ) {a : code.Answer} {next : Station} → Lent c places
+    → Applies s c ss (lentList places) after a next → after ≡ reportOf s (callOf c ss (lentList places))
+after-report s (Order line time due) ss after places e p = p .stays ∙ ap lentList e
+after-report s (Move target) ss after places e p = ap (λ (x : Result). x .list) (p .gives .result)
+after-report s Offer ss after places e p = p .stays ∙ ap lentList e
+after-report s ReplanLatest ss after places e p = p .stays ∙ ap lentList e
+after-report s (ReplanLines allowance) ss after places e p = p .stays ∙ ap lentList e
+after-report s (Enquire ticket) ss after places e p = p .stays ∙ ap lentList e
+
+-- the lent front of the list as the call leaves it, and the rest of it as it was
+pub list-left :
+    {s : State} (c : Call) {ss after : List ℕ} (places lent : ℕ) (list filled : List ℕ) {a : code.Answer} {next : Station}
+    → Lent c places → filled ≡ replicate lent 4294967295 ++ drop lent list → length after ≡ lent → lent ≤ length list
+    → Applies s c ss (lentList places) after a next
+    → after ++ drop lent filled ≡ sets list 0 (reportOf s (callOf c ss (lentList places)))
+list-left {s} c {ss} {after} places lent list filled e f l h p =
+    let rest : drop lent filled ≡ drop lent list =
+    ap (drop lent) f ∙ drop-at (replicate lent 4294967295) (drop lent list) lent (length-replicate lent 4294967295) in
+    let put : sets list 0 after ≡ after ++ drop (0 + length after) list = sets-eq after list 0 (omega arith) in
+    let n : 0 + length after ≡ lent = omega arith in
+    ap (λ (x : List ℕ). after ++ x) rest
+    ∙ sym (put ∙ ap (λ (x : ℕ). after ++ drop x list) n)
+    ∙ ap (sets list 0) (after-report s c ss after places e p)
+
 -- a line that was read so is answered so
-pub as-read :
-    (s : State) (list line : List ℕ) {l x : Line} {station : Station} {before : List ℕ} {at : ℕ} {after : List ℕ} {next : ℕ}
-    → meaning l list ≡ readLine line → l ≡ x → Replied (reply s (meaning x list)) station before at after next
-    → Replied (answered s line) station before at after next
-unfolding answered
-as-read s list line p q h = rw (← p, q) h
+module _ (s : State) (line : List ℕ) {values numbers list : List ℕ} {l x : Line}
+    (a : Asks (readLine line) values numbers list l) (e : l ≡ x) where
+  pub as-read :
+      {station : Station} {before : List ℕ} {at : ℕ} {after : List ℕ} {next : ℕ}
+      → Replied (reply s (meaning x list)) station before at after next → Replied (answered s line) station before at after next
+  unfolding answered
+  as-read h = rw (← (a .request-is), e) h
+
+  pub as-listed :
+      {report after : List ℕ} → after ≡ sets report 0 (lineReport s (meaning x list))
+      → Lists values (lineReport s (readLine line)) numbers list report after
+  as-listed h = record { numbers-are = a .list-is; list-is = rw (← (a .request-is), e) h }
 
 pub lent-front :
     (lent places : ℕ) (list filled : List ℕ) → lent ≡ min places 4096 → filled ≡ replicate lent 4294967295 ++ drop lent list

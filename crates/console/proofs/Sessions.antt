@@ -15,7 +15,7 @@ use Rattle.protocol.specs.Words.{joined, split}
 use Rattle.protocol.specs.Lines.{readLine, error}
 use Rattle.protocol.specs.declared.number.Reason.the-variants.{LineTooLong}
 use Rattle.console.specs.Reply.{Told}
-use Rattle.console.specs.Session.{saying, answered, session, console, Fed, first, enough, served, feed, together, feeds, finish}
+use Rattle.console.specs.Session.{saying, answered, session, console, Fed, first, enough, served, feed}
 
 -- Lines that are too long
 
@@ -41,7 +41,7 @@ enough-kept line more =
     rw (take-append-le 4097 (enough line) more (omega arith), take-append-le 4097 line more h, take-take 4097 4097 line (omega arith)))
     (below-or-not (length line) 4097)
 
-enough-same : (s : State) (line : List ℕ) → answered s (enough line) ≡ answered s line
+pub enough-same : (s : State) (line : List ℕ) → answered s (enough line) ≡ answered s line
 enough-same s line = rw (append-nil (enough line), append-nil line) at (enough-answered s line [])
 
 -- The lines of a text and of one after it
@@ -123,7 +123,7 @@ split-wholes (x ∷ xs) = go (eqb x 10) refl (split-wholes xs)
     go true e ih = (refl, ih)
     go false e ih = more e (split 10 xs) ih
 
-take-whole : (n : ℕ) (line : List ℕ) → Whole line → Whole (take n line)
+pub take-whole : (n : ℕ) (line : List ℕ) → Whole line → Whole (take n line)
 unfolding split
 take-whole zero line h = refl
 take-whole (suc n) [] h = refl
@@ -201,6 +201,10 @@ feed-append s kept a b =
 
 -- The end of the input
 
+-- what was kept is the last line
+abbrev pub finish : Fed → Told
+finish o = saying (o .text) (answered (o .state) (o .kept))
+
 saying-saying : (a b : List ℕ) (t : Told) → saying a (saying b t) ≡ saying (a ++ b) t
 saying-saying a b t = rw (append-assoc a b (t .text))
 
@@ -215,38 +219,7 @@ finish-lines : (s : State) (lines : List (List ℕ)) → Some lines → finish (
 finish-lines s [] h = absurd h
 finish-lines s (line ∷ lines) h = finish-served s line lines
 
+-- a whole input as one part
 pub console-fed : (input : List ℕ) → finish (feed (fresh 1 100) [] input) ≡ console input
 unfolding console
 console-fed input = finish-lines (fresh 1 100) (split 10 input) (split-some 10 input)
-
-feeds-finish :
-    (s : State) (kept : List ℕ) (parts : List (List ℕ)) → Whole kept
-    → finish (feeds s kept parts) ≡ finish (feed s kept (together parts))
-unfolding feeds served
-feeds-finish s kept [] w = rw (append-nil kept, w, enough-same s kept)
-feeds-finish s kept (part ∷ parts) w =
-    let o : Fed = feed s kept part in
-    sym (saying-saying (o .text) (feeds (o .state) (o .kept) parts .text) (answered (feeds (o .state) (o .kept) parts .state) (feeds (o .state) (o .kept) parts .kept)))
-    ∙ ap (saying (o .text)) (feeds-finish (o .state) (o .kept) parts (served-whole s (split 10 (kept ++ part)) (split-wholes (kept ++ part))))
-    ∙ saying-saying (o .text) (feed (o .state) (o .kept) (together parts) .text) (answered (feed (o .state) (o .kept) (together parts) .state) (feed (o .state) (o .kept) (together parts) .kept))
-    ∙ ap finish (sym (feed-append s kept part (together parts)))
-
--- In whatever parts the input comes: the texts of the parts one after another, and the answer to what was kept at the
--- end, are the text of the whole input.
-pub console-parts :
-    (parts : List (List ℕ)) → finish (feeds (fresh 1 100) [] parts) ≡ console (together parts)
-unfolding split
-console-parts parts = feeds-finish (fresh 1 100) [] parts refl ∙ console-fed (together parts)
-
--- one part more
-pub feeds-more :
-    (s : State) (kept : List ℕ) (parts : List (List ℕ)) (part : List ℕ)
-    → feeds s kept (parts ++ (part ∷ []))
-    ≡ first (feeds s kept parts .text) (feed (feeds s kept parts .state) (feeds s kept parts .kept) part)
-unfolding feeds
-feeds-more s kept [] part = rw (append-nil (feed s kept part .text))
-feeds-more s kept (p ∷ parts) part =
-    let o : Fed = feed s kept p in
-    let f : Fed = feeds (o .state) (o .kept) parts in
-    ap (first (o .text)) (feeds-more (o .state) (o .kept) parts part)
-    ∙ first-first (o .text) (f .text) (feed (f .state) (f .kept) part)

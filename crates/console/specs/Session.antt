@@ -51,18 +51,3 @@ served s (line ∷ (next ∷ lines)) = first (answered s line .text) (served (an
 -- a part of the input, after what was kept
 abbrev pub feed : State → List ℕ → List ℕ → Fed
 feed s kept part = served s (split 10 (kept ++ part))
-
--- the parts one after another
-abbrev pub together : List (List ℕ) → List ℕ
-together [] = []
-together (part ∷ parts) = part ++ together parts
-
--- the parts in their order
-unfoldable pub feeds : State → List ℕ → List (List ℕ) → Fed
-feeds s kept [] = record { state = s; kept = kept; text = [] }
-feeds s kept (part ∷ parts) =
-    first (feed s kept part .text) (feeds (feed s kept part .state) (feed s kept part .kept) parts)
-
--- the input ends: what was kept is the last line
-abbrev pub finish : Fed → Told
-finish o = saying (o .text) (answered (o .state) (o .kept))

@@ -8,7 +8,7 @@ use lib.Seq.{length-take-le, take-at}
 use Rattle.protocol.specs.Lines.{lentList}
 use Rattle.station.specs.View.{view}
 use Rattle.station.specs.Applied.{Applies}
-use Rattle.console.proofs.Replies.{lent-front, few-told, call-replied}
+use Rattle.console.proofs.Replies.{lent-front, few-told, call-replied, list-left}
 use borrow.Author.Needs.{needs}
 use Rattle.console.proofs.reply.reply_call.Statement.{statement}
 use Rattle.console.proofs.reply.reply_call.Tie as tie
@@ -59,7 +59,7 @@ slice-aggregate-print-answer c = sym (ap length (kept-front (c .before .before .
 print-answer-requires : tie.Need-print-answer-requires
 print-answer-requires c κs =
     let few = few-told (c .before .before .before .before .before .before .before .before .before .before .before .before .before .before .before .args .call) (c .before .before .before .before .before .before .before .before .before .before .before .before .before .before .before .pre .0) (applies (c .before .before .before .before .before)) in
-    (omega (arith, few .1, length-replicate {A = ℕ} (min (c .before .before .before .before .before .before .before .before .before .before .before .before .before .before .before .args .places) 4096) 4294967295, c .before .before .before .before .before .before .before .before .before .before .before .places-lent .ensures .0, ap length (kept-front (c .before .before .before .before .before)), long (c .before .before .before .before .before)), omega (arith, few .0, c .before .before .before .before .before .before .before .before .before .before .before .before .before .before .before .pre .1 .1))
+    (omega (arith, few .1, length-replicate {A = ℕ} (min (c .before .before .before .before .before .before .before .before .before .before .before .before .before .before .before .args .places) 4096) 4294967295, c .before .before .before .before .before .before .before .before .before .before .before .places-lent .ensures .0, ap length (kept-front (c .before .before .before .before .before)), long (c .before .before .before .before .before)), omega (arith, few .0, c .before .before .before .before .before .before .before .before .before .before .before .before .before .before .before .pre .1 .1 .0))
 
 same-length : tie.Need-same-length
 same-length c = search needs
@@ -68,7 +68,10 @@ same-length-2 : tie.Need-same-length-2
 same-length-2 c = search needs
 
 returns : tie.Need-returns
-returns c = call-replied (c .before .before .before .before .before .before .before .before .before .before .before .before .before .before .before .before .before .before .args .call) (c .before .before .before .before .before .before .before .before .before .before .before .before .before .before .before .before .before .before .pre .0) (applies (c .before .before .before .before .before .before .before .before)) (rw (kept-front (c .before .before .before .before .before .before .before .before)) at (c .before .before .print-answer .ensures))
+returns c = (
+  call-replied (c .before .before .before .before .before .before .before .before .before .before .before .before .before .before .before .before .before .before .args .call) (c .before .before .before .before .before .before .before .before .before .before .before .before .before .before .before .before .before .before .pre .0) (applies (c .before .before .before .before .before .before .before .before)) (rw (kept-front (c .before .before .before .before .before .before .before .before)) at (c .before .before .print-answer .ensures)),
+  list-left (c .before .before .before .before .before .before .before .before .before .before .before .before .before .before .before .before .before .before .args .call) (c .before .before .before .before .before .before .before .before .before .before .before .before .before .before .before .before .before .before .args .places) (c .before .before .before .before .before .before .before .before .before .before .before .before .before .before .places-lent .result) (c .before .before .before .before .before .before .before .before .before .before .before .before .before .before .before .before .before .before .args .list .now) (c .before .before .before .before .before .before .before .before .before .before .before .before .fill-lent .last .0) (c .before .before .before .before .before .before .before .before .before .before .before .before .before .before .before .before .before .before .pre .1 .1 .1) (c .before .before .before .before .before .before .before .before .before .before .before .before .fill-lent .ensures) (long (c .before .before .before .before .before .before .before .before)) (omega (arith, c .before .before .before .before .before .before .before .before .before .before .before .before .before .before .places-lent .ensures .1, c .before .before .before .before .before .before .before .before .before .before .before .before .before .before .before .before .before .before .pre .1 .0)) (applies (c .before .before .before .before .before .before .before .before)),
+)
 
 pub reply-call-spec : {M : Type 1} → statement M
 reply-call-spec =

@@ -1,8 +1,9 @@
--- `console::print_answer` meets its contract, case by case.
+-- `protocol::print_answer` meets its contract, case by case.
 use Rattle.protocol.specs.Answers.{answerLine}
+use Rattle.protocol.proofs.Printing.{enquiry-line}
 use borrow.Author.Needs.{needs}
-use Rattle.console.proofs.reply.print_answer.Statement.{statement}
-use Rattle.console.proofs.reply.print_answer.Tie as tie
+use Rattle.protocol.proofs.answer.print_answer.Statement.{statement}
+use Rattle.protocol.proofs.answer.print_answer.Tie as tie
 
 enum-known-answer : tie.Need-enum-known-answer
 enum-known-answer c = search needs
@@ -10,8 +11,20 @@ enum-known-answer c = search needs
 enum-known-order : tie.Need-enum-known-order
 enum-known-order c = search needs
 
-print-ordered-requires : tie.Need-print-ordered-requires
-print-ordered-requires c κs = search needs
+slice-aggregate-print-two : tie.Need-slice-aggregate-print-two
+slice-aggregate-print-two c = search needs
+
+cast-print-two : tie.Need-cast-print-two
+cast-print-two c = search needs
+
+slice-aggregate-print-two-2 : tie.Need-slice-aggregate-print-two-2
+slice-aggregate-print-two-2 c = search needs
+
+cast-print-two-2 : tie.Need-cast-print-two-2
+cast-print-two-2 c = search needs
+
+print-two-requires : tie.Need-print-two-requires
+print-two-requires c κs = search needs
 
 enum-known-order-2 : tie.Need-enum-known-order-2
 enum-known-order-2 c = search needs
@@ -40,8 +53,17 @@ enum-known-answer-3 c = search needs
 enum-known-plan : tie.Need-enum-known-plan
 enum-known-plan c = search needs
 
-print-planned-requires : tie.Need-print-planned-requires
-print-planned-requires c κs = search needs
+slice-aggregate-print-four : tie.Need-slice-aggregate-print-four
+slice-aggregate-print-four c = search needs
+
+cast-print-four : tie.Need-cast-print-four
+cast-print-four c = search needs
+
+cast-print-four-2 : tie.Need-cast-print-four-2
+cast-print-four-2 c = search needs
+
+print-four-requires : tie.Need-print-four-requires
+print-four-requires c κs = search needs
 
 enum-known-plan-2 : tie.Need-enum-known-plan-2
 enum-known-plan-2 c = search needs
@@ -52,30 +74,15 @@ print-refused-requires-3 c κs = search needs
 enum-known-answer-4 : tie.Need-enum-known-answer-4
 enum-known-answer-4 c = search needs
 
-enum-known-enquiry : tie.Need-enum-known-enquiry
-enum-known-enquiry c = search needs
-
-print-waiting-requires : tie.Need-print-waiting-requires
-print-waiting-requires c κs = search needs
-
-enum-known-enquiry-2 : tie.Need-enum-known-enquiry-2
-enum-known-enquiry-2 c = search needs
-
-print-charging-requires : tie.Need-print-charging-requires
-print-charging-requires c κs = search needs
-
-enum-known-enquiry-3 : tie.Need-enum-known-enquiry-3
-enum-known-enquiry-3 c = search needs
-
-print-refused-requires-4 : tie.Need-print-refused-requires-4
-print-refused-requires-4 c κs = search needs
+print-enquiry-requires : tie.Need-print-enquiry-requires
+print-enquiry-requires c κs = search needs
 
 same-length : tie.Need-same-length
 same-length c = search needs
 
 returns : tie.Need-returns
 unfolding answerLine
-returns c = rw (c .before .before .before .before .before .before .before .before .answer .given .1, c .before .before .before .before .before .order .given .1) (c .before .before .print-ordered .ensures)
+returns c = rw (c .before .before .before .before .before .before .before .before .before .before .answer .given .1, c .before .before .before .before .before .before .before .order .given .1) (c .before .before .print-two .ensures)
 
 same-length-2 : tie.Need-same-length-2
 same-length-2 c = search needs
@@ -103,7 +110,7 @@ same-length-5 c = search needs
 
 returns-5 : tie.Need-returns-5
 unfolding answerLine
-returns-5 c = rw (c .before .before .before .before .before .before .before .before .answer3 .given .1, c .before .before .before .before .before .plan .given .1) (c .before .before .print-planned .ensures)
+returns-5 c = rw (c .before .before .before .before .before .before .before .before .before .answer3 .given .1, c .before .before .before .before .before .before .plan .given .1) (c .before .before .print-four .ensures)
 
 same-length-6 : tie.Need-same-length-6
 same-length-6 c = search needs
@@ -116,22 +123,7 @@ same-length-7 : tie.Need-same-length-7
 same-length-7 c = search needs
 
 returns-7 : tie.Need-returns-7
-unfolding answerLine
-returns-7 c = rw (c .before .before .before .before .before .before .before .before .answer4 .given .1, c .before .before .before .before .before .enquiry .given .1) (c .before .before .print-waiting .ensures)
-
-same-length-8 : tie.Need-same-length-8
-same-length-8 c = search needs
-
-returns-8 : tie.Need-returns-8
-unfolding answerLine
-returns-8 c = rw (c .before .before .before .before .before .before .before .before .answer4 .given .1, c .before .before .before .before .before .enquiry2 .given .1) (c .before .before .print-charging .ensures)
-
-same-length-9 : tie.Need-same-length-9
-same-length-9 c = search needs
-
-returns-9 : tie.Need-returns-9
-unfolding answerLine
-returns-9 c = rw (c .before .before .before .before .before .before .before .before .answer4 .given .1, c .before .before .before .before .before .enquiry3 .given .1) (c .before .before .print-refused4 .ensures)
+returns-7 c = rw (c .before .before .before .before .before .answer4 .given .1) (enquiry-line (c .before .before .before .before .before .answer4 .given .0 .0) (c .before .before .before .before .before .before .before .before .before .args .list .now) (c .before .before .print-enquiry .ensures))
 
 pub print-answer-spec : {M : Type 1} → statement M
 print-answer-spec =
@@ -139,7 +131,11 @@ print-answer-spec =
     (tie.spec
     enum-known-answer
     enum-known-order
-    print-ordered-requires
+    slice-aggregate-print-two
+    cast-print-two
+    slice-aggregate-print-two-2
+    cast-print-two-2
+    print-two-requires
     enum-known-order-2
     print-refused-requires
     enum-known-answer-2
@@ -149,16 +145,14 @@ print-answer-spec =
     print-refused-requires-2
     enum-known-answer-3
     enum-known-plan
-    print-planned-requires
+    slice-aggregate-print-four
+    cast-print-four
+    cast-print-four-2
+    print-four-requires
     enum-known-plan-2
     print-refused-requires-3
     enum-known-answer-4
-    enum-known-enquiry
-    print-waiting-requires
-    enum-known-enquiry-2
-    print-charging-requires
-    enum-known-enquiry-3
-    print-refused-requires-4
+    print-enquiry-requires
     same-length
     returns
     same-length-2
@@ -172,8 +166,4 @@ print-answer-spec =
     same-length-6
     returns-6
     same-length-7
-    returns-7
-    same-length-8
-    returns-8
-    same-length-9
-    returns-9)
+    returns-7)

@@ -1,12 +1,8 @@
--- `protocol::print_waiting` meets its contract: its parts are printed one after another.
-use Rattle.protocol.specs.Answers.{answerLine}
+-- `protocol::print_one` meets its contract: its parts are printed one after another.
 use Rattle.protocol.proofs.Printing.{printed-then}
 use borrow.Author.Needs.{needs}
-use Rattle.protocol.proofs.answer.print_waiting.Statement.{statement}
-use Rattle.protocol.proofs.answer.print_waiting.Tie as tie
-
-slice-aggregate-print-field : tie.Need-slice-aggregate-print-field
-slice-aggregate-print-field c = search needs
+use Rattle.protocol.proofs.answer.print_one.Statement.{statement}
+use Rattle.protocol.proofs.answer.print_one.Tie as tie
 
 print-field-requires : tie.Need-print-field-requires
 print-field-requires c κs = search needs
@@ -21,14 +17,12 @@ same-length : tie.Need-same-length
 same-length c = search needs
 
 returns : tie.Need-returns
-unfolding answerLine
 returns c = printed-then (c .before .before .before .before .before .before .before .print-field .ensures .0) (c .before .before .print-text .ensures)
 
-pub print-waiting-spec : {M : Type 1} → statement M
-print-waiting-spec =
+pub print-one-spec : {M : Type 1} → statement M
+print-one-spec =
     tie.close
     (tie.spec
-    slice-aggregate-print-field
     print-field-requires
     slice-aggregate-print-text
     print-text-requires
