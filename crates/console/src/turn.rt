@@ -110,9 +110,9 @@ fn last_turn(
     let station = session.station;
     let held = session.held;
     let reply = reply_line(station, &block[..held], numbers, list, out, 0);
-    let after = reply.station;
+    let last = reply.station;
     let over = Session {
-        station: after,
+        station: last,
         held: 0,
         wants: Wants::Nothing,
     };
