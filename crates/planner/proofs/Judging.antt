@@ -17,8 +17,9 @@ use Rattle.charges.specs.Held.{Listed}
 use Rattle.profile.specs.declared.Profile.{Profile}
 use Rattle.profile.specs.declared.When.{When}
 use Rattle.profile.specs.declared.When.the-variants.{Minute, Never}
-use Rattle.profile.specs.Shows.{Shows, foundAt, EndsFit}
+use Rattle.profile.specs.Shows.{Shows, foundAt}
 use Rattle.profile.specs.Balance.{Unbalanced, WithinLimit}
+use Rattle.planner.specs.Ready.{EndsFit}
 use Rattle.planner.specs.Judged.{orLate, CauseOf, HeldAfter, Judges}
 use Rattle.planner.proofs.Showing.{last-end-most, all-before}
 use Rattle.planner.proofs.Causes.{end-below-last, none-unbalanced, some-unbalanced, judged-by}
@@ -31,7 +32,7 @@ module _ (next : Charges) {c : Charges} {x y : ℕ} (listed : Listed c) (ex : x 
   end-most i low =
       omega (arith, end-below-last (chargeAt next) (next .held) 0 i (omega arith) (omega arith), last-end-most listed, ex, ey)
 
-  pub ends-fit : EndsFit (next .times) (next .starts) (next .held)
+  pub ends-fit : EndsFit next
   ends-fit i low = omega (arith, end-most i low)
 
   shows-next :

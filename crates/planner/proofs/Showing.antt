@@ -15,9 +15,10 @@ use Rattle.charges.specs.Arrays.{chargeAt, chargesOf}
 use Rattle.charges.specs.Held.{Listed}
 use Rattle.charges.proofs.Walking.{keep-hit, keep-miss, keep-length}
 use Rattle.profile.specs.declared.Profile.{Profile}
-use Rattle.profile.specs.Shows.{Shows, LoadAdded, CanAdd, EndsFit}
+use Rattle.profile.specs.Shows.{Shows, LoadAdded, CanAdd}
 use Rattle.profile.proofs.Shown.{added-shows}
 use Rattle.rules.proofs.Ends.{last-until}
+use Rattle.planner.specs.Ready.{EndsFit}
 use Rattle.planner.proofs.Causes.{last-below}
 use Rattle.planner.proofs.Profiles.{shown-can-add}
 
@@ -70,7 +71,7 @@ begun-end-most {c} h clock =
     )
 
 -- every end is a number of 32 bits
-pub listed-ends : {c : Charges} → Listed c → EndsFit (c .times) (c .starts) (c .held)
+pub listed-ends : {c : Charges} → Listed c → EndsFit c
 listed-ends h i low = let s = h .small i low in omega (arith, s .start-most, s .time-most)
 
 keep-every : {A : Type 0} (f : A → Bool) (xs : List A) → Each (λ x. f x ≡ true) xs → keep f xs ≡ xs
@@ -93,7 +94,7 @@ abbrev pub begunBelow : ℕ → Charges → ℕ → List Charge
 begunBelow before c i = begunCharges before (tabulate (chargeAt c) i 0)
 
 module _ (before : ℕ) (c : Charges) (i : ℕ) {clock : ℕ} {p : Profile} (s : Shows p clock (loadsOf (begunBelow before c i))) where
-  pub begun-can-add : c .held ≤ 180 → EndsFit (c .times) (c .starts) (c .held) → i < c .held → CanAdd p (chargeAt c i .time) (chargeAt c i .start)
+  pub begun-can-add : c .held ≤ 180 → EndsFit c → i < c .held → CanAdd p (chargeAt c i .time) (chargeAt c i .start)
   begun-can-add few ends low =
       shown-can-add s (chargeAt c i .time) (chargeAt c i .start)
       (omega (

@@ -1,9 +1,9 @@
 -- What the planners ask of the station.
-use Prim.Native.Nat.{ℕ, _≤_}
+use Prim.Native.Nat.{ℕ, _^_, _≤_, _<_}
 use mathlib.Core.List.{List}
-use Rattle.rules.specs.Charge.{Charge, begunCharges}
+use Rattle.rules.specs.Charge.{Charge, endOf, begunCharges}
 use Rattle.charges.specs.declared.Charges.{Charges}
-use Rattle.charges.specs.Arrays.{chargesOf}
+use Rattle.charges.specs.Arrays.{chargeAt, chargesOf}
 use Rattle.charges.specs.Held.{Listed}
 
 pub record Ready (clock limit bound : ℕ) (c : Charges) : Type 0 where
@@ -16,3 +16,7 @@ pub record Ready (clock limit bound : ℕ) (c : Charges) : Type 0 where
 
 abbrev pub begunOf : ℕ → Charges → List Charge
 begunOf clock c = begunCharges clock (chargesOf c)
+
+-- each end is a number of 32 bits
+abbrev pub EndsFit : Charges → Type 0
+EndsFit c = (i : ℕ) → i < c .held → endOf (chargeAt c i) < 2 ^ 32

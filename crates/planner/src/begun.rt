@@ -5,11 +5,12 @@ use profile::loads::add;
 ghost use Prim.Native.Nat.{_≤_};
 ghost use Rattle.rules.specs.Charge.{begunCharges, loadsOf};
 ghost use Rattle.charges.specs.Arrays.{chargesOf};
-ghost use Rattle.profile.specs.Shows.{EndsFit, Shows};
+ghost use Rattle.profile.specs.Shows.{Shows};
+ghost use Rattle.planner.specs.Ready.{EndsFit};
 
 // The profile, from the clock on, of the charges with a start below `before`: of the begun ones, where that is the clock.
 pub fn profile_before(charges: Charges, clock: u32, before: u32) -> Profile
-    requires { ⌜ (charges .held ≤ 180) × EndsFit (charges .times) (charges .starts) (charges .held) ⌝ }
+    requires { ⌜ (charges .held ≤ 180) × EndsFit charges ⌝ }
     ensures { λ r. ⌜ Shows r clock (loadsOf (begunCharges before (chargesOf charges))) ⌝ }
 {
     let n = charges.held;

@@ -7,10 +7,9 @@ use native.Mathlib.Omega.{arith}
 use lib.ListN.{length, getD, length-append}
 use Rattle.rules.specs.Load.{Draw, draw, Load, loadFrom, IsLine, draws, count, counts, lastUntil}
 use Rattle.rules.specs.Search.{added}
-use Rattle.rules.proofs.Lists.{length-tabulate, tabulate-next}
 use Rattle.rules.proofs.Counts.{draws-most}
 use Rattle.rules.proofs.Searches.{count-added}
-use Rattle.profile.specs.Shows.{lineOf, levels, Formed, Shows, Small, CanAdd, LoadAdded, Added, loadsIn}
+use Rattle.profile.specs.Shows.{lineOf, levels, Formed, Shows, Small, CanAdd, LoadAdded, Added}
 use Rattle.profile.specs.declared.Profile.{Profile}
 use Rattle.profile.proofs.Lines.{Respects}
 use Rattle.profile.proofs.Levels.{level-in}
@@ -71,12 +70,3 @@ shows-small p clock loads s few l hl t a = omega (arith, s .counted l hl t (omeg
 pub can-add : (p : Profile) (clock : ℕ) (loads : List Load) (time start : ℕ) → Shows p clock loads → length loads < 180 → start + time < 2 ^ 32 → CanAdd p time start
 can-add p clock loads time start s few fit =
     record { formed = s .formed; small = shows-small p clock loads s (omega arith); room = omega (arith, s .few); ends-fit = fit }
-
-pub length-loads : (lines times starts : List ℕ) (n : ℕ) → length (loadsIn lines times starts n) ≡ n
-length-loads lines times starts n = length-tabulate (λ i. loadFrom (draw (getD lines i 0) (getD times i 0)) (getD starts i 0)) n 0
-
--- the first i loads, and one more
-pub loads-more : (p q : Profile) (clock : ℕ) (lines times starts : List ℕ) (i : ℕ) → Shows p clock (loadsIn lines times starts i) →
-    LoadAdded p q (getD lines i 0) (getD times i 0) (getD starts i 0) → Shows q clock (loadsIn lines times starts (i + 1))
-loads-more p q clock lines times starts i s h =
-    rw (tabulate-next (λ i. loadFrom (draw (getD lines i 0) (getD times i 0)) (getD starts i 0)) i) (added-shows h clock (loadsIn lines times starts i) s)

@@ -5,7 +5,7 @@ use mathlib.Core.Bool.{cond}
 use mathlib.Core.List.{List}
 use lib.Dec.{eqb}
 use lib.ListN.{length, getD}
-use Rattle.rules.specs.Basics.{tabulate, Found, at, nothing}
+use Rattle.rules.specs.Basics.{Found, at, nothing}
 use Rattle.rules.specs.Load.{draw, Load, loadFrom, IsLine, draws, count, lastUntil}
 use Rattle.rules.specs.Search.{added}
 use Rattle.profile.specs.Steps.{mostSteps, columns, levelAt, lineIn, Rising}
@@ -100,14 +100,6 @@ pub record LoadAdded (p q : Profile) (line time start : ℕ) : Type 0 where
 abbrev pub Added : Profile → Profile → ℕ → ℕ → ℕ → Type 0
 Added p q line time start =
     (clock : ℕ) (loads : List Load) → Shows p clock loads → Shows q clock (added loads (draw line time) start)
-
--- the first n loads of three lists
-abbrev pub loadsIn : List ℕ → List ℕ → List ℕ → ℕ → List Load
-loadsIn lines times starts n = tabulate (λ i. loadFrom (draw (getD lines i 0) (getD times i 0)) (getD starts i 0)) n 0
-
--- each of their ends is a number of 32 bits
-abbrev pub EndsFit : List ℕ → List ℕ → ℕ → Type 0
-EndsFit times starts n = (i : ℕ) → i < n → getD starts i 0 + getD times i 0 < 2 ^ 32
 
 -- an answer of the code as what a search of the rules finds
 abbrev pub foundAt : When → Found

@@ -9,7 +9,7 @@ ghost use Prim.Native.Nat.{_≤_};
 ghost use mathlib.Core.List.{[]};
 ghost use Rattle.rules.specs.Load.{IsLine};
 ghost use Rattle.profile.specs.Balance.{FirstUnbalanced, LimitKept};
-ghost use Rattle.profile.specs.Shows.{levelOf, firstMinute, Formed, Shows, loadsIn, EndsFit};
+ghost use Rattle.profile.specs.Shows.{levelOf, firstMinute, Formed, Shows};
 
 // So many steps are enough: one, and two more for each of 180 loads.
 pub const STEPS: usize = 361;
@@ -43,29 +43,6 @@ impl Profile {
             at,
             counts,
         }
-    }
-
-    // The profile of the first n loads of three lists.
-    pub fn of<'a>(
-        lines: &'a [u32; 180],
-        times: &'a [u32; 180],
-        starts: &'a [u32; 180],
-        n: usize,
-        clock: u32,
-    ) -> Profile
-        requires { ⌜ (n ≤ 180) × EndsFit (now times) (now starts) n ⌝ }
-        ensures { λ r. ⌜ Shows r clock (loadsIn (now (lines .entry)) (now (times .entry)) (now (starts .entry)) n) ⌝ }
-    {
-        let p = Profile::new(clock);
-        let mut steps = p.steps;
-        let mut at = p.at;
-        let mut counts = p.counts;
-        let mut i = 0;
-        while i < n {
-            steps = loads::add(&mut at, &mut counts, steps, lines[i], times[i], starts[i]);
-            i += 1;
-        }
-        Profile { steps, at, counts }
     }
 
     // The count of a line in a minute.

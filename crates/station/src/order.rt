@@ -1,6 +1,6 @@
 // An order: the smallest start with which the held plan and the new charge are sound together.
 use crate::Station;
-use profile::Profile;
+use planner::begun::profile_before;
 use profile::When;
 use search::start::earliest;
 ghost use mathlib.Core.Path.{_≡_};
@@ -67,8 +67,8 @@ impl Station {
             };
         }
         let held = self.charges;
-        let count = held.held;
-        let profile = Profile::of(&held.lines, &held.times, &held.starts, count, self.clock);
+        // No start is as late as that: all held charges are in the profile.
+        let profile = profile_before(held, self.clock, 4294967295);
         let steps = profile.steps;
         let found = earliest(
             &profile.at,
