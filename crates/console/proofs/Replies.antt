@@ -1,28 +1,67 @@
--- From what a call gives, and what is printed, to what a line is answered; and how much a move reports.
+-- From what a call gives, and what is printed, to what a line is answered; and how much a call reports.
 use mathlib.Core.Path.{_≡_, refl, sym, ap, subst, _∙_}
-use mathlib.Core.Bool.{Bool, true, false}
+use mathlib.Core.Bool.{Bool, true, false, cond}
 use mathlib.Core.List.{List, [], _∷_, _++_}
-use Prim.Native.Nat.{ℕ, _*_, _≤_, min}
+use Prim.Native.Nat.{ℕ, zero, suc, _+_, _*_, _≤_, min}
 use native.Mathlib.Omega.{arith}
+use lib.Dec.{ltb, eqb}
 use borrow.Author.Tests.{ltb-false}
-use lib.Dec.{ltb}
 use lib.ListN.{length, take, drop, replicate, length-replicate}
-use lib.Seq.{take-at}
-use Rattle.rules.specs.Basics.{keep, sortedBy}
-use Rattle.rules.specs.Calls.{State, Answer, refused, opened, ordered, moved, planned, waiting, charging, move, Result, step, moving, reported, isPassed, startBefore}
+use lib.Seq.{sets, sets-eq, take-at, drop-at}
+use Rattle.rules.specs.Basics.{Found, at, nothing, firstOf, keep}
+use Rattle.rules.specs.Charge.{Charge, endOf, isBegun, loadsOf, activeFor}
+use Rattle.rules.specs.Search.{earliest}
+use Rattle.rules.specs.Replan.{Proposal, starts, none, latest, byLines}
+use Rattle.rules.specs.Judgement.{judged}
+use Rattle.rules.specs.Calls as rules
+use Rattle.rules.specs.Calls.{
+  State,
+  Answer,
+  refused,
+  opened,
+  ordered,
+  moved,
+  planned,
+  waiting,
+  charging,
+  order,
+  move,
+  offer,
+  replanLatest,
+  replanLines,
+  enquire,
+  Result,
+  step,
+  refusals,
+  answering,
+  orderedAt,
+  decided,
+  tested,
+  limitsOf,
+  ordering,
+  moving,
+  offering,
+  replanningLatest,
+  replanningLines,
+  enquiring,
+  reported,
+  isPassed,
+  startBefore,
+}
 use Rattle.rules.proofs.Lists.{length-keep}
 use Rattle.charges.proofs.Sorting.{length-sorted}
-use Rattle.protocol.specs.Answers.{Printed, answerLine}
-use Rattle.station.specs.declared.Station.{Station}
-use Rattle.station.specs.View.{view, Valid}
-use Rattle.station.specs.Answers.{Gives, moveAnswer, planAnswer}
-use Rattle.station.specs.declared.clock.MoveAnswer.{MoveAnswer}
-use Rattle.station.specs.declared.clock.MoveAnswer.the-variants.{Moved}
-use Rattle.protocol.specs.Lines.{readLine, meaning, lentList}
+use Rattle.protocol.specs.Answers.{Printed, answerLine, pairsOf}
+use Rattle.protocol.specs.Lines.{readLine, meaning, lentList, Lent, Asks}
 use Rattle.protocol.specs.declared.request.Line.{Line}
-use Rattle.console.specs.Reply.{told, reply, Replied}
-use Rattle.station.specs.declared.plan.PlanAnswer.{PlanAnswer}
-use Rattle.station.specs.declared.plan.PlanAnswer.the-variants.{Planned, Refused}
+use Rattle.station.specs.declared.Station.{Station}
+use Rattle.station.specs.declared.calls.Call.{Call}
+use Rattle.station.specs.declared.calls.Call.the-variants.{Order, Move, Offer, ReplanLatest, ReplanLines, Enquire}
+use Rattle.station.specs.declared.calls.Answer as code
+use Rattle.station.specs.View.{view, Valid}
+use Rattle.station.specs.Answers.{Gives}
+use Rattle.station.specs.Applied.{callOf, listAfter, answerOf, Applies}
+use Rattle.console.specs.Reply.{told, reply, reportOf, lineReport, Replied, Lists}
+use Rattle.console.specs.Session.{answered}
 
 pub replied :
     {r : Result} {a : Answer} {s : Station} {list before : List ℕ} {at : ℕ} {after : List ℕ} {next : ℕ}
@@ -34,56 +73,161 @@ replied {r} {a} {s} {list} {before} {at} {after} {next} g p =
       printed = subst (λ (x : Result). Printed (answerLine (x .answer) (x .list)) before at after next) (g .result) p;
     }
 
--- the lent list is printed for a move alone
-pub plan-line : (a : PlanAnswer) (list : List ℕ) → answerLine (planAnswer a) [] ≡ answerLine (planAnswer a) list
-unfolding answerLine
-plan-line (Planned cause before after rounds) list = refl
-plan-line (Refused number) list = refl
+-- Only a clock move reports
 
-countOf : Answer → ℕ
-countOf (refused k) = 0
-countOf (opened d) = 0
-countOf (ordered t u) = 0
-countOf (moved k d) = k
-countOf (planned c b a k) = 0
-countOf (waiting u) = 0
-countOf (charging u v) = 0
+-- the lent list is printed where something is reported, and nowhere else
+pub line-same : (a : Answer) (list other : List ℕ) → pairsOf a ≡ 0 → answerLine a list ≡ answerLine a other
+unfolding answerLine
+line-same (refused k) list other e = refl
+line-same (opened d) list other e = refl
+line-same (ordered t u) list other e = refl
+line-same (moved k d) list other e = rw e
+line-same (planned c b a k) list other e = refl
+line-same (waiting u) list other e = refl
+line-same (charging u v) list other e = refl
+
+refused-none : (i : ℕ) (s : State) (list : List ℕ) (r : Result) → pairsOf (r .answer) ≡ 0 → pairsOf (answering i s list r .answer) ≡ 0
+refused-none zero s list r e = e
+refused-none (suc k) s list r e = refl
+
+ordered-none : (s : State) (c : ℕ → Charge) (f : Found) → pairsOf (orderedAt s c f .answer) ≡ 0
+ordered-none s c (at start) = refl
+ordered-none s c nothing = refl
+
+decided-none : (s : State) (rounds : ℕ) (ss list : List ℕ) (cause : ℕ) → pairsOf (decided s rounds ss list cause .answer) ≡ 0
+decided-none s rounds ss list zero = refl
+decided-none s rounds ss list (suc k) = refl
+
+tested-none : (s : State) (rounds : ℕ) (p : Proposal) (list : List ℕ) → pairsOf (tested s rounds p list .answer) ≡ 0
+tested-none s rounds (starts ss) list = decided-none s rounds ss list (judged (limitsOf s) (s .clock) (s .charges) ss)
+tested-none s rounds (none cause) list = refl
+
+enquired-none : (clock : ℕ) (cs : List Charge) (ticket : ℕ) → pairsOf (rules.told clock cs ticket) ≡ 0
+enquired-none clock [] ticket = refl
+enquired-none clock (c ∷ cs) ticket = go (eqb (c .ticket) ticket) (isBegun clock c) (enquired-none clock cs ticket)
+  where
+    go :
+        (a b : Bool) → pairsOf (rules.told clock cs ticket) ≡ 0
+        → pairsOf (cond a (cond b (charging (c .start) (endOf c)) (waiting (c .start))) (rules.told clock cs ticket)) ≡ 0
+    go true true h = refl
+    go true false h = refl
+    go false b h = h
 
 -- "report list under 360 places" is refused, and no more charges are reported than are held
-pub few-reported :
-    (s : State) (target : ℕ) (list : List ℕ) (r x : ℕ) → length (s .charges) ≤ 180
-    → step s (move target list) .answer ≡ moved r x → (r ≤ 180) × (360 ≤ length list)
-unfolding moving countOf
-few-reported s target list r x few e =
-    go (ltb 1000000 target) refl (ltb (length list) 360) refl (ltb target (s .clock)) refl
+few-moved :
+    (s : State) (target : ℕ) (list : List ℕ) → length (s .charges) ≤ 180
+    → (pairsOf (step s (move target list) .answer) ≤ 180) × (2 * pairsOf (step s (move target list) .answer) ≤ length list)
+unfolding moving
+few-moved s target list few = go (ltb 1000000 target) refl (ltb (length list) 360) refl (ltb target (s .clock)) refl
   where
     go :
         (a : Bool) → ltb 1000000 target ≡ a → (b : Bool) → ltb (length list) 360 ≡ b → (d : Bool) → ltb target (s .clock) ≡ d
-        → (r ≤ 180) × (360 ≤ length list)
-    go true p b q d u = let f : refused 8 ≡ moved r x = rw p at e in let z : _≡_ {A = ℕ} 0 1 = cc in absurd (omega arith)
-    go false p true q d u =
-        let f : refused 9 ≡ moved r x = rw (p, q) at e in let z : _≡_ {A = ℕ} 0 1 = cc in absurd (omega arith)
-    go false p false q true u =
-        let f : refused 12 ≡ moved r x = rw (p, q, u) at e in let z : _≡_ {A = ℕ} 0 1 = cc in absurd (omega arith)
+        → (pairsOf (step s (move target list) .answer) ≤ 180) × (2 * pairsOf (step s (move target list) .answer) ≤ length list)
+    go true p b q d u = rw p (omega arith)
+    go false p true q d u = rw (p, q) (omega arith)
+    go false p false q true u = rw (p, q, u) (omega arith)
     go false p false q false u =
-        let f : length (reported (s .clock) target (s .charges)) ≡ r = ap countOf (rw (p, q, u) at e) in
-        (omega (arith, f, length-sorted startBefore (keep (isPassed (s .clock) target) (s .charges)), length-keep (isPassed (s .clock) target) (s .charges), few), ltb-false (length list) 360 q)
+        rw (p, q, u) (omega (arith, length-sorted startBefore (keep (isPassed (s .clock) target) (s .charges)), length-keep (isPassed (s .clock) target) (s .charges), few, ltb-false (length list) 360 q))
 
-pub replied-plan :
-    {r : Result} (a : PlanAnswer) {s : Station} {list before : List ℕ} {at : ℕ} {after : List ℕ} {next : ℕ}
-    → Gives r (planAnswer a) s list → Printed (answerLine (planAnswer a) []) before at after next
-    → Replied (told r) s before at after next
-replied-plan a {s} {list} {before} {at} {after} {next} g p =
-    replied g (subst (λ (x : List ℕ). Printed x before at after next) (plan-line a list) p)
+-- what a call reports: nothing, but for a clock move
+abbrev Reports : Call → ℕ → ℕ → Type 0
+Reports (Order line time due) n places = n ≡ 0
+Reports (Move target) n places = (n ≤ 180) × (2 * n ≤ places)
+Reports Offer n places = n ≡ 0
+Reports ReplanLatest n places = n ≡ 0
+Reports (ReplanLines allowance) n places = n ≡ 0
+Reports (Enquire ticket) n places = n ≡ 0
+
+reports :
+    (s : State) (c : Call) (ss list : List ℕ) → length (s .charges) ≤ 180
+    → Reports c (pairsOf (step s (callOf c ss list) .answer)) (length list)
+unfolding ordering offering replanningLatest replanningLines enquiring
+reports s (Order line time due) ss list few =
+    refused-none (firstOf (refusals s (order line time due))) s [] (ordering s line time due) (ordered-none s (rules.newCharge s line time due) (earliest (limitsOf s) (s .clock) (loadsOf (s .charges)) line (activeFor (rules.newCharge s line time due 0))))
+reports s (Move target) ss list few = few-moved s target list few
+reports s Offer ss list few = refused-none (firstOf (refusals s (offer ss))) s ss (offering s ss) (tested-none s 0 (starts ss) ss)
+reports s ReplanLatest ss list few = tested-none s 0 (latest (limitsOf s) (s .clock) (s .charges)) []
+reports s (ReplanLines allowance) ss list few =
+    refused-none (firstOf (refusals s (replanLines allowance))) s [] (replanningLines s allowance) (tested-none s (byLines (limitsOf s) (s .clock) allowance (s .charges) .rounds) (byLines (limitsOf s) (s .clock) allowance (s .charges) .proposal) [])
+reports s (Enquire ticket) ss list few =
+    refused-none (firstOf (refusals s (enquire ticket))) s [] (enquiring s ticket) (enquired-none (s .clock) (s .charges) ticket)
+
+few-reports : (c : Call) (n places : ℕ) → Reports c n places → (n ≤ 180) × (2 * n ≤ places)
+few-reports (Order line time due) n places h = omega arith
+few-reports (Move target) n places h = h
+few-reports Offer n places h = omega arith
+few-reports ReplanLatest n places h = omega arith
+few-reports (ReplanLines allowance) n places h = omega arith
+few-reports (Enquire ticket) n places h = omega arith
+
+line-after :
+    (c : Call) (a : Answer) (ss list : List ℕ) (places : ℕ) → Reports c (pairsOf a) places
+    → answerLine a list ≡ answerLine a (listAfter c ss list)
+line-after (Order line time due) a ss list places h = line-same a list [] h
+line-after (Move target) a ss list places h = refl
+line-after Offer a ss list places h = line-same a list ss h
+line-after ReplanLatest a ss list places h = line-same a list [] h
+line-after (ReplanLines allowance) a ss list places h = line-same a list [] h
+line-after (Enquire ticket) a ss list places h = line-same a list [] h
+
+module _ {s : Station} (c : Call) {ss list after : List ℕ} {a : code.Answer} {next : Station} (v : Valid s)
+    (p : Applies (view s) c ss list after a next) where
+  reports-so : Reports c (pairsOf (answerOf a)) (length list)
+  reports-so =
+      subst (λ (x : Result). Reports c (pairsOf (x .answer)) (length list)) (sym (p .gives .result))
+      (reports (view s) c ss list (v .state .few))
+
+  pub few-told : (pairsOf (answerOf a) ≤ 180) × (2 * pairsOf (answerOf a) ≤ length list)
+  few-told = few-reports c (pairsOf (answerOf a)) (length list) reports-so
+
+  -- a call is answered by what it gives, printed with the list that was lent for its report
+  pub call-replied :
+      {before : List ℕ} {at : ℕ} {out : List ℕ} {end : ℕ} → Printed (answerLine (answerOf a) after) before at out end
+      → Replied (told (step (view s) (callOf c ss list))) next before at out end
+  call-replied {before} {at} {out} {end} q =
+      replied (p .gives)
+      (subst (λ (x : List ℕ). Printed x before at out end) (line-after c (answerOf a) ss after (length list) reports-so) q)
+
+-- The lists that are lent
+
+after-report :
+    (s : State) (c : Call) (ss after : List ℕ) (places : ℕ) {a : code.Answer} {next : Station} → Lent c places
+    → Applies s c ss (lentList places) after a next → after ≡ reportOf s (callOf c ss (lentList places))
+after-report s (Order line time due) ss after places e p = p .stays ∙ ap lentList e
+after-report s (Move target) ss after places e p = ap (λ (x : Result). x .list) (p .gives .result)
+after-report s Offer ss after places e p = p .stays ∙ ap lentList e
+after-report s ReplanLatest ss after places e p = p .stays ∙ ap lentList e
+after-report s (ReplanLines allowance) ss after places e p = p .stays ∙ ap lentList e
+after-report s (Enquire ticket) ss after places e p = p .stays ∙ ap lentList e
+
+-- the lent front of the list as the call leaves it, and the rest of it as it was
+pub list-left :
+    {s : State} (c : Call) {ss after : List ℕ} (places lent : ℕ) (list filled : List ℕ) {a : code.Answer} {next : Station}
+    → Lent c places → filled ≡ replicate lent 4294967295 ++ drop lent list → length after ≡ lent → lent ≤ length list
+    → Applies s c ss (lentList places) after a next
+    → after ++ drop lent filled ≡ sets list 0 (reportOf s (callOf c ss (lentList places)))
+list-left {s} c {ss} {after} places lent list filled e f l h p =
+    let rest : drop lent filled ≡ drop lent list =
+    ap (drop lent) f ∙ drop-at (replicate lent 4294967295) (drop lent list) lent (length-replicate lent 4294967295) in
+    let put : sets list 0 after ≡ after ++ drop (0 + length after) list = sets-eq after list 0 (omega arith) in
+    let n : 0 + length after ≡ lent = omega arith in
+    ap (λ (x : List ℕ). after ++ x) rest
+    ∙ sym (put ∙ ap (λ (x : ℕ). after ++ drop x list) n)
+    ∙ ap (sets list 0) (after-report s c ss after places e p)
 
 -- a line that was read so is answered so
-pub as-read :
-    (s : State) (list line : List ℕ) {l x : Line} {station : Station} {before : List ℕ} {at : ℕ} {after : List ℕ} {next : ℕ}
-    → meaning l list ≡ readLine line → l ≡ x → Replied (reply s (meaning x list)) station before at after next
-    → Replied (reply s (readLine line)) station before at after next
-as-read s list line p q h = rw (← p, q) h
+module _ (s : State) (line : List ℕ) {values numbers list : List ℕ} {l x : Line}
+    (a : Asks (readLine line) values numbers list l) (e : l ≡ x) where
+  pub as-read :
+      {station : Station} {before : List ℕ} {at : ℕ} {after : List ℕ} {next : ℕ}
+      → Replied (reply s (meaning x list)) station before at after next → Replied (answered s line) station before at after next
+  unfolding answered
+  as-read h = rw (← (a .request-is), e) h
 
--- Moves
+  pub as-listed :
+      {report after : List ℕ} → after ≡ sets report 0 (lineReport s (meaning x list))
+      → Lists values (lineReport s (readLine line)) numbers list report after
+  as-listed h = record { numbers-are = a .list-is; list-is = rw (← (a .request-is), e) h }
 
 pub lent-front :
     (lent places : ℕ) (list filled : List ℕ) → lent ≡ min places 4096 → filled ≡ replicate lent 4294967295 ++ drop lent list
@@ -91,13 +235,3 @@ pub lent-front :
 lent-front lent places list filled e f =
     ap (take lent) f ∙ take-at (replicate lent 4294967295) (drop lent list) lent (length-replicate lent 4294967295)
     ∙ ap (λ (n : ℕ). replicate n 4294967295) e
-
-pub moved-few :
-    (s : Station) (target lent places : ℕ) {a : MoveAnswer} {next : Station} {after : List ℕ} (r x : ℕ)
-    → Valid s → lent ≡ min places 4096
-    → Gives (step (view s) (move target (lentList places))) (moveAnswer a) next after → a ≡ Moved r x
-    → (r ≤ 180) × (2 * r ≤ lent)
-moved-few s target lent places r x v e g q =
-    let f : (r ≤ 180) × (360 ≤ length (lentList places)) =
-    few-reported (view s) target (lentList places) r x (v .state .few) (sym (ap (λ (y : Result). y .answer) (g .result)) ∙ ap moveAnswer q) in
-    (f .0, omega (arith, f .0, f .1, e, length-replicate {A = ℕ} (min places 4096) 4294967295))

@@ -1,2 +1,4 @@
 pub mod Reply
-pub mod Serve
+pub mod Session
+pub mod Turns
+pub mod Cases

@@ -2,7 +2,8 @@
 use Prim.Native.Nat.{ℕ}
 use mathlib.Core.Path.{_≡_}
 use mathlib.Core.List.{List, []}
-use Rattle.rules.specs.Calls.{State, Result}
+use lib.Seq.{sets}
+use Rattle.rules.specs.Calls.{State, Call, order, move, offer, replanLatest, replanLines, enquire, Result}
 use Rattle.rules.specs.Calls as calls
 use Rattle.protocol.specs.Lines.{Request, nothing, opening, call, error}
 use Rattle.protocol.specs.Answers.{Printed, answerLine, errorLine}
@@ -23,6 +24,26 @@ reply s nothing = record { state = s; text = [] }
 reply s (opening n c) = told (calls.opening n c)
 reply s (call c) = told (calls.step s c)
 reply s (error reason) = record { state = s; text = errorLine reason }
+
+-- what a call leaves at the front of the list that is lent for reports: a clock move alone reports
+abbrev pub reportOf : State → Call → List ℕ
+reportOf s (order line time due) = []
+reportOf s (move target list) = calls.step s (move target list) .list
+reportOf s (offer starts) = []
+reportOf s replanLatest = []
+reportOf s (replanLines allowance) = []
+reportOf s (enquire ticket) = []
+
+abbrev pub lineReport : State → Request → List ℕ
+lineReport s nothing = []
+lineReport s (opening n c) = []
+lineReport s (call c) = reportOf s c
+lineReport s (error reason) = []
+
+-- the lists that are lent for the numbers of a line and for reports, whole
+pub record Lists (values report numbers numbersAfter list listAfter : List ℕ) : Type 0 where
+  pub numbers-are : numbersAfter ≡ sets numbers 0 values
+  pub list-is : listAfter ≡ sets list 0 report
 
 -- A line was answered so: this station, which is valid, and this text at its place.
 pub record Replied (t : Told) (station : Station) (before : List ℕ) (at : ℕ) (after : List ℕ) (next : ℕ) : Type 0 where

@@ -30,30 +30,47 @@ listed (n ∷ ns) = spaced n ++ listed ns
 abbrev pub lineFeed : List ℕ
 lineFeed = 10 ∷ []
 
+-- lines of one, two and four numbers, each after a text
+abbrev pub one : List ℕ → ℕ → List ℕ
+one text n = field text n ++ lineFeed
+
+abbrev pub two : List ℕ → ℕ → List ℕ → ℕ → List ℕ
+two text n next m = field text n ++ one next m
+
+abbrev pub four : List ℕ → ℕ → ℕ → ℕ → ℕ → List ℕ
+four text a b c d = field text a ++ (spaced b ++ two (32 ∷ []) c (32 ∷ []) d)
+
 -- an answer, with the list that was lent to the call: a move's pairs stand at its front
 unfoldable pub answerLine : Answer → List ℕ → List ℕ
 -- "refused "
-answerLine (refused k) list = field (114 ∷ 101 ∷ 102 ∷ 117 ∷ 115 ∷ 101 ∷ 100 ∷ 32 ∷ []) k ++ lineFeed
+answerLine (refused k) list = one (114 ∷ 101 ∷ 102 ∷ 117 ∷ 115 ∷ 101 ∷ 100 ∷ 32 ∷ []) k
 -- "open 0 "
-answerLine (opened bound) list = field (111 ∷ 112 ∷ 101 ∷ 110 ∷ 32 ∷ 48 ∷ 32 ∷ []) bound ++ lineFeed
+answerLine (opened bound) list = one (111 ∷ 112 ∷ 101 ∷ 110 ∷ 32 ∷ 48 ∷ 32 ∷ []) bound
 -- "ticket ", " start "
 answerLine (ordered ticket start) list =
-    field (116 ∷ 105 ∷ 99 ∷ 107 ∷ 101 ∷ 116 ∷ 32 ∷ []) ticket
-    ++ (field (32 ∷ 115 ∷ 116 ∷ 97 ∷ 114 ∷ 116 ∷ 32 ∷ []) start ++ lineFeed)
+    two (116 ∷ 105 ∷ 99 ∷ 107 ∷ 101 ∷ 116 ∷ 32 ∷ []) ticket (32 ∷ 115 ∷ 116 ∷ 97 ∷ 114 ∷ 116 ∷ 32 ∷ []) start
 -- "moved ", " dropped "
 answerLine (moved reported dropped) list =
     field (109 ∷ 111 ∷ 118 ∷ 101 ∷ 100 ∷ 32 ∷ []) reported
     ++ (field (32 ∷ 100 ∷ 114 ∷ 111 ∷ 112 ∷ 112 ∷ 101 ∷ 100 ∷ 32 ∷ []) dropped
     ++ (listed (take (2 * reported) list) ++ lineFeed))
 -- "plan "
-answerLine (planned cause before after rounds) list =
-    field (112 ∷ 108 ∷ 97 ∷ 110 ∷ 32 ∷ []) cause
-    ++ (spaced before ++ (spaced after ++ (spaced rounds ++ lineFeed)))
+answerLine (planned cause before after rounds) list = four (112 ∷ 108 ∷ 97 ∷ 110 ∷ 32 ∷ []) cause before after rounds
 -- "waiting "
-answerLine (waiting start) list = field (119 ∷ 97 ∷ 105 ∷ 116 ∷ 105 ∷ 110 ∷ 103 ∷ 32 ∷ []) start ++ lineFeed
+answerLine (waiting start) list = one (119 ∷ 97 ∷ 105 ∷ 116 ∷ 105 ∷ 110 ∷ 103 ∷ 32 ∷ []) start
 -- "charging "
 answerLine (charging start end) list =
-    field (99 ∷ 104 ∷ 97 ∷ 114 ∷ 103 ∷ 105 ∷ 110 ∷ 103 ∷ 32 ∷ []) start ++ (spaced end ++ lineFeed)
+    two (99 ∷ 104 ∷ 97 ∷ 114 ∷ 103 ∷ 105 ∷ 110 ∷ 103 ∷ 32 ∷ []) start (32 ∷ []) end
+
+-- how many pairs an answer reports
+abbrev pub pairsOf : Answer → ℕ
+pairsOf (refused k) = 0
+pairsOf (opened d) = 0
+pairsOf (ordered t u) = 0
+pairsOf (moved k d) = k
+pairsOf (planned c b a k) = 0
+pairsOf (waiting u) = 0
+pairsOf (charging u v) = 0
 
 abbrev pub reasonText : Reason → List ℕ
 -- "unknown call"

@@ -8,14 +8,9 @@ mod printer;
 mod request;
 mod word;
 
-pub use answer::print_charging;
+pub use answer::print_answer;
 pub use answer::print_error;
-pub use answer::print_moved;
-pub use answer::print_opened;
-pub use answer::print_ordered;
-pub use answer::print_planned;
-pub use answer::print_refused;
-pub use answer::print_waiting;
+pub use answer::print_opening;
 pub use block::carry;
 pub use number::Reason;
 pub use request::Line;

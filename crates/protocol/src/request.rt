@@ -4,36 +4,28 @@ ghost use Prim.Native.Nat.{_≤_, min};
 ghost use mathlib.Core.List.{_++_};
 ghost use lib.ListN.{length, drop, replicate};
 ghost use Rattle.protocol.specs.Words.{partsAfter};
-ghost use Rattle.protocol.specs.Lines.{
-  known,
-  neededBy,
-  allowedBy,
-  readNumbers,
-  numbersRead,
-  Enough,
-  lineOf,
-  readCall,
-  readLine,
-  meaning,
-  OfferFits,
-};
+ghost use Rattle.protocol.specs.Lines.{known, neededBy, allowedBy, lineOf, readCall, callValues, readLine, lineValues, TakesNumbers, Asks};
 use crate::number::Number;
 use crate::number::Reason;
 use crate::number::read_number;
 use crate::word::CallName;
 use crate::word::call_named;
 use crate::word::part_end;
+use station::calls::Call;
 
-// What a line asks for. The numbers of an offer stand in the list that was lent for reading.
+// What a line asks for. The starts of an offer stand at the front of the list that was lent for reading, and a clock move
+// asks for so many places to report to; any other call has none of either.
 pub enum Line {
     Nothing,
-    Open { limit: u32, percent: u32 },
-    Order { line: u32, time: u32, due: u32 },
-    Move { target: u32, places: u32 },
-    Offer { count: usize },
-    Latest,
-    Lines { allowance: u32 },
-    Enquire { ticket: u32 },
+    Open {
+        limit: u32,
+        percent: u32,
+    },
+    Call {
+        call: Call,
+        starts: usize,
+        places: u32,
+    },
     Error(Reason),
 }
 
@@ -74,15 +66,15 @@ fn needed(name: CallName) -> usize
     }
 }
 
-// How many numbers a call takes at most.
+// How many numbers a call takes at most. An offer takes as many as a line can hold.
 fn allowed(name: CallName) -> usize
-    ensures { λ r. ⌜ (r ≡ allowedBy name) × (r ≤ 180) ⌝ }
+    ensures { λ r. ⌜ (r ≡ allowedBy name) × (r ≤ 2048) ⌝ }
 {
     match name {
         CallName::Open => 2,
         CallName::Order => 3,
         CallName::Move => 2,
-        CallName::Offer => 180,
+        CallName::Offer => 2048,
         CallName::Latest => 0,
         CallName::Lines => 1,
         CallName::Enquire => 1,
@@ -93,8 +85,7 @@ fn allowed(name: CallName) -> usize
 // Reads the numbers that follow the word that ends at `from` into the lent list.
 fn read_numbers(line: &[u8], from: usize, least: usize, most: usize, numbers: &mut [u32]) -> Numbers
     requires { ⌜ (from ≤ length (now line)) × (most ≤ length (now numbers)) ⌝ }
-    ensures { λ r. ⌜ numbersRead r (now (numbers .exit)) ≡ readNumbers least most (partsAfter 32 (now (line .entry)) from (length (now (line .entry)))) ⌝ }
-    ensures { λ r. ⌜ Enough least most r ⌝ }
+    ensures { λ r. ⌜ TakesNumbers least most (partsAfter 32 (now (line .entry)) from (length (now (line .entry)))) (now (numbers .entry)) (now (numbers .exit)) r ⌝ }
 {
     let mut at = from;
     let mut count: usize = 0;
@@ -133,28 +124,48 @@ fn call_of(name: CallName, count: usize, numbers: &[u32]) -> Line
             limit: first,
             percent: second,
         },
-        CallName::Order => Line::Order {
-            line: first,
-            time: second,
-            due: third,
+        CallName::Order => Line::Call {
+            call: Call::Order {
+                line: first,
+                time: second,
+                due: third,
+            },
+            starts: 0,
+            places: 0,
         },
-        CallName::Move => Line::Move {
-            target: first,
+        CallName::Move => Line::Call {
+            call: Call::Move { target: first },
+            starts: 0,
             places: second,
         },
-        CallName::Offer => Line::Offer { count },
-        CallName::Latest => Line::Latest,
-        CallName::Lines => Line::Lines { allowance: first },
-        CallName::Enquire => Line::Enquire { ticket: first },
+        CallName::Offer => Line::Call {
+            call: Call::Offer,
+            starts: count,
+            places: 0,
+        },
+        CallName::Latest => Line::Call {
+            call: Call::ReplanLatest,
+            starts: 0,
+            places: 0,
+        },
+        CallName::Lines => Line::Call {
+            call: Call::ReplanLines { allowance: first },
+            starts: 0,
+            places: 0,
+        },
+        CallName::Enquire => Line::Call {
+            call: Call::Enquire { ticket: first },
+            starts: 0,
+            places: 0,
+        },
         CallName::Unknown => Line::Error(Reason::UnknownCall),
     }
 }
 
 // The call of a name with the numbers that follow the word that ends at `end`.
 fn read_call(line: &[u8], end: usize, name: CallName, numbers: &mut [u32]) -> Line
-    requires { ⌜ (end ≤ length (now line)) × (180 ≤ length (now numbers)) ⌝ }
-    ensures { λ r. ⌜ meaning r (now (numbers .exit)) ≡ readCall name (partsAfter 32 (now (line .entry)) end (length (now (line .entry)))) ⌝ }
-    ensures { λ r. ⌜ OfferFits r ⌝ }
+    requires { ⌜ (end ≤ length (now line)) × (2048 ≤ length (now numbers)) ⌝ }
+    ensures { λ r. ⌜ Asks (readCall name (partsAfter 32 (now (line .entry)) end (length (now (line .entry))))) (callValues name (partsAfter 32 (now (line .entry)) end (length (now (line .entry))))) (now (numbers .entry)) (now (numbers .exit)) r ⌝ }
 {
     if !is_known(name) {
         return Line::Error(Reason::UnknownCall);
@@ -166,11 +177,11 @@ fn read_call(line: &[u8], end: usize, name: CallName, numbers: &mut [u32]) -> Li
     }
 }
 
-// What a line asks for, its line feed left out. The lent list takes the numbers, which are 180 at most.
+// What a line asks for, its line feed left out. The lent list takes the numbers, which are 2,045 at
+// most, and keeps every place after them.
 pub fn read_line(line: &[u8], numbers: &mut [u32]) -> Line
-    requires { ⌜ 180 ≤ length (now numbers) ⌝ }
-    ensures { λ r. ⌜ meaning r (now (numbers .exit)) ≡ readLine (now (line .entry)) ⌝ }
-    ensures { λ r. ⌜ OfferFits r ⌝ }
+    requires { ⌜ 2048 ≤ length (now numbers) ⌝ }
+    ensures { λ r. ⌜ Asks (readLine (now (line .entry))) (lineValues (now (line .entry))) (now (numbers .entry)) (now (numbers .exit)) r ⌝ }
 {
     if line.len() > 4096 {
         return Line::Error(Reason::LineTooLong);

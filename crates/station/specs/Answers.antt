@@ -14,8 +14,8 @@ use Rattle.station.specs.declared.clock.MoveAnswer.{MoveAnswer}
 use Rattle.station.specs.declared.clock.MoveAnswer.the-variants.{Moved, Refused as MoveRefused}
 use Rattle.station.specs.declared.plan.PlanAnswer.{PlanAnswer}
 use Rattle.station.specs.declared.plan.PlanAnswer.the-variants.{Planned, Refused as PlanRefused}
-use Rattle.station.specs.declared.enquiry.Enquiry.{Enquiry}
-use Rattle.station.specs.declared.enquiry.Enquiry.the-variants.{Waiting, Charging, Refused as EnquiryRefused}
+use Rattle.station.specs.declared.enquiry.EnquiryAnswer.{EnquiryAnswer}
+use Rattle.station.specs.declared.enquiry.EnquiryAnswer.the-variants.{Waiting, Charging, Refused as EnquiryRefused}
 use Rattle.station.specs.View.{view, Valid}
 
 -- an answer, the station beside it and the lent list, as a result of the rules
@@ -48,7 +48,8 @@ abbrev pub planAnswer : PlanAnswer → Answer
 planAnswer (Planned cause before after rounds) = planned cause before after rounds
 planAnswer (PlanRefused number) = refused number
 
-abbrev pub enquiryAnswer : Enquiry → Answer
+-- "no held charge has this ticket" is refusal 15
+abbrev pub enquiryAnswer : EnquiryAnswer → Answer
 enquiryAnswer (Waiting start) = waiting start
 enquiryAnswer (Charging start end) = charging start end
-enquiryAnswer (EnquiryRefused number) = refused number
+enquiryAnswer EnquiryRefused = refused 15

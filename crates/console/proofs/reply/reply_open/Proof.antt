@@ -7,40 +7,20 @@ use Rattle.console.proofs.reply.reply_open.Tie as tie
 open-requires : tie.Need-open-requires
 open-requires c κs = search needs
 
-enum-known-answer : tie.Need-enum-known-answer
-enum-known-answer c = search needs
-
-print-opened-requires : tie.Need-print-opened-requires
-print-opened-requires c κs = search needs
-
-enum-known-answer-2 : tie.Need-enum-known-answer-2
-enum-known-answer-2 c = search needs
-
-print-refused-requires : tie.Need-print-refused-requires
-print-refused-requires c κs = search needs
+print-opening-requires : tie.Need-print-opening-requires
+print-opening-requires c κs = search needs
 
 same-length : tie.Need-same-length
 same-length c = search needs
 
 returns : tie.Need-returns
-returns c = replied (rw (c .before .before .before .before .before .answer .given .1) at (c .before .before .before .before .before .before .before .before .open .ensures)) (c .before .before .print-opened .ensures)
-
-same-length-2 : tie.Need-same-length-2
-same-length-2 c = search needs
-
-returns-2 : tie.Need-returns-2
-returns-2 c = replied (rw (c .before .before .before .before .before .answer2 .given .1) at (c .before .before .before .before .before .before .before .before .open .ensures)) (c .before .before .print-refused .ensures)
+returns c = replied (c .before .before .before .before .before .«open» .ensures) (c .before .before .print-opening .ensures)
 
 pub reply-open-spec : {M : Type 1} → statement M
 reply-open-spec =
     tie.close
     (tie.spec
     open-requires
-    enum-known-answer
-    print-opened-requires
-    enum-known-answer-2
-    print-refused-requires
+    print-opening-requires
     same-length
-    returns
-    same-length-2
-    returns-2)
+    returns)

@@ -1,10 +1,9 @@
 -- `protocol::read_call` meets its contract: by its name, and by what was read of its numbers.
-use mathlib.Core.Path.{sym, ap, _∙_}
+use mathlib.Core.Path.{sym, _∙_}
 use borrow.Author.Tests.{not-true, not-false}
 use lib.ListN.{length}
 use Rattle.protocol.specs.Words.{partsAfter}
-use Rattle.protocol.specs.Lines.{meaning}
-use Rattle.protocol.proofs.Reading.{call-unknown, call-wrong, call-read, offer-fits}
+use Rattle.protocol.proofs.Reading.{call-unknown, call-wrong, call-read}
 use borrow.Author.Needs.{needs}
 use Rattle.protocol.proofs.request.read_call.Statement.{statement}
 use Rattle.protocol.proofs.request.read_call.Tie as tie
@@ -13,7 +12,8 @@ is-known-requires : tie.Need-is-known-requires
 is-known-requires c κs = search needs
 
 returns : tie.Need-returns
-returns c = (sym (call-unknown _ _ (sym (c .before .is-known .ensures) ∙ not-true _ (c .if1 .taken))), tt)
+returns c =
+    call-unknown _ _ (c .before .before .before .before .args .numbers .now) (sym (c .before .is-known .ensures) ∙ not-true _ (c .if1 .taken))
 
 needed-requires : tie.Need-needed-requires
 needed-requires c κs = search needs
@@ -40,7 +40,7 @@ returns-2 : tie.Need-returns-2
 returns-2 c =
     let s = c .before .before .before .before .before .before .before .before .before .before .before .before .before in
     let r = c .before .before .before .before .before .read-numbers in
-    (call-wrong (s .args .name) (partsAfter 32 (s .args .line .now) (s .args .end) (length (s .args .line .now))) (r .last .1 .1 .1 .1 .0) (sym (c .before .before .before .before .before .before .before .before .before .before .is-known .ensures) ∙ not-false _ (c .before .before .before .before .before .before .before .before .before .if1 .left)) (c .before .before .before .before .before .before .before .before .needed .ensures) (c .before .before .before .before .before .before .before .allowed .ensures .0) (r .ensures .0) (c .before .read .given .0 .0) (c .before .read .given .1), tt)
+    call-wrong (s .args .name) (partsAfter 32 (s .args .line .now) (s .args .end) (length (s .args .line .now))) (sym (c .before .before .before .before .before .before .before .before .before .before .is-known .ensures) ∙ not-false _ (c .before .before .before .before .before .before .before .before .before .if1 .left)) (c .before .before .before .before .before .before .before .before .needed .ensures) (c .before .before .before .before .before .before .before .allowed .ensures .0) (r .ensures) (c .before .read .given .0 .0) (c .before .read .given .1)
 
 same-length-2 : tie.Need-same-length-2
 same-length-2 c = search needs
@@ -49,12 +49,9 @@ returns-3 : tie.Need-returns-3
 returns-3 c =
     let s = c .before .before .before .before .before .before .before .before .before .before .before .before .before .before .before in
     let r = c .before .before .before .before .before .before .before .read-numbers in
-    let e = c .call-of .ensures in
-    let n = c .before .before .before .read2 .given in (
-      rw e
-          (call-read (s .args .name) (partsAfter 32 (s .args .line .now) (s .args .end) (length (s .args .line .now))) (r .last .1 .1 .1 .1 .0) (sym (c .before .before .before .before .before .before .before .before .before .before .before .before .is-known .ensures) ∙ not-false _ (c .before .before .before .before .before .before .before .before .before .before .before .if1 .left)) (c .before .before .before .before .before .before .before .before .before .before .needed .ensures) (c .before .before .before .before .before .before .before .before .before .allowed .ensures .0) (r .ensures .0) (n .0 .0) (n .1) (r .ensures .1)),
-      rw e (offer-fits (s .args .name) (n .0 .0) (r .last .1 .1 .1 .1 .0) (c .before .before .before .before .before .before .before .before .before .before .needed .result) (c .before .before .before .before .before .before .before .before .before .allowed .ensures .0) (n .1) (r .ensures .1)),
-    )
+    let n = c .before .before .before .read2 .given in
+    rw (c .call-of .ensures)
+    (call-read (s .args .name) (partsAfter 32 (s .args .line .now) (s .args .end) (length (s .args .line .now))) (sym (c .before .before .before .before .before .before .before .before .before .before .before .before .is-known .ensures) ∙ not-false _ (c .before .before .before .before .before .before .before .before .before .before .before .if1 .left)) (c .before .before .before .before .before .before .before .before .before .before .needed .ensures) (c .before .before .before .before .before .before .before .before .before .allowed .ensures .0) (r .ensures) (n .0 .0) (n .1))
 
 pub read-call-spec : {M : Type 1} → statement M
 read-call-spec =
