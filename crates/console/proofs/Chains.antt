@@ -1,11 +1,10 @@
 -- Every chain of turns answers all that was read.
 use mathlib.Core.Path.{_≡_, refl, sym, ap, _∙_}
-use mathlib.Core.Bool.{Bool, true, false}
-use mathlib.Core.List.{List, [], _∷_, _++_, append-assoc, append-nil}
+use mathlib.Core.Bool.{true, false}
+use mathlib.Core.List.{List, [], _∷_, _++_, append-nil}
 use Prim.Native.Nat.{ℕ, _+_, _≤_}
 use native.Mathlib.Omega.{arith}
 use borrow.Author.Tests.{eqb-true}
-use lib.Dec.{eqb}
 use lib.ListN.{length, take, length-take}
 use lib.Seq.{slice, slice-empty, take-all}
 use Rattle.rules.specs.Calls.{State, Answer, Result, fresh, opening}
@@ -19,9 +18,9 @@ use Rattle.console.specs.declared.turn.Wants.{Wants}
 use Rattle.console.specs.declared.turn.Wants.the-variants.{Bytes, Room as Space, Nothing}
 use Rattle.console.specs.declared.turn.Session.{Session}
 use Rattle.console.specs.declared.turn.Next.{Next}
-use Rattle.console.specs.Turns.{heldOf, readOf, ends, over, Standing, Turned, Chain, opened, turned, AnswersAll, EveryChain, Reached}
+use Rattle.console.specs.Turns.{heldOf, readOf, ends, over, Standing, Turned, Chain, opened, turned, EveryChain, Reached}
 use Rattle.console.proofs.Serving.{not-both}
-use Rattle.console.proofs.Sessions.{finish, enough-same, first-first, feed-append, console-fed}
+use Rattle.console.proofs.Sessions.{finish, first-first, feed-append, console-fed}
 
 -- what is known after each turn
 record Known (read written : List ℕ) (s : Session) (block : List ℕ) : Type 0 where

@@ -8,7 +8,7 @@ use lib.Dec.{ltb, eqb}
 use borrow.Author.Tests.{ltb-false}
 use lib.ListN.{length, take, drop, replicate, length-replicate}
 use lib.Seq.{sets, sets-eq, take-at, drop-at}
-use Rattle.rules.specs.Basics.{Found, at, nothing, firstOf, keep, sortedBy}
+use Rattle.rules.specs.Basics.{Found, at, nothing, firstOf, keep}
 use Rattle.rules.specs.Charge.{Charge, endOf, isBegun, loadsOf, activeFor}
 use Rattle.rules.specs.Search.{earliest}
 use Rattle.rules.specs.Replan.{Proposal, starts, none, latest, byLines}

@@ -1,14 +1,14 @@
 -- Lines of a block, answered one after another, and what is kept of the last.
-use mathlib.Core.Path.{_≡_, refl, sym, ap, subst, _∙_}
+use mathlib.Core.Path.{_≡_, refl, sym, ap, _∙_}
 use mathlib.Core.Bool.{Bool, true, false}
 use mathlib.Core.List.{List, [], _∷_, _++_, append-nil}
 use mathlib.Core.Logic.{⊎-elim}
-use Prim.Native.Nat.{ℕ, suc, _+_, _-_, _≤_, _<_}
+use Prim.Native.Nat.{ℕ, _+_, _-_, _≤_, _<_}
 use native.Mathlib.Numerals.{add-one}
 use native.Mathlib.Omega.{arith}
 use borrow.Author.Tests.{lt-ltb, le-ltb}
 use lib.ListN.{length, take, drop, length-append, length-take, take-append-drop}
-use lib.Seq.{slice, sets, sets-eq, length-sets, take-at, take-all, take-take, take-length, length-take-le, length-slice}
+use lib.Seq.{slice, sets-eq, length-sets, take-at, take-all, take-take, take-length, length-take-le, length-slice}
 use Rattle.rules.specs.Calls.{State}
 use Rattle.rules.proofs.Ranges.{below-or-not}
 use Rattle.protocol.specs.Words.{split, PartEnd}
@@ -17,7 +17,7 @@ use Rattle.protocol.proofs.Splitting.{take-slice}
 use Rattle.station.specs.declared.Station.{Station}
 use Rattle.station.specs.View.{view, Valid}
 use Rattle.console.specs.Reply.{Told, Replied}
-use Rattle.console.specs.Session.{answered, Fed, first, enough, served, feed}
+use Rattle.console.specs.Session.{answered, first, enough, served, feed}
 use Rattle.console.specs.declared.turn.Wants.the-variants.{Bytes, Room as Space, Nothing}
 use Rattle.console.specs.declared.turn.Session.{Session}
 use Rattle.console.specs.declared.turn.Next.{Next}

@@ -1,13 +1,13 @@
 -- Input that comes in parts is answered as if it came at once.
-use mathlib.Core.Path.{_≡_, refl, sym, ap, subst, _∙_}
+use mathlib.Core.Path.{_≡_, refl, sym, ap, _∙_}
 use mathlib.Core.Bool.{Bool, true, false, cond}
 use mathlib.Core.List.{List, [], _∷_, _++_, append-assoc, append-nil}
 use mathlib.Core.Logic.{⊎-elim}
 use Prim.Native.Nat.{ℕ, zero, suc, _+_, _≤_, _<_}
 use native.Mathlib.Omega.{arith}
 use borrow.Author.Tests.{lt-ltb}
-use lib.Dec.{ltb, eqb}
-use lib.ListN.{length, take, length-append, length-take}
+use lib.Dec.{eqb}
+use lib.ListN.{length, take, length-append}
 use lib.Seq.{take-all, take-append-le, take-take, length-take-le}
 use Rattle.rules.specs.Calls.{State, fresh}
 use Rattle.rules.proofs.Ranges.{below-or-not}
@@ -41,7 +41,7 @@ enough-kept line more =
     rw (take-append-le 4097 (enough line) more (omega arith), take-append-le 4097 line more h, take-take 4097 4097 line (omega arith)))
     (below-or-not (length line) 4097)
 
-pub enough-same : (s : State) (line : List ℕ) → answered s (enough line) ≡ answered s line
+enough-same : (s : State) (line : List ℕ) → answered s (enough line) ≡ answered s line
 enough-same s line = rw (append-nil (enough line), append-nil line) at (enough-answered s line [])
 
 -- The lines of a text and of one after it

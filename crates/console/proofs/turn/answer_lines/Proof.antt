@@ -49,7 +49,7 @@ reply-line-requires c κs =
     (l .0 .valid, (omega (arith, l .1, room .numbers-fit), (omega (arith, l .2, room .list-fits), omega (arith, c .before .before .before .before .before .before .before .if1 .taken, l .3, room .out-fits))))
 
 add-t14 : tie.Need-add-t14 Inv-loop μ-loop
-add-t14 c = omega (arith, c .before .before .before .before .before .before .before .before .before .before .before .before .before .if2 .left, c .before .before .before .before .before .before .before .before .before .before .before .before .before .before .part-end .ensures .high, c .before .before .before .before .before .before .before .before .before .before .before .before .before .before .before .before .before .before .before .before .before .before .good .1 .0 .0)
+add-t14 c = omega (arith, c .before .before .before .before .before .before .before .before .before .before .before .before .before .if2 .left, c .before .before .before .before .before .before .before .before .before .before .before .before .before .before .part-end .ensures .low, c .before .before .before .before .before .before .before .before .before .before .before .before .before .before .part-end .ensures .high, c .before .before .before .before .before .before .before .before .before .before .before .before .before .before .before .before .before .before .before .before .before .before .good .1 .0 .0)
 
 loop-less : tie.Need-loop-less Inv-loop μ-loop
 loop-less c = omega (arith, c .before .before .before .before .before .before .before .before .before .before .before .before .before .if2 .left, c .before .before .before .before .before .before .before .before .before .before .before .before .before .before .part-end .ensures .low, c .before .before .before .before .before .before .before .before .before .before .before .before .before .before .part-end .ensures .high)

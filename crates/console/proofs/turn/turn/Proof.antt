@@ -64,7 +64,7 @@ kept-to-requires : tie.Need-kept-to-requires
 kept-to-requires c κs = omega (arith, c .before .before .before .before .before .before .before .before .answer-lines .ensures .0 .within, length-take-le (c .before .before .before .before .before .before .before .before .before .before .before .before .before .before .before .before .before .before .before .before .before .args .session .held + c .before .before .before .before .before .before .before .before .before .before .before .before .before .before .before .before .before .before .before .before .before .args .count) (c .before .before .before .before .before .before .before .before .before .before .before .before .before .before .before .before .before .before .before .before .before .args .block .now) (c .before .before .before .before .before .before .before .before .before .before .before .before .before .before .before .before .before .before .before .before .before .pre .1 .0))
 
 carry-requires-2 : tie.Need-carry-requires-2
-carry-requires-2 c κs = (c .before .kept-to .ensures .low, omega (arith, c .before .kept-to .ensures .high, c .before .before .before .before .before .before .before .before .before .before .before .before .before .before .before .before .before .before .before .before .before .before .before .pre .1 .0))
+carry-requires-2 c κs = (omega (arith, c .before .kept-to .ensures .low), omega (arith, c .before .kept-to .ensures .high, c .before .before .before .before .before .before .before .before .before .before .before .before .before .before .before .before .before .before .before .before .before .before .before .pre .1 .0))
 
 same-length-9 : tie.Need-same-length-9
 same-length-9 c = search needs
