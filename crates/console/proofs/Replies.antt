@@ -9,7 +9,7 @@ use borrow.Author.Tests.{ltb-false}
 use lib.ListN.{length, take, drop, replicate, length-replicate}
 use lib.Seq.{sets, sets-eq, take-at, drop-at}
 use Rattle.rules.specs.Basics.{Found, at, nothing, firstOf, keep}
-use Rattle.rules.specs.Charge.{Charge, endOf, isBegun, loadsOf, activeFor}
+use Rattle.rules.specs.Charge.{Charge, endOf, isBegun, loadsOf, drawOf}
 use Rattle.rules.specs.Search.{earliest}
 use Rattle.rules.specs.Replan.{Proposal, starts, none, latest, byLines}
 use Rattle.rules.specs.Judgement.{judged}
@@ -143,7 +143,7 @@ reports :
     → Reports c (pairsOf (step s (callOf c ss list) .answer)) (length list)
 unfolding ordering offering replanningLatest replanningLines enquiring
 reports s (Order line time due) ss list few =
-    refused-none (firstOf (refusals s (order line time due))) s [] (ordering s line time due) (ordered-none s (rules.newCharge s line time due) (earliest (limitsOf s) (s .clock) (loadsOf (s .charges)) line (activeFor (rules.newCharge s line time due 0))))
+    refused-none (firstOf (refusals s (order line time due))) s [] (ordering s line time due) (ordered-none s (rules.newCharge s line time due) (earliest (limitsOf s) (s .clock) (loadsOf (s .charges)) (drawOf (rules.newCharge s line time due 0))))
 reports s (Move target) ss list few = few-moved s target list few
 reports s Offer ss list few = refused-none (firstOf (refusals s (offer ss))) s ss (offering s ss) (tested-none s 0 (starts ss) ss)
 reports s ReplanLatest ss list few = tested-none s 0 (latest (limitsOf s) (s .clock) (s .charges)) []

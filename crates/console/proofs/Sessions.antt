@@ -9,7 +9,7 @@ use borrow.Author.Tests.{lt-ltb}
 use lib.Dec.{eqb}
 use lib.ListN.{length, take, length-append}
 use lib.Seq.{take-all, take-append-le, take-take, length-take-le}
-use Rattle.rules.specs.Calls.{State, fresh}
+use Rattle.rules.specs.Calls.{settings, State, fresh}
 use Rattle.rules.proofs.Ranges.{below-or-not}
 use Rattle.protocol.specs.Words.{joined, split}
 use Rattle.protocol.specs.Lines.{readLine, error}
@@ -220,6 +220,6 @@ finish-lines s [] h = absurd h
 finish-lines s (line ∷ lines) h = finish-served s line lines
 
 -- a whole input as one part
-pub console-fed : (input : List ℕ) → finish (feed (fresh 1 100) [] input) ≡ console input
+pub console-fed : (input : List ℕ) → finish (feed (fresh (settings 1 100)) [] input) ≡ console input
 unfolding console
-console-fed input = finish-lines (fresh 1 100) (split 10 input) (split-some 10 input)
+console-fed input = finish-lines (fresh (settings 1 100)) (split 10 input) (split-some 10 input)

@@ -21,7 +21,7 @@ told r = record { state = r .state; text = answerLine (r .answer) (r .list) }
 -- nothing to answer, an opening, a call, an error
 abbrev pub reply : State → Request → Told
 reply s nothing = record { state = s; text = [] }
-reply s (opening n c) = told (calls.opening n c)
+reply s (opening x) = told (calls.opening x)
 reply s (call c) = told (calls.step s c)
 reply s (error reason) = record { state = s; text = errorLine reason }
 
@@ -36,7 +36,7 @@ reportOf s (enquire ticket) = []
 
 abbrev pub lineReport : State → Request → List ℕ
 lineReport s nothing = []
-lineReport s (opening n c) = []
+lineReport s (opening x) = []
 lineReport s (call c) = reportOf s c
 lineReport s (error reason) = []
 

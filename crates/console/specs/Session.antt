@@ -2,7 +2,7 @@
 use Prim.Native.Nat.{ℕ}
 use mathlib.Core.List.{List, [], _∷_, _++_}
 use lib.ListN.{take}
-use Rattle.rules.specs.Calls.{State, fresh}
+use Rattle.rules.specs.Calls.{settings, State, fresh}
 use Rattle.protocol.specs.Words.{split}
 use Rattle.protocol.specs.Lines.{readLine}
 use Rattle.console.specs.Reply.{Told, reply}
@@ -24,7 +24,7 @@ session s (line ∷ lines) = saying (answered s line .text) (session (answered s
 -- The whole input. Its lines stand between line feeds (10), so a last one without a line feed counts, and after a last
 -- line feed comes an empty line. The station that stands at the beginning is the fresh one of 1, 100.
 unfoldable pub console : List ℕ → Told
-console input = session (fresh 1 100) (split 10 input)
+console input = session (fresh (settings 1 100)) (split 10 input)
 
 -- Input in parts
 

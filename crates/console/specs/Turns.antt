@@ -6,7 +6,7 @@ use mathlib.Core.List.{List, [], _∷_, _++_}
 use lib.Dec.{eqb}
 use lib.ListN.{length, take}
 use lib.Seq.{slice}
-use Rattle.rules.specs.Calls.{State, fresh}
+use Rattle.rules.specs.Calls.{settings, State, fresh}
 use Rattle.protocol.specs.Words.{split}
 use Rattle.station.specs.View.{view, Valid}
 use Rattle.console.specs.Session.{answered, console, first, served, feed}
@@ -109,7 +109,7 @@ pub record Turned (s : Session) (count : ℕ) (block : List ℕ) (r : Next) (nex
 -- it, whatever was read; reading keeps the bytes that are held.
 pub data Chain : List ℕ → List ℕ → Session → List ℕ → Type 0 where
   opened :
-      {s : Session} {block : List ℕ} → view (s .station) ≡ fresh 1 100 → s .held ≡ 0 → s .wants ≡ Bytes → Chain [] [] s block
+      {s : Session} {block : List ℕ} → view (s .station) ≡ fresh (settings 1 100) → s .held ≡ 0 → s .wants ≡ Bytes → Chain [] [] s block
   turned :
       {read written : List ℕ} {s : Session} {before : List ℕ} {count : ℕ} {block : List ℕ} {r : Next} {next out : List ℕ}
       → Chain read written s before
@@ -124,7 +124,7 @@ pub data Chain : List ℕ → List ℕ → Session → List ℕ → Type 0 where
 pub record AnswersAll (read written : List ℕ) (s : Session) (block : List ℕ) : Type 0 where
   pub so-far :
       s .wants ≡ Bytes
-      → feed (fresh 1 100) [] read ≡ record { state = view (s .station); kept = heldOf s block; text = written }
+      → feed (fresh (settings 1 100)) [] read ≡ record { state = view (s .station); kept = heldOf s block; text = written }
   pub whole : s .wants ≡ Nothing → console read ≡ record { state = view (s .station); text = written }
 
 abbrev pub EveryChain : Type 0

@@ -6,12 +6,14 @@ ghost use lib.Seq.{sets};
 ghost use Rattle.rules.specs.Calls.{opening, step};
 ghost use Rattle.protocol.specs.Lines.{readLine, lineValues, lentList, Lent};
 ghost use Rattle.station.specs.View.{view, Valid};
+ghost use Rattle.station.specs.Answers.{settingsOf};
 ghost use Rattle.station.specs.Applied.{callOf};
 ghost use Rattle.console.specs.Reply.{told, reportOf, lineReport, Replied, Lists};
 ghost use Rattle.console.specs.Session.{answered};
 use protocol::Line;
 use station::Station;
 use station::calls::Call;
+use station::open::Settings;
 
 // The next station, and the place after the answer.
 pub struct Reply {
@@ -19,11 +21,11 @@ pub struct Reply {
     pub at: usize,
 }
 
-fn reply_open(limit: u32, percent: u32, out: &mut [u8], at: usize) -> Reply
+fn reply_open(settings: Settings, out: &mut [u8], at: usize) -> Reply
     requires { ⌜ at + 96 ≤ length (now out) ⌝ }
-    ensures { λ r. ⌜ Replied (told (opening limit percent)) (r .station) (now (out .entry)) at (now (out .exit)) (r .at) ⌝ }
+    ensures { λ r. ⌜ Replied (told (opening (settingsOf settings))) (r .station) (now (out .entry)) at (now (out .exit)) (r .at) ⌝ }
 {
-    let opened = Station::open(limit, percent);
+    let opened = Station::open(settings);
     let station = opened.station;
     let answer = opened.answer;
     let next = protocol::print_opening(answer, out, at);
@@ -74,7 +76,7 @@ pub fn reply_line(
     let read = protocol::read_line(line, numbers);
     match read {
         Line::Nothing => Reply { station, at },
-        Line::Open { limit, percent } => reply_open(limit, percent, out, at),
+        Line::Open { settings } => reply_open(settings, out, at),
         Line::Call {
             call,
             starts,

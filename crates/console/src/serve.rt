@@ -7,6 +7,7 @@ use crate::turn::Session;
 use crate::turn::Wants;
 use crate::turn::turn;
 use station::Station;
+use station::open::Settings;
 
 // Reads once, and answers how many bytes came. A read that fails counts as the end of the input.
 fn read_some(part: &mut [u8]) -> usize
@@ -43,7 +44,10 @@ pub fn serve(block: &mut [u8], numbers: &mut [u32], list: &mut [u32], out: &mut 
     requires { ⌜ Room (now numbers) (now list) (now out) ⌝ }
     ensures { λ r. ⌜ Reached r (now (block .exit)) ⌝ }
 {
-    let opening = Station::open(1, 100);
+    let opening = Station::open(Settings {
+        limit: 1,
+        percent: 100,
+    });
     let station = opening.station;
     let mut session = Session {
         station,

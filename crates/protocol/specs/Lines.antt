@@ -6,7 +6,7 @@ use mathlib.Core.List.{List, [], _∷_}
 use lib.Dec.{ltb, eqb}
 use lib.ListN.{length, getD, take, replicate}
 use lib.Seq.{sets}
-use Rattle.rules.specs.Calls.{Call, order, move, offer, replanLatest, replanLines, enquire}
+use Rattle.rules.specs.Calls.{Settings, settings, Call, order, move, offer, replanLatest, replanLines, enquire}
 use Rattle.protocol.specs.Numbers.{numberOf}
 use Rattle.protocol.specs.Words.{split, named}
 use Rattle.protocol.specs.declared.number.Reason.{Reason}
@@ -15,6 +15,7 @@ use Rattle.protocol.specs.declared.number.Number.{Number}
 use Rattle.protocol.specs.declared.number.Number.the-variants.{Value, Wrong}
 use Rattle.protocol.specs.declared.word.CallName.{CallName}
 use Rattle.protocol.specs.declared.word.CallName.the-variants.{Open, Order, Move, Offer, Latest, Lines, Enquire, Unknown}
+use Rattle.station.specs.Answers.{settingsOf}
 use Rattle.station.specs.Applied as applied
 use Rattle.station.specs.declared.calls.Call as code-call
 use Rattle.station.specs.declared.calls.Call.the-variants as code
@@ -26,7 +27,7 @@ use Rattle.protocol.specs.declared.request.Numbers.the-variants as count
 -- What a line asks for: nothing, an opening, a call of the station that stands; or why it asks for none of these.
 pub data Request : Type 0 where
   nothing : Request
-  opening : ℕ → ℕ → Request
+  opening : Settings → Request
   call : Call → Request
   error : Reason → Request
 
@@ -95,7 +96,7 @@ lentList places = replicate (min places 4096) 4294967295
 
 -- the call of a name with its numbers
 abbrev pub callOf : CallName → List ℕ → Request
-callOf Open ns = opening (getD ns 0 0) (getD ns 1 0)
+callOf Open ns = opening (settings (getD ns 0 0) (getD ns 1 0))
 callOf Order ns = call (order (getD ns 0 0) (getD ns 1 0) (getD ns 2 0))
 callOf Move ns = call (move (getD ns 0 0) (lentList (getD ns 1 0)))
 callOf Offer ns = call (offer ns)
@@ -149,13 +150,13 @@ Enough least most (count.Wrong reason) = Unit {0}
 
 abbrev pub meaning : declared.Line → List ℕ → Request
 meaning line.Nothing list = nothing
-meaning (line.Open limit percent) list = opening limit percent
+meaning (line.Open x) list = opening (settingsOf x)
 meaning (line.Call c k places) list = call (applied.callOf c (take k list) (lentList places))
 meaning (line.Error reason) list = error reason
 
 -- the code's call of a name, from the numbers at the front of the list
 abbrev pub lineOf : CallName → ℕ → List ℕ → declared.Line
-lineOf Open k list = line.Open (getD list 0 0) (getD list 1 0)
+lineOf Open k list = line.Open (record { limit = getD list 0 0; percent = getD list 1 0 })
 lineOf Order k list = line.Call (code.Order (getD list 0 0) (getD list 1 0) (getD list 2 0)) 0 0
 lineOf Move k list = line.Call (code.Move (getD list 0 0)) 0 (getD list 1 0)
 lineOf Offer k list = line.Call code.Offer k 0
@@ -175,7 +176,7 @@ Lent (code.Enquire ticket) places = places ≡ 0
 
 abbrev pub Fits : declared.Line → Type 0
 Fits line.Nothing = Unit {0}
-Fits (line.Open limit percent) = Unit {0}
+Fits (line.Open x) = Unit {0}
 Fits (line.Call c k places) = (k ≤ 2048) × Lent c places
 Fits (line.Error reason) = Unit {0}
 

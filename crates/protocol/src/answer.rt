@@ -11,10 +11,10 @@ use crate::number::Reason;
 use crate::printer::print_field;
 use crate::printer::print_list;
 use crate::printer::print_text;
-use station::OpenAnswer;
 use station::calls::Answer;
 use station::clock::MoveAnswer;
 use station::enquiry::EnquiryAnswer;
+use station::open::OpenAnswer;
 use station::order::OrderAnswer;
 use station::plan::PlanAnswer;
 

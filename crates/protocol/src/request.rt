@@ -12,14 +12,14 @@ use crate::word::CallName;
 use crate::word::call_named;
 use crate::word::part_end;
 use station::calls::Call;
+use station::open::Settings;
 
 // What a line asks for. The starts of an offer stand at the front of the list that was lent for reading, and a clock move
 // asks for so many places to report to; any other call has none of either.
 pub enum Line {
     Nothing,
     Open {
-        limit: u32,
-        percent: u32,
+        settings: Settings,
     },
     Call {
         call: Call,
@@ -121,8 +121,10 @@ fn call_of(name: CallName, count: usize, numbers: &[u32]) -> Line
     let third = numbers[2];
     match name {
         CallName::Open => Line::Open {
-            limit: first,
-            percent: second,
+            settings: Settings {
+                limit: first,
+                percent: second,
+            },
         },
         CallName::Order => Line::Call {
             call: Call::Order {
