@@ -3,7 +3,7 @@
 use Prim.Native.Nat.{ℕ, zero, suc}
 use mathlib.Core.List.{List, [], _∷_, _++_, map}
 use lib.ListN.{replicate}
-use Rattle.rules.specs.Calls.{Answer, refused, ordered, moved, planned, waiting, charging, Call, order, move, offer, replanLatest, replanLines, enquire}
+use Rattle.rules.specs.Calls.{Answer, refused, opened, ordered, moved, planned, waiting, charging, Call, order, move, offer, replanLatest, replanLines, enquire}
 use Rattle.rules.specs.Entry.{gives, givesWith, Case, lentList, startsFrom, reports, opens, case}
 use Rattle.rules.specs.CasesAToL.{ordersH, givenH}
 
@@ -47,6 +47,8 @@ refusalsAtEdges =
     -- "N not 1 to 60", "c above 100"; a, d and h open at 1, 60, 100 and with a product of 100
     opens 0 100 (refused 1)
     ∷ opens 1 101 (refused 2)
+    -- D is rounded down: 30 × 5 / 100 is 1.5.
+    ∷ opens 5 30 (opened 1)
     -- The refusals of a station that stands, each with the next lower condition met too where it can be.
     ∷ case 1 100 1
     (order 0 0 2000001
