@@ -16,25 +16,25 @@ use Rattle.rules.proofs.Ranges.{below-or-not}
 use Rattle.profile.specs.Steps.{columns, lineIn}
 use Rattle.profile.proofs.Levels.{same-or-not}
 use Rattle.search.specs.Rooms.{hasRoom}
-use Rattle.search.specs.Caps.{places, capsOf, CapsShown, Level, Lowered, CapLowered, LoweredAt, Whole, CanCap}
+use Rattle.search.specs.Caps.{capPlaces, capsOf, CapsShown, Level, Lowered, CapLowered, LoweredAt, Whole, CanCap}
 use Rattle.search.specs.declared.caps.LineCaps.{LineCaps}
 use Rattle.search.proofs.Rooms.{room-before, room-after, room-cond}
 
-pub past-end : (a : List ℕ) (l k : ℕ) → length a ≡ columns * places → IsLine l → places ≤ k → lineIn a l k ≡ 0
+pub past-end : (a : List ℕ) (l k : ℕ) → length a ≡ columns * capPlaces → IsLine l → capPlaces ≤ k → lineIn a l k ≡ 0
 past-end a l k h hl j = List·getD-eq-default a 0 (omega (arith, hl .low))
 
 -- A cap in every minute
 
-pub level-none : (a : List ℕ) → length a ≡ columns * places → ((k : ℕ) → k < columns * places → getD a k 0 ≡ 0) → Level 0 a
+pub level-none : (a : List ℕ) → length a ≡ columns * capPlaces → ((k : ℕ) → k < columns * capPlaces → getD a k 0 ≡ 0) → Level 0 a
 level-none a h z =
     record {
       size = h;
       each = λ k.
-          ⊎-elim (λ b. z k b) (λ b. List·getD-eq-default a 0 (omega arith)) (below-or-not k (columns * places))
+          ⊎-elim (λ b. z k b) (λ b. List·getD-eq-default a 0 (omega arith)) (below-or-not k (columns * capPlaces))
           ∙ sym (ap (λ (b : Bool). cond b 4294967295 0) (le-ltb k 0 (omega arith)));
     }
 
-pub level-more : {a : List ℕ} {n : ℕ} → Level n a → n < columns * places → Level (n + 1) (set a n 4294967295)
+pub level-more : {a : List ℕ} {n : ℕ} → Level n a → n < columns * capPlaces → Level (n + 1) (set a n 4294967295)
 level-more {a} {n} w h =
     record {
       size = length-set a n 4294967295 ∙ w .size;
@@ -70,13 +70,13 @@ level-shown c n w =
 
 pub record Lowering (a b : List ℕ) (line v t k : ℕ) : Type 0 where
   pub low : v ≤ k
-  pub size : length b ≡ columns * places
+  pub size : length b ≡ columns * capPlaces
   pub before : (m : ℕ) → m < v → lineIn b line m ≡ lineIn a line m
   pub between : (m : ℕ) → v ≤ m → m < k → lineIn b line m ≡ min (lineIn a line m) t
   pub after : (m : ℕ) → k ≤ m → lineIn b line m ≡ lineIn a line m
   pub other : (l : ℕ) → IsLine l → (l ≡ line → ⊥) → (m : ℕ) → lineIn b l m ≡ lineIn a l m
 
-pub lowering-none : (a : List ℕ) (line v t : ℕ) → length a ≡ columns * places → Lowering a a line v t v
+pub lowering-none : (a : List ℕ) (line v t : ℕ) → length a ≡ columns * capPlaces → Lowering a a line v t v
 lowering-none a line v t h =
     record {
       low = omega arith;
@@ -88,7 +88,7 @@ lowering-none a line v t h =
     }
 
 pub lowering-more :
-    {a b : List ℕ} {line v t k x p : ℕ} → Lowering a b line v t k → IsLine line → k < places → p ≡ columns * k + line - 1 → x ≡ min (getD b p 0) t →
+    {a b : List ℕ} {line v t k x p : ℕ} → Lowering a b line v t k → IsLine line → k < capPlaces → p ≡ columns * k + line - 1 → x ≡ min (getD b p 0) t →
     Lowering a (set b p x) line v t (k + 1)
 lowering-more {a} {b} {line} {v} {t} {k} {x} {p} w hl h ep e =
     record {
@@ -112,7 +112,7 @@ lowering-more {a} {b} {line} {v} {t} {k} {x} {p} w hl h ep e =
     here : getD b p 0 ≡ getD a p 0
     here = rw ep (w .after k (omega arith))
 
-pub lowering-done : {a b : List ℕ} {line v t k : ℕ} → Lowering a b line v t k → IsLine line → length a ≡ columns * places → places ≤ k → Lowered a b line t v
+pub lowering-done : {a b : List ℕ} {line v t k : ℕ} → Lowering a b line v t k → IsLine line → length a ≡ columns * capPlaces → capPlaces ≤ k → Lowered a b line t v
 lowering-done {a} {b} {line} {v} {t} {k} w hl h j =
     record {
       size = w .size;

@@ -15,9 +15,9 @@ use Rattle.search.specs.Rooms.{hasRoom, Filled, Least}
 use Rattle.profile.specs.declared.Profile.{Profile}
 use Rattle.search.specs.declared.caps.LineCaps.{LineCaps}
 
--- so many places a line: a cap is at most 60
-abbrev pub places : ℕ
-places = 61
+-- so many places a line has among the caps: one for each count from 0 to the largest limit, 60
+abbrev pub capPlaces : ℕ
+capPlaces = 61
 
 -- caps from their parts
 abbrev pub capsIn : List ℕ → LineCaps
@@ -29,24 +29,24 @@ capsOf c l = lineIn (c .caps) l
 
 -- a minute with count k has room for one more load just where k is below the cap
 pub record CapsShown (c : LineCaps) (cap : Caps) : Type 0 where
-  pub size : length (c .caps) ≡ columns * places
+  pub size : length (c .caps) ≡ columns * capPlaces
   pub rooms : (l : ℕ) → IsLine l → (k t : ℕ) → hasRoom (capsOf c l k) t ≡ ltb k (cap l t)
 
 -- the first n numbers have no end
 pub record Level (n : ℕ) (a : List ℕ) : Type 0 where
-  pub size : length a ≡ columns * places
+  pub size : length a ≡ columns * capPlaces
   pub each : (k : ℕ) → getD a k 0 ≡ cond (ltb k n) 4294967295 0
 
 -- b is a with the cap of a line from t on at most v
 pub record Lowered (a b : List ℕ) (line t v : ℕ) : Type 0 where
-  pub size : length b ≡ columns * places
+  pub size : length b ≡ columns * capPlaces
   pub before : (k : ℕ) → k < v → lineIn b line k ≡ lineIn a line k
   pub after : (k : ℕ) → v ≤ k → lineIn b line k ≡ min (lineIn a line k) t
   pub other : (l : ℕ) → IsLine l → (l ≡ line → ⊥) → (k : ℕ) → lineIn b l k ≡ lineIn a l k
 
 -- d is c with the cap of a line from t on at most v: from there on a count of v or more has no room on it, and all else stays
 pub record CapLowered (c d : LineCaps) (line t v : ℕ) : Type 0 where
-  pub size : length (d .caps) ≡ columns * places
+  pub size : length (d .caps) ≡ columns * capPlaces
   pub gone : IsLine line → (k u : ℕ) → v ≤ k → t ≤ u → hasRoom (capsOf d line k) u ≡ false
   pub kept :
       (l : ℕ) → IsLine l → (k u : ℕ) → (l ≡ line → v ≤ k → t ≤ u → ⊥) → hasRoom (capsOf d l k) u ≡ hasRoom (capsOf c l k) u
@@ -57,7 +57,7 @@ LoweredAt c d i t v = (cap : Caps) → CapsShown c cap → CapsShown d (lowered 
 
 -- the list is whole
 abbrev pub Whole : LineCaps → Type 0
-Whole c = length (c .caps) ≡ columns * places
+Whole c = length (c .caps) ≡ columns * capPlaces
 
 -- the room of each step under a cap
 pub record RoomsUnder (counts caps : ℕ → ℕ) (n : ℕ) (rooms : List ℕ) : Type 0 where
@@ -74,7 +74,7 @@ pub record EarliestStartUnder (p : Profile) (c : LineCaps) (line time r : ℕ) :
 
 -- a cap is whole and never below 1
 pub record CanCap (c : LineCaps) (l : ℕ) : Type 0 where
-  pub size : length (c .caps) ≡ columns * places
+  pub size : length (c .caps) ≡ columns * capPlaces
   pub some : 4294967295 ≤ capsOf c l 0
 
 -- whatever loads p and caps c show, the answer is the rules' smallest start under the cap

@@ -6,21 +6,21 @@ ghost use Prim.Native.Nat.{_*_, _<_, _≤_};
 ghost use lib.ListN.{length};
 ghost use Rattle.profile.specs.Steps.{columns};
 ghost use Rattle.rules.specs.Load.{IsLine};
-ghost use Rattle.search.specs.Caps.{places, CapsShown, Level, Lowered, CapLowered, Whole};
+ghost use Rattle.search.specs.Caps.{capPlaces, CapsShown, Level, Lowered, CapLowered, Whole};
 
-// So many places a line: a cap is at most 60.
-pub const PLACES: usize = 61;
+// So many places a line has among the caps, one for each count from 0 to the largest limit, 60.
+pub const CAP_PLACES: usize = 61;
 
 pub struct LineCaps {
-    pub caps: [u32; COLUMNS * PLACES],
+    pub caps: [u32; COLUMNS * CAP_PLACES],
 }
 
 // A cap of n on each line in every minute.
-pub fn level(n: usize) -> [u32; COLUMNS * PLACES]
-    requires { ⌜ n ≤ places ⌝ }
+pub fn level(n: usize) -> [u32; COLUMNS * CAP_PLACES]
+    requires { ⌜ n ≤ capPlaces ⌝ }
     ensures { λ r. ⌜ Level (columns * n) r ⌝ }
 {
-    let mut caps = [0u32; COLUMNS * PLACES];
+    let mut caps = [0u32; COLUMNS * CAP_PLACES];
     let mut k = 0;
     while k < COLUMNS * n {
         caps[k] = 4294967295;
@@ -30,12 +30,12 @@ pub fn level(n: usize) -> [u32; COLUMNS * PLACES]
 }
 
 // From t on the cap of the line becomes the smaller of itself and v.
-pub fn lower(caps: &mut [u32; COLUMNS * PLACES], line: usize, v: usize, t: u32)
-    requires { ⌜ (length (now caps) ≡ columns * places) × IsLine line ⌝ }
+pub fn lower(caps: &mut [u32; COLUMNS * CAP_PLACES], line: usize, v: usize, t: u32)
+    requires { ⌜ (length (now caps) ≡ columns * capPlaces) × IsLine line ⌝ }
     ensures { λ r. ⌜ Lowered (now (caps .entry)) (now (caps .exit)) line t v ⌝ }
 {
     let mut k = v;
-    while k < PLACES {
+    while k < CAP_PLACES {
         let p = COLUMNS * k + line - 1;
         caps[p] = smaller(caps[p], t);
         k += 1;
@@ -45,7 +45,7 @@ pub fn lower(caps: &mut [u32; COLUMNS * PLACES], line: usize, v: usize, t: u32)
 impl LineCaps {
     // Each line's cap is the limit in every minute.
     pub fn new(limit: u32) -> LineCaps
-        requires { ⌜ limit ≤ places ⌝ }
+        requires { ⌜ limit ≤ capPlaces ⌝ }
         ensures { λ r. ⌜ CapsShown r (λ l t. limit) ⌝ }
     {
         let n = limit as usize;

@@ -1,5 +1,5 @@
 // The room that each step has for one more load.
-use crate::caps::PLACES;
+use crate::caps::CAP_PLACES;
 use profile::COLUMNS;
 use profile::STEPS;
 use profile::counts::count_of;
@@ -13,7 +13,7 @@ ghost use Rattle.profile.specs.Steps.{mostSteps, columns, lineIn};
 ghost use Rattle.profile.specs.Shows.{ofLines};
 ghost use lib.ListN.{length};
 ghost use Rattle.search.specs.Rooms.{RoomsWithin, SmallSteps};
-ghost use Rattle.search.specs.Caps.{places, RoomsUnder};
+ghost use Rattle.search.specs.Caps.{capPlaces, RoomsUnder};
 
 // What one load of a line adds to the count of line l.
 pub fn share_of(line: u32, l: u32) -> u32
@@ -71,12 +71,12 @@ pub fn rooms_within<'a>(
 }
 
 // Up to which minute a count has room for one more load under a cap.
-pub fn under<'a>(caps: &'a [u32; COLUMNS * PLACES], line: usize, count: u32) -> u32
-    requires { ⌜ (length (now caps) ≡ columns * places) × IsLine line ⌝ }
+pub fn under<'a>(caps: &'a [u32; COLUMNS * CAP_PLACES], line: usize, count: u32) -> u32
+    requires { ⌜ (length (now caps) ≡ columns * capPlaces) × IsLine line ⌝ }
     ensures { λ r. ⌜ r ≡ lineIn (now (caps .entry)) line count ⌝ }
 {
     let k = count as usize;
-    if k < PLACES {
+    if k < CAP_PLACES {
         return caps[COLUMNS * k + line - 1];
     }
     0
@@ -86,10 +86,10 @@ pub fn under<'a>(caps: &'a [u32; COLUMNS * PLACES], line: usize, count: u32) -> 
 pub fn rooms_under<'a>(
     counts: &'a [u32; COLUMNS * STEPS],
     line: usize,
-    caps: &'a [u32; COLUMNS * PLACES],
+    caps: &'a [u32; COLUMNS * CAP_PLACES],
     n: usize,
 ) -> [u32; STEPS]
-    requires { ⌜ (n ≤ mostSteps) × IsLine line × (length (now caps) ≡ columns * places) ⌝ }
+    requires { ⌜ (n ≤ mostSteps) × IsLine line × (length (now caps) ≡ columns * capPlaces) ⌝ }
     ensures { λ r. ⌜ RoomsUnder (lineIn (now (counts .entry)) line) (lineIn (now (caps .entry)) line) n r ⌝ }
 {
     let mut rooms = [0u32; STEPS];

@@ -1,5 +1,5 @@
 // The smallest start of one more load.
-use crate::caps::PLACES;
+use crate::caps::CAP_PLACES;
 use crate::room::rooms_under;
 use crate::room::rooms_within;
 use crate::room::sound;
@@ -91,7 +91,7 @@ pub fn earliest_under<'a>(
     at: &'a [u32; STEPS],
     counts: &'a [u32; COLUMNS * STEPS],
     n: usize,
-    caps: &'a [u32; COLUMNS * PLACES],
+    caps: &'a [u32; COLUMNS * CAP_PLACES],
     line: u32,
     time: u32,
 ) -> u32

@@ -4,7 +4,7 @@ use mathlib.Core.Path.{_≡_, refl, subst}
 use native.Mathlib.Omega.{arith}
 use lib.ListN.{getD-replicate}
 use Rattle.profile.specs.Steps.{columns}
-use Rattle.search.specs.Caps.{places, Level}
+use Rattle.search.specs.Caps.{capPlaces, Level}
 use Rattle.search.proofs.Lowerings.{level-none, level-more}
 use Rattle.search.proofs.caps.level.Statement.{statement}
 use Rattle.search.proofs.caps.level.Tie as tie
@@ -16,7 +16,7 @@ abbrev μ-loop : tie.MeasureT-loop
 μ-loop n caps₀ k₀ caps k = columns * n - k
 
 loop-holds : tie.Need-loop-holds Inv-loop μ-loop
-loop-holds c = (omega arith, level-none _ refl (λ k h. getD-replicate (columns * places) k 0 0 h))
+loop-holds c = (omega arith, level-none _ refl (λ k h. getD-replicate (columns * capPlaces) k 0 0 h))
 
 mul-loop : tie.Need-mul-loop Inv-loop μ-loop
 mul-loop c = omega arith

@@ -3,7 +3,7 @@ use Prim.Native.Nat.{_-_}
 use mathlib.Core.Path.{refl}
 use native.Mathlib.Omega.{arith}
 use borrow.Author.Needs.{needs}
-use Rattle.search.specs.Caps.{places}
+use Rattle.search.specs.Caps.{capPlaces}
 use Rattle.search.proofs.Lowerings.{Lowering, lowering-none, lowering-more, lowering-done}
 use Rattle.search.proofs.caps.lower.Statement.{statement}
 use Rattle.search.proofs.caps.lower.Tie as tie
@@ -12,7 +12,7 @@ abbrev Inv-loop : tie.InvT-loop
 Inv-loop caps₀ line v t k₀ caps k = Lowering caps₀ caps line v t k
 
 abbrev μ-loop : tie.MeasureT-loop
-μ-loop caps₀ line v t k₀ caps k = places - k
+μ-loop caps₀ line v t k₀ caps k = capPlaces - k
 
 loop-holds : tie.Need-loop-holds Inv-loop μ-loop
 loop-holds c = lowering-none _ _ _ _ (c .pre .0)
