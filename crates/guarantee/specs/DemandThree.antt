@@ -1,4 +1,4 @@
--- Demand 3 as one claim about the list of calls (document 01, "Demand 3 is a single claim about the list of calls").
+-- Demand 3 as one claim about the list of calls (docs/RULES.md, section 6).
 use mathlib.Core.Path.{_≡_}
 use Prim.Native.Nat.{ℕ, _+_, _≤_, _<_}
 use mathlib.Core.Bool.{true}

@@ -1,5 +1,5 @@
 -- What is known after a list of calls, read off the calls, their answers and the lists afterwards
--- (document 01, "The words of demand 3 go by the calls").
+-- (docs/RULES.md, section 6).
 use mathlib.Core.Path.{_≡_}
 use Prim.Native.Nat.{ℕ, zero, suc, _+_}
 use mathlib.Core.Bool.{Bool, true, false, cond}

@@ -1,4 +1,4 @@
--- Cases a to l of document 01, and those of our own, as one theorem over one array: the checker computes every answer.
+-- Cases a to l (docs/RULES.md, section 7), and those of our own, as one theorem over one array: the checker computes every answer.
 use mathlib.Core.Path.{_≡_, refl}
 use mathlib.Core.List.{List, [], _∷_, _++_, map}
 use Rattle.rules.specs.Load.{limited, balanced, sound}

@@ -1,4 +1,4 @@
--- The station, its calls, their refusals and answers (document 01, "The calls" and the two tables of refusals).
+-- The station, its calls, their refusals and answers (docs/RULES.md, sections 2 and 3).
 use Prim.Native.Nat.{ℕ, zero, suc, _+_, _-_, _*_, _/_}
 use mathlib.Core.Bool.{Bool, cond, not, _&&_, _||_}
 use mathlib.Core.List.{List, [], _∷_, _++_}

@@ -1,4 +1,4 @@
--- Cases a to l of document 01, each with the results that the document gives.
+-- Cases a to l (docs/RULES.md, section 7), each with the results that stand there.
 use Prim.Native.Nat.{ℕ}
 use mathlib.Core.List.{List, [], _∷_, _++_, map}
 use Rattle.rules.specs.Calls.{settings, refused, opened, ordered, moved, planned, waiting, charging, Call, order, move, offer, replanLatest, replanLines, enquire}

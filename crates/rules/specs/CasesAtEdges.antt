@@ -1,4 +1,4 @@
--- Cases of our own, each worked out by hand: the errors of document 01's last section that cases a to l let through, and
+-- Cases of our own, each worked out by hand: the errors at the end of docs/RULES.md that cases a to l let through, and
 -- the edges of its conditions, so that a definition that differs at an edge alone gives something else here.
 use Prim.Native.Nat.{ℕ, zero, suc}
 use mathlib.Core.List.{List, [], _∷_, _++_, map}

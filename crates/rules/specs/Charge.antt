@@ -1,4 +1,4 @@
--- Charges: what they draw, begun and waiting, finished, last end, lateness (document 01, "The yard and its words").
+-- Charges: what they draw, begun and waiting, finished, last end, lateness (docs/RULES.md, section 1).
 use Prim.Native.Nat.{ℕ, _+_, _-_, max}
 use mathlib.Core.Bool.{Bool, not, _&&_, _||_}
 use mathlib.Core.List.{List, [], _∷_, map}

@@ -1,4 +1,4 @@
--- Loads, the count of a line in a minute, and soundness (document 01, "The yard and its words").
+-- Loads, the count of a line in a minute, and soundness (docs/RULES.md, section 1).
 use Prim.Native.Nat.{ℕ, _+_, _-_, max, _≤_}
 use mathlib.Core.Bool.{Bool, cond, _&&_}
 use mathlib.Core.List.{List, [], _∷_}

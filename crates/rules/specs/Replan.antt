@@ -1,4 +1,4 @@
--- Both replanners (document 01, "Replan by latest start" and "Replan by lines").
+-- Both replanners (docs/RULES.md, sections 4 and 5).
 use Prim.Native.Nat.{ℕ, zero, suc, _+_, _-_, min}
 use mathlib.Core.Bool.{Bool, cond, _&&_}
 use mathlib.Core.List.{List, [], _∷_, _++_, map}

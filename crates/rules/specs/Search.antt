@@ -1,4 +1,4 @@
--- The smallest start of a charge, and the first unbalanced minute (document 01, "Order" and both replans).
+-- The smallest start of a charge, and the first unbalanced minute (docs/RULES.md, sections 3 to 5).
 -- Past the last end of a plan every count is 0, so each search ends there; proofs/Searches.antt shows that it misses nothing.
 use Prim.Native.Nat.{ℕ, suc, _-_}
 use mathlib.Core.Bool.{not}
