@@ -26,13 +26,13 @@ use Rattle.console.proofs.Sessions.{finish, first-first, feed-append, c
 record Known (read written : List ℕ) (s : Session) (block : List ℕ) : Type 0 where
   pub fed : over (s .wants) ≡ false → feed (fresh (settings 1 100)) [] read ≡ first written (feed (view (s .station)) (heldOf s block) [])
   pub whole : over (s .wants) ≡ true → console read ≡ record { state = view (s .station); text = written }
-  pub line : s .wants ≡ Bytes → (split 10 (heldOf s block) ≡ heldOf s block ∷ []) × (s .held ≤ 4097)
+  pub request : s .wants ≡ Bytes → (split 10 (heldOf s block) ≡ heldOf s block ∷ []) × (s .held ≤ 4097)
 
 none-whole : split 10 [] ≡ [] ∷ []
 unfolding split
 none-whole = refl
 
--- a line that goes on, with nothing after it
+-- a request that goes on, with nothing after it
 waits : (s : State) (kept : List ℕ) → split 10 kept ≡ kept ∷ [] → length kept ≤ 4097 → feed s kept [] ≡ record { state = s; kept = kept; text = [] }
 unfolding served
 waits s kept w h = rw (append-nil kept, w, take-all 4097 kept h)
@@ -74,10 +74,10 @@ ended-so Nothing count p q = not-both refl p
 slice-none : (from count : ℕ) (l : List ℕ) → count ≡ 0 → slice from (from + count) l ≡ []
 slice-none from count l e = let f : from + count ≡ from = omega arith in rw f (slice-empty from l)
 
-standing-line :
+standing-request :
     (w : Wants) (kept : List ℕ) (held there : ℕ) → Standing w kept held there → w ≡ Bytes
     → (split 10 kept ≡ kept ∷ []) × (held ≤ 4097)
-standing-line w kept held there h e = rw e at h
+standing-request w kept held there h e = rw e at h
 
 module _ {read written : List ℕ} {s : Session} {before : List ℕ} {count : ℕ} {block : List ℕ} {r : Next} {next out : List ℕ}
     (k : Known read written s before) (g : over (s .wants) ≡ false) (same : heldOf s block ≡ heldOf s before)
@@ -92,10 +92,10 @@ module _ {read written : List ℕ} {s : Session} {before : List ℕ} {count : �
             λ e. fed-more read (readOf s count block) written (view (s .station)) (heldOf s block) (take (r .at) out) (feed (view (r .session .station)) (heldOf (r .session) next) []) known-fed (t .goes-on (sym (t .over-so) ∙ e));
         whole =
             λ e. let z = ended-so (s .wants) count g (sym (t .over-so) ∙ e) in
-            let l = k .line (z .0) in
+            let l = k .request (z .0) in
             ap console (ap (λ (x : List ℕ). read ++ x) (slice-none (s .held) count block (z .1)) ∙ append-nil read)
             ∙ fed-last read written (view (s .station)) (heldOf s block) (record { state = view (r .session .station); text = take (r .at) out }) known-fed (rw same (l .0)) (omega (arith, length-take (s .held) block, l .1)) (t .has-ended (sym (t .over-so) ∙ e));
-        line = standing-line (r .session .wants) (heldOf (r .session) next) (r .session .held) (s .held + count) (t .standing);
+        request = standing-request (r .session .wants) (heldOf (r .session) next) (r .session .held) (s .held + count) (t .standing);
       }
 
 known : {read written : List ℕ} {s : Session} {block : List ℕ} → Chain read written s block → Known read written s block
@@ -106,7 +106,7 @@ known (opened {s} {block} v h w) = first-known s block v h w
         record {
           fed = λ _. rw (v, h);
           whole = λ e. not-both e (ap over w);
-          line = λ _. (rw h none-whole, omega arith);
+          request = λ _. (rw h none-whole, omega arith);
         }
 known (turned c g same t) = known-next (known c) g same t
 
@@ -115,7 +115,7 @@ every-chain read written s block c =
     let k = known c in
     record {
       so-far =
-          λ e. let l = k .line e in
+          λ e. let l = k .request e in
           k .fed (ap over e)
           ∙ ap (first written) (waits (view (s .station)) (heldOf s block) (l .0) (omega (arith, length-take (s .held) block, l .1)))
           ∙ ap (λ (x : List ℕ). record { state = view (s .station); kept = heldOf s block; text = x }) (append-nil written);

@@ -1,4 +1,4 @@
--- From what a call gives, and what is printed, to what a line is answered; and how much a call reports.
+-- From what a call gives, and what is printed, to what a request is answered; and how much a call reports.
 use mathlib.Core.Path.{_≡_, refl, sym, ap, subst, _∙_}
 use mathlib.Core.Bool.{Bool, true, false, cond}
 use mathlib.Core.List.{List, [], _∷_, _++_}
@@ -11,7 +11,8 @@ use lib.Seq.{sets, sets-eq, take-at, drop-at}
 use Rattle.rules.specs.Basics.{Found, at, nothing, firstOf, keep}
 use Rattle.rules.specs.Charge.{Charge, endOf, isBegun, loadsOf, drawOf}
 use Rattle.rules.specs.Search.{earliest}
-use Rattle.rules.specs.Replan.{Proposal, starts, none, latest, byLines}
+use Rattle.rules.specs.Replan as replan
+use Rattle.rules.specs.Replan.{Proposal, latest, byLines}
 use Rattle.rules.specs.Judgement.{judged}
 use Rattle.rules.specs.Calls as rules
 use Rattle.rules.specs.Calls.{
@@ -50,41 +51,41 @@ use Rattle.rules.specs.Calls.{
 }
 use Rattle.rules.proofs.Lists.{length-keep}
 use Rattle.charges.proofs.Sorting.{length-sorted}
-use Rattle.protocol.specs.Answers.{Printed, answerLine, pairsOf}
-use Rattle.protocol.specs.Lines.{readLine, meaning, lentList, Lent, Asks}
-use Rattle.protocol.specs.declared.request.Line.{Line}
+use Rattle.protocol.specs.Answers.{Printed, answerText, pairsOf}
+use Rattle.protocol.specs.Requests.{readRequest, meaning, lentList, Lent, Asks}
+use Rattle.protocol.specs.declared.request.Request.{Request}
 use Rattle.station.specs.declared.Station.{Station}
 use Rattle.station.specs.declared.calls.Call.{Call}
 use Rattle.station.specs.declared.calls.Call.the-variants.{Order, Move, Offer, ReplanLatest, ReplanLines, Enquire}
 use Rattle.station.specs.declared.calls.Answer as code
 use Rattle.station.specs.View.{view, Valid}
 use Rattle.station.specs.Answers.{Gives}
-use Rattle.station.specs.Applied.{callOf, listAfter, answerOf, Applies}
-use Rattle.console.specs.Reply.{told, reply, reportOf, lineReport, Replied, Lists}
+use Rattle.station.specs.Applied.{callOf, Lends, none, starts, report, lends, lentOf, answerOf, Applies}
+use Rattle.console.specs.Reply.{told, reply, reportOf, requestReport, Replied, Lists}
 use Rattle.console.specs.Session.{answered}
 
 pub replied :
     {r : Result} {a : Answer} {s : Station} {list before : List ℕ} {at : ℕ} {after : List ℕ} {next : ℕ}
-    → Gives r a s list → Printed (answerLine a list) before at after next → Replied (told r) s before at after next
+    → Gives r a s list → Printed (answerText a list) before at after next → Replied (told r) s before at after next
 replied {r} {a} {s} {list} {before} {at} {after} {next} g p =
     record {
       state-is = ap (λ (x : Result). x .state) (g .result);
       valid = g .valid;
-      printed = subst (λ (x : Result). Printed (answerLine (x .answer) (x .list)) before at after next) (g .result) p;
+      printed = subst (λ (x : Result). Printed (answerText (x .answer) (x .list)) before at after next) (g .result) p;
     }
 
 -- Only a clock move reports
 
 -- the lent list is printed where something is reported, and nowhere else
-pub line-same : (a : Answer) (list other : List ℕ) → pairsOf a ≡ 0 → answerLine a list ≡ answerLine a other
-unfolding answerLine
-line-same (refused k) list other e = refl
-line-same (opened d) list other e = refl
-line-same (ordered t u) list other e = refl
-line-same (moved k d) list other e = rw e
-line-same (planned c b a k) list other e = refl
-line-same (waiting u) list other e = refl
-line-same (charging u v) list other e = refl
+pub text-same : (a : Answer) (list other : List ℕ) → pairsOf a ≡ 0 → answerText a list ≡ answerText a other
+unfolding answerText
+text-same (refused k) list other e = refl
+text-same (opened d) list other e = refl
+text-same (ordered t u) list other e = refl
+text-same (moved k d) list other e = rw e
+text-same (planned c b a k) list other e = refl
+text-same (waiting u) list other e = refl
+text-same (charging u v) list other e = refl
 
 refused-none : (i : ℕ) (s : State) (list : List ℕ) (r : Result) → pairsOf (r .answer) ≡ 0 → pairsOf (answering i s list r .answer) ≡ 0
 refused-none zero s list r e = e
@@ -99,8 +100,8 @@ decided-none s rounds ss list zero = refl
 decided-none s rounds ss list (suc k) = refl
 
 tested-none : (s : State) (rounds : ℕ) (p : Proposal) (list : List ℕ) → pairsOf (tested s rounds p list .answer) ≡ 0
-tested-none s rounds (starts ss) list = decided-none s rounds ss list (judged (limitsOf s) (s .clock) (s .charges) ss)
-tested-none s rounds (none cause) list = refl
+tested-none s rounds (replan.starts ss) list = decided-none s rounds ss list (judged (limitsOf s) (s .clock) (s .charges) ss)
+tested-none s rounds (replan.none cause) list = refl
 
 enquired-none : (clock : ℕ) (cs : List Charge) (ticket : ℕ) → pairsOf (rules.told clock cs ticket) ≡ 0
 enquired-none clock [] ticket = refl
@@ -130,68 +131,59 @@ few-moved s target list few = go (ltb 1000000 target) refl (ltb (length list) 36
         rw (p, q, u) (omega (arith, length-sorted startBefore (keep (isPassed (s .clock) target) (s .charges)), length-keep (isPassed (s .clock) target) (s .charges), few, ltb-false (length list) 360 q))
 
 -- what a call reports: nothing, but for a clock move
-abbrev Reports : Call → ℕ → ℕ → Type 0
-Reports (Order line time due) n places = n ≡ 0
-Reports (Move target) n places = (n ≤ 180) × (2 * n ≤ places)
-Reports Offer n places = n ≡ 0
-Reports ReplanLatest n places = n ≡ 0
-Reports (ReplanLines allowance) n places = n ≡ 0
-Reports (Enquire ticket) n places = n ≡ 0
+abbrev Reports : Lends → ℕ → ℕ → Type 0
+Reports none n places = n ≡ 0
+Reports starts n places = n ≡ 0
+Reports report n places = (n ≤ 180) × (2 * n ≤ places)
 
 reports :
     (s : State) (c : Call) (ss list : List ℕ) → length (s .charges) ≤ 180
-    → Reports c (pairsOf (step s (callOf c ss list) .answer)) (length list)
+    → Reports (lends c) (pairsOf (step s (callOf c ss list) .answer)) (length list)
 unfolding ordering offering replanningLatest replanningLines enquiring
 reports s (Order line time due) ss list few =
     refused-none (firstOf (refusals s (order line time due))) s [] (ordering s line time due) (ordered-none s (rules.newCharge s line time due) (earliest (limitsOf s) (s .clock) (loadsOf (s .charges)) (drawOf (rules.newCharge s line time due 0))))
 reports s (Move target) ss list few = few-moved s target list few
-reports s Offer ss list few = refused-none (firstOf (refusals s (offer ss))) s ss (offering s ss) (tested-none s 0 (starts ss) ss)
+reports s Offer ss list few = refused-none (firstOf (refusals s (offer ss))) s ss (offering s ss) (tested-none s 0 (replan.starts ss) ss)
 reports s ReplanLatest ss list few = tested-none s 0 (latest (limitsOf s) (s .clock) (s .charges)) []
 reports s (ReplanLines allowance) ss list few =
     refused-none (firstOf (refusals s (replanLines allowance))) s [] (replanningLines s allowance) (tested-none s (byLines (limitsOf s) (s .clock) allowance (s .charges) .rounds) (byLines (limitsOf s) (s .clock) allowance (s .charges) .proposal) [])
 reports s (Enquire ticket) ss list few =
     refused-none (firstOf (refusals s (enquire ticket))) s [] (enquiring s ticket) (enquired-none (s .clock) (s .charges) ticket)
 
-few-reports : (c : Call) (n places : ℕ) → Reports c n places → (n ≤ 180) × (2 * n ≤ places)
-few-reports (Order line time due) n places h = omega arith
-few-reports (Move target) n places h = h
-few-reports Offer n places h = omega arith
-few-reports ReplanLatest n places h = omega arith
-few-reports (ReplanLines allowance) n places h = omega arith
-few-reports (Enquire ticket) n places h = omega arith
+few-reports : (l : Lends) (n places : ℕ) → Reports l n places → (n ≤ 180) × (2 * n ≤ places)
+few-reports none n places h = omega arith
+few-reports starts n places h = omega arith
+few-reports report n places h = h
 
-line-after :
-    (c : Call) (a : Answer) (ss list : List ℕ) (places : ℕ) → Reports c (pairsOf a) places
-    → answerLine a list ≡ answerLine a (listAfter c ss list)
-line-after (Order line time due) a ss list places h = line-same a list [] h
-line-after (Move target) a ss list places h = refl
-line-after Offer a ss list places h = line-same a list ss h
-line-after ReplanLatest a ss list places h = line-same a list [] h
-line-after (ReplanLines allowance) a ss list places h = line-same a list [] h
-line-after (Enquire ticket) a ss list places h = line-same a list [] h
+text-after :
+    (l : Lends) (a : Answer) (ss list : List ℕ) (places : ℕ) → Reports l (pairsOf a) places
+    → answerText a list ≡ answerText a (lentOf l ss list)
+text-after none a ss list places h = text-same a list [] h
+text-after starts a ss list places h = text-same a list ss h
+text-after report a ss list places h = refl
 
 module _ {s : Station} (c : Call) {ss list after : List ℕ} {a : code.Answer} {next : Station} (v : Valid s)
     (p : Applies (view s) c ss list after a next) where
-  reports-so : Reports c (pairsOf (answerOf a)) (length list)
+  reports-so : Reports (lends c) (pairsOf (answerOf a)) (length list)
   reports-so =
-      subst (λ (x : Result). Reports c (pairsOf (x .answer)) (length list)) (sym (p .gives .result))
+      subst (λ (x : Result). Reports (lends c) (pairsOf (x .answer)) (length list)) (sym (p .gives .result))
       (reports (view s) c ss list (v .state .few))
 
   pub few-told : (pairsOf (answerOf a) ≤ 180) × (2 * pairsOf (answerOf a) ≤ length list)
-  few-told = few-reports c (pairsOf (answerOf a)) (length list) reports-so
+  few-told = few-reports (lends c) (pairsOf (answerOf a)) (length list) reports-so
 
   -- a call is answered by what it gives, printed with the list that was lent for its report
   pub call-replied :
-      {before : List ℕ} {at : ℕ} {out : List ℕ} {end : ℕ} → Printed (answerLine (answerOf a) after) before at out end
+      {before : List ℕ} {at : ℕ} {out : List ℕ} {end : ℕ} → Printed (answerText (answerOf a) after) before at out end
       → Replied (told (step (view s) (callOf c ss list))) next before at out end
   call-replied {before} {at} {out} {end} q =
       replied (p .gives)
-      (subst (λ (x : List ℕ). Printed x before at out end) (line-after c (answerOf a) ss after (length list) reports-so) q)
+      (subst (λ (x : List ℕ). Printed x before at out end) (text-after (lends c) (answerOf a) ss after (length list) reports-so) q)
 
 -- The lists that are lent
 
 after-report :
-    (s : State) (c : Call) (ss after : List ℕ) (places : ℕ) {a : code.Answer} {next : Station} → Lent c places
+    (s : State) (c : Call) (ss after : List ℕ) (places : ℕ) {a : code.Answer} {next : Station} → Lent (lends c) places
     → Applies s c ss (lentList places) after a next → after ≡ reportOf s (callOf c ss (lentList places))
 after-report s (Order line time due) ss after places e p = p .stays ∙ ap lentList e
 after-report s (Move target) ss after places e p = ap (λ (x : Result). x .list) (p .gives .result)
@@ -203,7 +195,7 @@ after-report s (Enquire ticket) ss after places e p = p .stays ∙ ap lentList e
 -- the lent front of the list as the call leaves it, and the rest of it as it was
 pub list-left :
     {s : State} (c : Call) {ss after : List ℕ} (places lent : ℕ) (list filled : List ℕ) {a : code.Answer} {next : Station}
-    → Lent c places → filled ≡ replicate lent 4294967295 ++ drop lent list → length after ≡ lent → lent ≤ length list
+    → Lent (lends c) places → filled ≡ replicate lent 4294967295 ++ drop lent list → length after ≡ lent → lent ≤ length list
     → Applies s c ss (lentList places) after a next
     → after ++ drop lent filled ≡ sets list 0 (reportOf s (callOf c ss (lentList places)))
 list-left {s} c {ss} {after} places lent list filled e f l h p =
@@ -215,18 +207,18 @@ list-left {s} c {ss} {after} places lent list filled e f l h p =
     ∙ sym (put ∙ ap (λ (x : ℕ). after ++ drop x list) n)
     ∙ ap (sets list 0) (after-report s c ss after places e p)
 
--- a line that was read so is answered so
-module _ (s : State) (line : List ℕ) {values numbers list : List ℕ} {l x : Line}
-    (a : Asks (readLine line) values numbers list l) (e : l ≡ x) where
+-- a request that was read so is answered so
+module _ (s : State) (text : List ℕ) {values numbers list : List ℕ} {l x : Request}
+    (a : Asks (readRequest text) values numbers list l) (e : l ≡ x) where
   pub as-read :
       {station : Station} {before : List ℕ} {at : ℕ} {after : List ℕ} {next : ℕ}
-      → Replied (reply s (meaning x list)) station before at after next → Replied (answered s line) station before at after next
+      → Replied (reply s (meaning x list)) station before at after next → Replied (answered s text) station before at after next
   unfolding answered
   as-read h = rw (← (a .request-is), e) h
 
   pub as-listed :
-      {report after : List ℕ} → after ≡ sets report 0 (lineReport s (meaning x list))
-      → Lists values (lineReport s (readLine line)) numbers list report after
+      {report after : List ℕ} → after ≡ sets report 0 (requestReport s (meaning x list))
+      → Lists values (requestReport s (readRequest text)) numbers list report after
   as-listed h = record { numbers-are = a .list-is; list-is = rw (← (a .request-is), e) h }
 
 pub lent-front :

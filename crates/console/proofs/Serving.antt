@@ -1,4 +1,4 @@
--- Lines of a block, answered one after another, and what is kept of the last.
+-- Requests of a block, answered one after another, and what is kept of the last.
 use mathlib.Core.Path.{_≡_, refl, sym, ap, _∙_}
 use mathlib.Core.Bool.{Bool, true, false}
 use mathlib.Core.List.{List, [], _∷_, _++_, append-nil}
@@ -21,9 +21,9 @@ use Rattle.console.specs.Session.{answered, first, enough, served, feed}
 use Rattle.console.specs.declared.turn.Wants.the-variants.{Bytes, Room as Space, Nothing}
 use Rattle.console.specs.declared.turn.Session.{Session}
 use Rattle.console.specs.declared.turn.Next.{Next}
-use Rattle.console.specs.declared.turn.Lines.{Lines}
-use Rattle.console.specs.Turns.{after, linesAfter, Answers, Stops, KeptTo, heldOf, readOf, ends, LastTurn, Turned}
-use Rattle.console.proofs.Sessions.{split-some, served-line, first-first, take-whole}
+use Rattle.console.specs.declared.turn.Replies.{Replies}
+use Rattle.console.specs.Turns.{after, requestsAfter, Answers, Stops, KeptTo, heldOf, readOf, ends, LastTurn, Turned}
+use Rattle.console.proofs.Sessions.{split-some, served-request, first-first, take-whole}
 
 -- The text at the front of the buffer
 
@@ -43,19 +43,19 @@ part-slice from end l h k =
     ∙ take-slice from (end - from) (length l) l (omega arith)
     ∙ ap (λ (n : ℕ). slice from n l) e
 
--- Lines that are answered
+-- Requests that are answered
 
 pub answers-none : (s : Station) (block out : List ℕ) → Valid s → Answers (view s) block (record { station = s; from = 0; at = 0 }) out
 answers-none s block out v =
     record {
-      lines-are = ap (λ (x : List ℕ). served (view s) (split 10 x)) (sym (take-length block));
+      replies-are = ap (λ (x : List ℕ). served (view s) (split 10 x)) (sym (take-length block));
       valid = v;
       within = omega arith;
       text-fits = omega arith;
       some-answered = λ h. absurd (omega arith);
     }
 
-module _ {s : State} {block : List ℕ} {l : Lines} {out : List ℕ} {end : ℕ}
+module _ {s : State} {block : List ℕ} {l : Replies} {out : List ℕ} {end : ℕ}
     (a : Answers s block l out) (e : PartEnd 10 block (l .from) (length block) end) where
   pub answers-more :
       {q : Station} {out' : List ℕ} {at' : ℕ} → end < length block
@@ -63,29 +63,29 @@ module _ {s : State} {block : List ℕ} {l : Lines} {out : List ℕ} {end : ℕ}
       → Answers s block (record { station = q; from = end + 1; at = at' }) out'
   answers-more {q} {out'} {at'} h k =
       let p : Station = l .station in
-      let line : List ℕ = slice (l .from) end block in
-      let r : Replied (answered (view p) line) q out (l .at) out' at' = rw (part-slice (l .from) end block (e .low) (e .high)) at k in
-      let parts : linesAfter block (l .from) ≡ line ∷ linesAfter block (end + 1) =
+      let request : List ℕ = slice (l .from) end block in
+      let r : Replied (answered (view p) request) q out (l .at) out' at' = rw (part-slice (l .from) end block (e .low) (e .high)) at k in
+      let parts : requestsAfter block (l .from) ≡ request ∷ requestsAfter block (end + 1) =
       rw (add-one end) (rw (lt-ltb end (length block) h) at (e .parts)) in
       record {
-        lines-are =
-            a .lines-are
+        replies-are =
+            a .replies-are
             ∙ ap (λ (x : List (List ℕ)). first (take (l .at) out) (served (view p) x)) parts
-            ∙ ap (first (take (l .at) out)) (served-line (view p) line (linesAfter block (end + 1)) (split-some 10 (after block (end + 1))))
-            ∙ first-first (take (l .at) out) (answered (view p) line .text) (served (answered (view p) line .state) (linesAfter block (end + 1)))
-            ∙ ap (λ (x : List ℕ). first x (served (answered (view p) line .state) (linesAfter block (end + 1)))) (sym (printed-front (r .printed)))
-            ∙ ap (λ (x : State). first (take at' out') (served x (linesAfter block (end + 1)))) (sym (r .state-is));
+            ∙ ap (first (take (l .at) out)) (served-request (view p) request (requestsAfter block (end + 1)) (split-some 10 (after block (end + 1))))
+            ∙ first-first (take (l .at) out) (answered (view p) request .text) (served (answered (view p) request .state) (requestsAfter block (end + 1)))
+            ∙ ap (λ (x : List ℕ). first x (served (answered (view p) request .state) (requestsAfter block (end + 1)))) (sym (printed-front (r .printed)))
+            ∙ ap (λ (x : State). first (take at' out') (served x (requestsAfter block (end + 1)))) (sym (r .state-is));
         valid = r .valid;
         within = omega arith;
         text-fits =
-            omega (arith, r .printed .within, ap length (r .printed .bytes), length-sets out (l .at) (answered (view p) line .text));
+            omega (arith, r .printed .within, ap length (r .printed .bytes), length-sets out (l .at) (answered (view p) request .text));
         some-answered = λ _. omega arith;
       }
 
   pub stops-done : end ≡ length block → Stops block l
   stops-done h = record { none-left = λ _. rw (le-ltb end (length block) (omega arith), h) at (e .parts) }
 
-pub stops-full : (block : List ℕ) (l : Lines) → 57000 < l .at → Stops block l
+pub stops-full : (block : List ℕ) (l : Replies) → 57000 < l .at → Stops block l
 stops-full block l h = record { none-left = λ k. absurd (omega arith) }
 
 -- Turns
@@ -93,15 +93,15 @@ stops-full block l h = record { none-left = λ k. absurd (omega arith) }
 pub not-both : {A : Type 0} {b : Bool} → b ≡ true → b ≡ false → A
 not-both p q = let z : true ≡ false = sym p ∙ q in let n : _≡_ {A = ℕ} 0 1 = cc in absurd (omega arith)
 
--- the last line
-pub last-line :
+-- the last request
+pub last-request :
     {s : Session} {block before : List ℕ} {q : Station} {out : List ℕ} {at : ℕ}
     → Replied (answered (view (s .station)) (heldOf s block)) q before 0 out at
     → LastTurn s block (record { session = record { station = q; held = 0; wants = Nothing }; at = at }) out
-last-line {s} {block} {before} {q} {out} {at} r =
+last-request {s} {block} {before} {q} {out} {at} r =
     let t : Told = answered (view (s .station)) (heldOf s block) in
     record {
-      line-is =
+      last-is =
           ap (λ (x : State). record { state = x; text = t .text }) (sym (r .state-is))
           ∙ ap (λ (x : List ℕ). record { state = view q; text = x }) (sym (printed-front (r .printed)));
       none-held = refl;
@@ -116,7 +116,7 @@ pub turned-last :
 turned-last {s} {count} {block} {r} {out} e l =
     record {
       goes-on = λ f. not-both e f;
-      has-ended = λ _. l .line-is;
+      has-ended = λ _. l .last-is;
       over-so = rw (l .is-over) (sym e);
       standing = rw (l .is-over) (l .none-held);
       valid = l .valid;
@@ -139,7 +139,7 @@ kept-enough b from filled to h k =
     ap (λ (n : ℕ). slice from n b) e ∙ sym (take-all 4097 (slice from filled b) (omega (arith, length-slice from filled b h, k .few))))
     (below-or-not to filled)
 
-module _ (s : Session) (count : ℕ) (block : List ℕ) {l : Lines} {out : List ℕ} (e : ends (s .wants) count ≡ false)
+module _ (s : Session) (count : ℕ) (block : List ℕ) {l : Replies} {out : List ℕ} (e : ends (s .wants) count ≡ false)
     (fits : s .held + count ≤ length block)
     (a : Answers (view (s .station)) (take (s .held + count) block) l out) where
   abbrev filled : ℕ
@@ -157,7 +157,7 @@ module _ (s : Session) (count : ℕ) (block : List ℕ) {l : Lines} {out : List 
       ≡ first (take (l .at) out) (served (view (l .station)) (split 10 (slice (l .from) filled block)))
   fed =
       ap (λ (x : List ℕ). served (view (s .station)) (split 10 x)) (rw (← (take-take (s .held) filled block (omega arith))) (take-append-drop (s .held) (take filled block)))
-      ∙ a .lines-are
+      ∙ a .replies-are
       ∙ ap (λ (x : List ℕ). first (take (l .at) out) (served (view (l .station)) (split 10 x))) left
 
   -- the buffer is full
@@ -177,18 +177,18 @@ module _ (s : Session) (count : ℕ) (block : List ℕ) {l : Lines} {out : List 
         text-fits = a .text-fits;
       }
 
-  -- no line is left that has ended
+  -- no request is left that has ended
   pub turned-waiting :
       {to held : ℕ} {next : List ℕ} → l .at ≤ 57000 → Stops (take filled block) l → KeptTo (l .from) filled to
       → (held ≡ to - l .from) × (next ≡ slice (l .from) to block ++ drop (to - l .from) block)
       → Turned s count block (record { session = record { station = l .station; held = held; wants = Bytes }; at = l .at }) next out
   unfolding served
   turned-waiting {to} {held} {next} f st kt c =
-      let line : List ℕ = slice (l .from) filled block in
-      let k : take held next ≡ enough line =
+      let request : List ℕ = slice (l .from) filled block in
+      let k : take held next ≡ enough request =
       carried-front block next (l .from) to held (omega (arith, kt .high)) c ∙ kept-enough block (l .from) filled to fits kt in
-      let w : split 10 line ≡ line ∷ [] = rw left at (st .none-left f) in
-      let we : split 10 (enough line) ≡ enough line ∷ [] = take-whole 4097 line w in
+      let w : split 10 request ≡ request ∷ [] = rw left at (st .none-left f) in
+      let we : split 10 (enough request) ≡ enough request ∷ [] = take-whole 4097 request w in
       let kw : split 10 (take held next) ≡ take held next ∷ [] = rw k we in
       record {
         goes-on =
@@ -196,7 +196,7 @@ module _ (s : Session) (count : ℕ) (block : List ℕ) {l : Lines} {out : List 
             ∙ ap (λ (x : List (List ℕ)). first (take (l .at) out) (served (view (l .station)) x)) w
             ∙ sym (ap (λ (x : List ℕ). first (take (l .at) out) (served (view (l .station)) (split 10 x))) (append-nil (take held next) ∙ k)
             ∙ ap (λ (x : List (List ℕ)). first (take (l .at) out) (served (view (l .station)) x)) we
-            ∙ ap (λ (x : List ℕ). first (take (l .at) out) (record { state = view (l .station); kept = x; text = [] })) (take-take 4097 4097 line (omega arith)));
+            ∙ ap (λ (x : List ℕ). first (take (l .at) out) (record { state = view (l .station); kept = x; text = [] })) (take-take 4097 4097 request (omega arith)));
         has-ended = λ g. not-both g e;
         over-so = sym e;
         standing = (kw, omega (arith, c .0, kt .few));

@@ -12,53 +12,53 @@ use lib.Seq.{take-all, take-append-le, take-take, length-take-le}
 use Rattle.rules.specs.Calls.{settings, State, fresh}
 use Rattle.rules.proofs.Ranges.{below-or-not}
 use Rattle.protocol.specs.Words.{joined, split}
-use Rattle.protocol.specs.Lines.{readLine, error}
+use Rattle.protocol.specs.Requests.{readRequest, error}
 use Rattle.protocol.specs.declared.number.Reason.the-variants.{LineTooLong}
 use Rattle.console.specs.Reply.{Told}
 use Rattle.console.specs.Session.{saying, answered, session, console, Fed, first, enough, served, feed}
 
--- Lines that are too long
+-- Requests that are too long
 
-too-long : (line : List ℕ) → 4096 < length line → readLine line ≡ error LineTooLong
-unfolding readLine
-too-long line h = rw (lt-ltb 4096 (length line) h)
+too-long : (request : List ℕ) → 4096 < length request → readRequest request ≡ error LineTooLong
+unfolding readRequest
+too-long request h = rw (lt-ltb 4096 (length request) h)
 
 pub enough-answered :
-    (s : State) (line more : List ℕ) → answered s (enough line ++ more) ≡ answered s (line ++ more)
+    (s : State) (request more : List ℕ) → answered s (enough request ++ more) ≡ answered s (request ++ more)
 unfolding answered
-enough-answered s line more =
+enough-answered s request more =
     ⊎-elim
-    (λ h. rw (take-all 4097 line (omega arith)))
-    (λ h. let e : length (enough line) ≡ 4097 = length-take-le 4097 line h in
-    rw (too-long (enough line ++ more) (omega (arith, length-append (enough line) more)), too-long (line ++ more) (omega (arith, length-append line more))))
-    (below-or-not (length line) 4097)
+    (λ h. rw (take-all 4097 request (omega arith)))
+    (λ h. let e : length (enough request) ≡ 4097 = length-take-le 4097 request h in
+    rw (too-long (enough request ++ more) (omega (arith, length-append (enough request) more)), too-long (request ++ more) (omega (arith, length-append request more))))
+    (below-or-not (length request) 4097)
 
-pub enough-kept : (line more : List ℕ) → enough (enough line ++ more) ≡ enough (line ++ more)
-enough-kept line more =
+pub enough-kept : (request more : List ℕ) → enough (enough request ++ more) ≡ enough (request ++ more)
+enough-kept request more =
     ⊎-elim
-    (λ h. rw (take-all 4097 line (omega arith)))
-    (λ h. let e : length (enough line) ≡ 4097 = length-take-le 4097 line h in
-    rw (take-append-le 4097 (enough line) more (omega arith), take-append-le 4097 line more h, take-take 4097 4097 line (omega arith)))
-    (below-or-not (length line) 4097)
+    (λ h. rw (take-all 4097 request (omega arith)))
+    (λ h. let e : length (enough request) ≡ 4097 = length-take-le 4097 request h in
+    rw (take-append-le 4097 (enough request) more (omega arith), take-append-le 4097 request more h, take-take 4097 4097 request (omega arith)))
+    (below-or-not (length request) 4097)
 
-enough-same : (s : State) (line : List ℕ) → answered s (enough line) ≡ answered s line
-enough-same s line = rw (append-nil (enough line), append-nil line) at (enough-answered s line [])
+enough-same : (s : State) (request : List ℕ) → answered s (enough request) ≡ answered s request
+enough-same s request = rw (append-nil (enough request), append-nil request) at (enough-answered s request [])
 
--- The lines of a text and of one after it
+-- The requests of a text and of one after it
 
 abbrev Some : List (List ℕ) → Type 0
 Some [] = ⊥
-Some (line ∷ lines) = Unit {0}
+Some (request ∷ requests) = Unit {0}
 
--- the last line of those before goes on
+-- the last request of those before goes on
 abbrev onto : List (List ℕ) → List (List ℕ) → List (List ℕ)
 onto [] more = more
-onto (line ∷ []) more = joined line more
-onto (line ∷ (next ∷ lines)) more = line ∷ onto (next ∷ lines) more
+onto (request ∷ []) more = joined request more
+onto (request ∷ (next ∷ requests)) more = request ∷ onto (next ∷ requests) more
 
-joined-some : (text : List ℕ) (lines : List (List ℕ)) → Some (joined text lines)
+joined-some : (text : List ℕ) (requests : List (List ℕ)) → Some (joined text requests)
 joined-some text [] = tt
-joined-some text (line ∷ lines) = tt
+joined-some text (request ∷ requests) = tt
 
 pub split-some : (b : ℕ) (bytes : List ℕ) → Some (split b bytes)
 unfolding split
@@ -69,23 +69,23 @@ split-some b (x ∷ xs) = go (eqb x b)
     go true = tt
     go false = joined-some (x ∷ []) (split b xs)
 
-joined-none : (lines : List (List ℕ)) → Some lines → joined [] lines ≡ lines
+joined-none : (requests : List (List ℕ)) → Some requests → joined [] requests ≡ requests
 joined-none [] h = absurd h
-joined-none (line ∷ lines) h = refl
+joined-none (request ∷ requests) h = refl
 
-onto-cons : (line : List ℕ) (lines more : List (List ℕ)) → Some lines → onto (line ∷ lines) more ≡ line ∷ onto lines more
-onto-cons line [] more h = absurd h
-onto-cons line (next ∷ lines) more h = refl
+onto-cons : (request : List ℕ) (requests more : List (List ℕ)) → Some requests → onto (request ∷ requests) more ≡ request ∷ onto requests more
+onto-cons request [] more h = absurd h
+onto-cons request (next ∷ requests) more h = refl
 
-joined-joined : (text line : List ℕ) (more : List (List ℕ)) → joined text (joined line more) ≡ joined (text ++ line) more
-joined-joined text line [] = refl
-joined-joined text line (m ∷ ms) = rw (append-assoc text line m)
+joined-joined : (text request : List ℕ) (more : List (List ℕ)) → joined text (joined request more) ≡ joined (text ++ request) more
+joined-joined text request [] = refl
+joined-joined text request (m ∷ ms) = rw (append-assoc text request m)
 
 onto-joined :
-    (text : List ℕ) (lines more : List (List ℕ)) → Some lines → joined text (onto lines more) ≡ onto (joined text lines) more
+    (text : List ℕ) (requests more : List (List ℕ)) → Some requests → joined text (onto requests more) ≡ onto (joined text requests) more
 onto-joined text [] more h = absurd h
-onto-joined text (line ∷ []) more h = joined-joined text line more
-onto-joined text (line ∷ (next ∷ lines)) more h = refl
+onto-joined text (request ∷ []) more h = joined-joined text request more
+onto-joined text (request ∷ (next ∷ requests)) more h = refl
 
 split-onto : (b : ℕ) (xs ys : List ℕ) → split b (xs ++ ys) ≡ onto (split b xs) (split b ys)
 unfolding split
@@ -99,23 +99,23 @@ split-onto b (x ∷ xs) ys = go (eqb x b) (split-onto b xs ys)
     go true ih = rw (ih, onto-cons [] (split b xs) (split b ys) (split-some b xs))
     go false ih = rw ih (onto-joined (x ∷ []) (split b xs) (split b ys) (split-some b xs))
 
--- A line has no line feed
+-- A request has no line feed
 
 abbrev Whole : List ℕ → Type 0
-Whole line = split 10 line ≡ line ∷ []
+Whole request = split 10 request ≡ request ∷ []
 
 abbrev Wholes : List (List ℕ) → Type 0
 Wholes [] = Unit {0}
-Wholes (line ∷ lines) = Whole line × Wholes lines
+Wholes (request ∷ requests) = Whole request × Wholes requests
 
 split-wholes : (bytes : List ℕ) → Wholes (split 10 bytes)
 unfolding split
 split-wholes [] = (refl, tt)
 split-wholes (x ∷ xs) = go (eqb x 10) refl (split-wholes xs)
   where
-    more : eqb x 10 ≡ false → (lines : List (List ℕ)) → Wholes lines → Wholes (joined (x ∷ []) lines)
+    more : eqb x 10 ≡ false → (requests : List (List ℕ)) → Wholes requests → Wholes (joined (x ∷ []) requests)
     more e [] h = (rw e, tt)
-    more e (line ∷ lines) h = (rw (e, h .0), h .1)
+    more e (request ∷ requests) h = (rw (e, h .0), h .1)
 
     go :
         (t : Bool) → eqb x 10 ≡ t → Wholes (split 10 xs)
@@ -123,15 +123,15 @@ split-wholes (x ∷ xs) = go (eqb x 10) refl (split-wholes xs)
     go true e ih = (refl, ih)
     go false e ih = more e (split 10 xs) ih
 
-pub take-whole : (n : ℕ) (line : List ℕ) → Whole line → Whole (take n line)
+pub take-whole : (n : ℕ) (request : List ℕ) → Whole request → Whole (take n request)
 unfolding split
-take-whole zero line h = refl
+take-whole zero request h = refl
 take-whole (suc n) [] h = refl
 take-whole (suc n) (x ∷ xs) h = go (eqb x 10) refl (take-whole n xs)
   where
-    inner : (lines : List (List ℕ)) → joined (x ∷ []) lines ≡ (x ∷ xs) ∷ [] → Some lines → lines ≡ xs ∷ []
+    inner : (requests : List (List ℕ)) → joined (x ∷ []) requests ≡ (x ∷ xs) ∷ [] → Some requests → requests ≡ xs ∷ []
     inner [] e o = absurd o
-    inner (line ∷ lines) e o = cc
+    inner (request ∷ requests) e o = cc
 
     go : (t : Bool) → eqb x 10 ≡ t → (Whole xs → Whole (take n xs)) → Whole (x ∷ take n xs)
     go true e ih =
@@ -140,49 +140,49 @@ take-whole (suc n) (x ∷ xs) h = go (eqb x 10) refl (take-whole n xs)
         let f : joined (x ∷ []) (split 10 xs) ≡ (x ∷ xs) ∷ [] = rw e at h in
         rw (e, ih (inner (split 10 xs) f (split-some 10 xs)))
 
-served-whole : (s : State) (lines : List (List ℕ)) → Wholes lines → Whole (served s lines .kept)
+served-whole : (s : State) (requests : List (List ℕ)) → Wholes requests → Whole (served s requests .kept)
 unfolding served split
 served-whole s [] h = refl
-served-whole s (line ∷ []) h = take-whole 4097 line (h .0)
-served-whole s (line ∷ (next ∷ lines)) h = served-whole (answered s line .state) (next ∷ lines) (h .1)
+served-whole s (request ∷ []) h = take-whole 4097 request (h .0)
+served-whole s (request ∷ (next ∷ requests)) h = served-whole (answered s request .state) (next ∷ requests) (h .1)
 
 -- Parts of the input
 
-pub served-line :
-    (s : State) (line : List ℕ) (lines : List (List ℕ)) → Some lines
-    → served s (line ∷ lines) ≡ first (answered s line .text) (served (answered s line .state) lines)
+pub served-request :
+    (s : State) (request : List ℕ) (requests : List (List ℕ)) → Some requests
+    → served s (request ∷ requests) ≡ first (answered s request .text) (served (answered s request .state) requests)
 unfolding served
-served-line s line [] h = absurd h
-served-line s line (next ∷ lines) h = refl
+served-request s request [] h = absurd h
+served-request s request (next ∷ requests) h = refl
 
-onto-some : (lines more : List (List ℕ)) → Some lines → Some (onto lines more)
+onto-some : (requests more : List (List ℕ)) → Some requests → Some (onto requests more)
 onto-some [] more h = absurd h
-onto-some (line ∷ []) more h = joined-some line more
-onto-some (line ∷ (next ∷ lines)) more h = tt
+onto-some (request ∷ []) more h = joined-some request more
+onto-some (request ∷ (next ∷ requests)) more h = tt
 
 pub first-first : (a b : List ℕ) (o : Fed) → first a (first b o) ≡ first (a ++ b) o
 first-first a b o = rw (append-assoc a b (o .text))
 
 served-joined :
-    (s : State) (line : List ℕ) (more : List (List ℕ)) → Some more
-    → served s (joined line more) ≡ served s (joined (enough line) more)
+    (s : State) (request : List ℕ) (more : List (List ℕ)) → Some more
+    → served s (joined request more) ≡ served s (joined (enough request) more)
 unfolding served
-served-joined s line [] h = absurd h
-served-joined s line (m ∷ []) h = rw (enough-kept line m)
-served-joined s line (m ∷ (n ∷ ms)) h = rw (enough-answered s line m)
+served-joined s request [] h = absurd h
+served-joined s request (m ∷ []) h = rw (enough-kept request m)
+served-joined s request (m ∷ (n ∷ ms)) h = rw (enough-answered s request m)
 
 served-onto :
-    (s : State) (lines more : List (List ℕ)) → Some lines → Some more
-    → served s (onto lines more)
-    ≡ first (served s lines .text) (served (served s lines .state) (joined (served s lines .kept) more))
+    (s : State) (requests more : List (List ℕ)) → Some requests → Some more
+    → served s (onto requests more)
+    ≡ first (served s requests .text) (served (served s requests .state) (joined (served s requests .kept) more))
 unfolding served
 served-onto s [] more h k = absurd h
-served-onto s (line ∷ []) more h k = served-joined s line more k
-served-onto s (line ∷ (next ∷ lines)) more h k =
-    served-line s line (onto (next ∷ lines) more) (onto-some (next ∷ lines) more tt)
-    ∙ ap (first (answered s line .text)) (served-onto (answered s line .state) (next ∷ lines) more tt k)
-    ∙ first-first (answered s line .text) (served (answered s line .state) (next ∷ lines) .text)
-    (served (served (answered s line .state) (next ∷ lines) .state) (joined (served (answered s line .state) (next ∷ lines) .kept) more))
+served-onto s (request ∷ []) more h k = served-joined s request more k
+served-onto s (request ∷ (next ∷ requests)) more h k =
+    served-request s request (onto (next ∷ requests) more) (onto-some (next ∷ requests) more tt)
+    ∙ ap (first (answered s request .text)) (served-onto (answered s request .state) (next ∷ requests) more tt k)
+    ∙ first-first (answered s request .text) (served (answered s request .state) (next ∷ requests) .text)
+    (served (served (answered s request .state) (next ∷ requests) .state) (joined (served (answered s request .state) (next ∷ requests) .kept) more))
 
 -- Two parts one after the other are as good as both at once.
 pub feed-append :
@@ -201,25 +201,25 @@ feed-append s kept a b =
 
 -- The end of the input
 
--- what was kept is the last line
+-- what was kept is the last request
 abbrev pub finish : Fed → Told
 finish o = saying (o .text) (answered (o .state) (o .kept))
 
 saying-saying : (a b : List ℕ) (t : Told) → saying a (saying b t) ≡ saying (a ++ b) t
 saying-saying a b t = rw (append-assoc a b (t .text))
 
-pub finish-served : (s : State) (line : List ℕ) (lines : List (List ℕ)) → finish (served s (line ∷ lines)) ≡ session s (line ∷ lines)
+pub finish-served : (s : State) (request : List ℕ) (requests : List (List ℕ)) → finish (served s (request ∷ requests)) ≡ session s (request ∷ requests)
 unfolding served session
-finish-served s line [] = rw (enough-same s line, append-nil (answered s line .text))
-finish-served s line (next ∷ lines) =
-    sym (saying-saying (answered s line .text) (served (answered s line .state) (next ∷ lines) .text) (answered (served (answered s line .state) (next ∷ lines) .state) (served (answered s line .state) (next ∷ lines) .kept)))
-    ∙ ap (saying (answered s line .text)) (finish-served (answered s line .state) next lines)
+finish-served s request [] = rw (enough-same s request, append-nil (answered s request .text))
+finish-served s request (next ∷ requests) =
+    sym (saying-saying (answered s request .text) (served (answered s request .state) (next ∷ requests) .text) (answered (served (answered s request .state) (next ∷ requests) .state) (served (answered s request .state) (next ∷ requests) .kept)))
+    ∙ ap (saying (answered s request .text)) (finish-served (answered s request .state) next requests)
 
-finish-lines : (s : State) (lines : List (List ℕ)) → Some lines → finish (served s lines) ≡ session s lines
-finish-lines s [] h = absurd h
-finish-lines s (line ∷ lines) h = finish-served s line lines
+finish-requests : (s : State) (requests : List (List ℕ)) → Some requests → finish (served s requests) ≡ session s requests
+finish-requests s [] h = absurd h
+finish-requests s (request ∷ requests) h = finish-served s request requests
 
 -- a whole input as one part
 pub console-fed : (input : List ℕ) → finish (feed (fresh (settings 1 100)) [] input) ≡ console input
 unfolding console
-console-fed input = finish-lines (fresh (settings 1 100)) (split 10 input) (split-some 10 input)
+console-fed input = finish-requests (fresh (settings 1 100)) (split 10 input) (split-some 10 input)

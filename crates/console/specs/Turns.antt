@@ -14,7 +14,7 @@ use Rattle.console.specs.declared.turn.Wants as declared
 use Rattle.console.specs.declared.turn.Wants.the-variants.{Bytes, Room as Space, Nothing}
 use Rattle.console.specs.declared.turn.Session.{Session}
 use Rattle.console.specs.declared.turn.Next.{Next}
-use Rattle.console.specs.declared.turn.Lines.{Lines}
+use Rattle.console.specs.declared.turn.Replies.{Replies}
 
 -- what the lent lists have room for
 pub record Room (numbers list out : List ℕ) : Type 0 where
@@ -22,29 +22,29 @@ pub record Room (numbers list out : List ℕ) : Type 0 where
   pub list-fits : 4096 ≤ length list
   pub out-fits : 65536 ≤ length out
 
--- Lines of a block
+-- Requests of a block
 
--- a block from a place on, and its lines
+-- a block from a place on, and its requests
 abbrev pub after : List ℕ → ℕ → List ℕ
 after block from = slice from (length block) block
 
-abbrev pub linesAfter : List ℕ → ℕ → List (List ℕ)
-linesAfter block from = split 10 (after block from)
+abbrev pub requestsAfter : List ℕ → ℕ → List (List ℕ)
+requestsAfter block from = split 10 (after block from)
 
--- Lines of a block were answered, up to a place: what all its lines give is the text that stands at the front of the
--- buffer, and then what the lines after that place give.
-pub record Answers (s : State) (block : List ℕ) (l : Lines) (out : List ℕ) : Type 0 where
-  pub lines-are : served s (split 10 block) ≡ first (take (l .at) out) (served (view (l .station)) (linesAfter block (l .from)))
+-- Requests of a block were answered, up to a place: what all its requests give is the text that stands at the front of the
+-- buffer, and then what the requests after that place give.
+pub record Answers (s : State) (block : List ℕ) (l : Replies) (out : List ℕ) : Type 0 where
+  pub replies-are : served s (split 10 block) ≡ first (take (l .at) out) (served (view (l .station)) (requestsAfter block (l .from)))
   pub valid : Valid (l .station)
   pub within : l .from ≤ length block
   pub text-fits : l .at ≤ length out
   pub some-answered : 0 < l .at → 0 < l .from
 
--- Where the buffer has room left, no line is left that has ended.
-pub record Stops (block : List ℕ) (l : Lines) : Type 0 where
-  pub none-left : l .at ≤ 57000 → linesAfter block (l .from) ≡ after block (l .from) ∷ []
+-- Where the buffer has room left, no request is left that has ended.
+pub record Stops (block : List ℕ) (l : Replies) : Type 0 where
+  pub none-left : l .at ≤ 57000 → requestsAfter block (l .from) ≡ after block (l .from) ∷ []
 
--- what is kept of a line that goes on: all of it, or 4,097 bytes
+-- what is kept of a request that goes on: all of it, or 4,097 bytes
 pub record KeptTo (from filled to : ℕ) : Type 0 where
   pub low : from ≤ to
   pub high : to ≤ filled
@@ -71,23 +71,23 @@ over Bytes = false
 over Space = false
 over Nothing = true
 
--- Bytes are wanted only where no line that has ended waits for its answer, and there is room for them. Where room was
+-- Bytes are wanted only where no request that has ended waits for its answer, and there is room for them. Where room was
 -- wanted, something was answered.
 abbrev pub Standing : declared.Wants → List ℕ → ℕ → ℕ → Type 0
 Standing Bytes kept held there = (split 10 kept ≡ kept ∷ []) × (held ≤ 4097)
 Standing Space kept held there = held < there
 Standing Nothing kept held there = held ≡ 0
 
--- what is held is answered as a last line
+-- what is held is answered as a last request
 pub record LastTurn (s : Session) (block : List ℕ) (r : Next) (out : List ℕ) : Type 0 where
-  pub line-is : answered (view (s .station)) (heldOf s block) ≡ record { state = view (r .session .station); text = take (r .at) out }
+  pub last-is : answered (view (s .station)) (heldOf s block) ≡ record { state = view (r .session .station); text = take (r .at) out }
   pub none-held : r .session .held ≡ 0
   pub is-over : r .session .wants ≡ Nothing
   pub valid : Valid (r .session .station)
   pub text-fits : r .at ≤ length out
 
 -- The contract of a turn. While the input goes on, what is held and the bytes just read give the text that is handed out, and
--- then what the next session holds. Where it has ended, what is held is answered as the last line.
+-- then what the next session holds. Where it has ended, what is held is answered as the last request.
 pub record Turned (s : Session) (count : ℕ) (block : List ℕ) (r : Next) (next out : List ℕ) : Type 0 where
   pub goes-on :
       ends (s .wants) count ≡ false
@@ -119,7 +119,7 @@ pub data Chain : List ℕ → List ℕ → Session → List ℕ → Type 0 where
       → Chain (read ++ readOf s count block) (written ++ take (r .at) out) (r .session) next
 
 -- THE THEOREM, for every chain of turns. Where bytes are wanted, the texts handed out, the station and what is held are the
--- definition's for all that was read so far: every line that has ended is answered. Where nothing is wanted any more, the
+-- definition's for all that was read so far: every request that has ended is answered. Where nothing is wanted any more, the
 -- texts put together are the program's whole output, and the station is its station.
 pub record AnswersAll (read written : List ℕ) (s : Session) (block : List ℕ) : Type 0 where
   pub so-far :

@@ -1,4 +1,4 @@
-// Reads calls from standard input, one to a line, and writes one answer line to each on standard output.
+// Reads requests from standard input, one to a line of text, and writes the answer to each on standard output.
 mod reply;
 mod serve;
 mod turn;

@@ -1,16 +1,16 @@
-// One line: read, called, answered. The answer is put into a buffer at a place.
+// One request: read, called, answered. The answer is put into a buffer at a place.
 ghost use mathlib.Core.Path.{_≡_};
 ghost use Prim.Native.Nat.{_+_, _≤_};
 ghost use lib.ListN.{length};
 ghost use lib.Seq.{sets};
 ghost use Rattle.rules.specs.Calls.{opening, step};
-ghost use Rattle.protocol.specs.Lines.{readLine, lineValues, lentList, Lent};
+ghost use Rattle.protocol.specs.Requests.{readRequest, requestValues, lentList, Lent};
 ghost use Rattle.station.specs.View.{view, Valid};
 ghost use Rattle.station.specs.Answers.{settingsOf};
-ghost use Rattle.station.specs.Applied.{callOf};
-ghost use Rattle.console.specs.Reply.{told, reportOf, lineReport, Replied, Lists};
+ghost use Rattle.station.specs.Applied.{callOf, lends};
+ghost use Rattle.console.specs.Reply.{told, reportOf, requestReport, Replied, Lists};
 ghost use Rattle.console.specs.Session.{answered};
-use protocol::Line;
+use protocol::Request;
 use station::Station;
 use station::calls::Call;
 use station::open::Settings;
@@ -43,7 +43,7 @@ fn reply_call(
     out: &mut [u8],
     at: usize,
 ) -> Reply
-    requires { ⌜ Valid station × ((4096 ≤ length (now list)) × ((at + 7656 ≤ length (now out)) × Lent call places)) ⌝ }
+    requires { ⌜ Valid station × ((4096 ≤ length (now list)) × ((at + 7656 ≤ length (now out)) × Lent (lends call) places)) ⌝ }
     ensures { λ r. ⌜ Replied (told (step (view station) (callOf call (now (starts .entry)) (lentList places)))) (r .station) (now (out .entry)) at (now (out .exit)) (r .at) ⌝ }
     ensures { λ r. ⌜ now (list .exit) ≡ sets (now (list .entry)) 0 (reportOf (view station) (callOf call (now (starts .entry)) (lentList places))) ⌝ }
 {
@@ -59,30 +59,30 @@ fn reply_call(
     }
 }
 
-// Answers a line, its line feed left out. The lists are lent for the numbers of the line and for a move's report; every
+// Answers a line of text, its line feed left out. The lists are lent for its numbers and for a move's report; every
 // place that these do not take stays.
-pub fn reply_line(
+pub fn reply_request(
     station: Station,
-    line: &[u8],
+    text: &[u8],
     numbers: &mut [u32],
     list: &mut [u32],
     out: &mut [u8],
     at: usize,
 ) -> Reply
     requires { ⌜ Valid station × ((2048 ≤ length (now numbers)) × ((4096 ≤ length (now list)) × (at + 7656 ≤ length (now out)))) ⌝ }
-    ensures { λ r. ⌜ Replied (answered (view station) (now (line .entry))) (r .station) (now (out .entry)) at (now (out .exit)) (r .at) ⌝ }
-    ensures { λ r. ⌜ Lists (lineValues (now (line .entry))) (lineReport (view station) (readLine (now (line .entry)))) (now (numbers .entry)) (now (numbers .exit)) (now (list .entry)) (now (list .exit)) ⌝ }
+    ensures { λ r. ⌜ Replied (answered (view station) (now (text .entry))) (r .station) (now (out .entry)) at (now (out .exit)) (r .at) ⌝ }
+    ensures { λ r. ⌜ Lists (requestValues (now (text .entry))) (requestReport (view station) (readRequest (now (text .entry)))) (now (numbers .entry)) (now (numbers .exit)) (now (list .entry)) (now (list .exit)) ⌝ }
 {
-    let read = protocol::read_line(line, numbers);
+    let read = protocol::read_request(text, numbers);
     match read {
-        Line::Nothing => Reply { station, at },
-        Line::Open { settings } => reply_open(settings, out, at),
-        Line::Call {
+        Request::Nothing => Reply { station, at },
+        Request::Open { settings } => reply_open(settings, out, at),
+        Request::Call {
             call,
             starts,
             places,
         } => reply_call(station, call, &numbers[..starts], places, list, out, at),
-        Line::Error(reason) => {
+        Request::Error(reason) => {
             let next = protocol::print_error(reason, out, at);
             Reply { station, at: next }
         }

@@ -6,7 +6,7 @@ ghost use Prim.Native.Nat.{_+_, _≤_};
 ghost use lib.ListN.{length};
 ghost use Rattle.station.specs.View.{view, Valid};
 ghost use Rattle.console.specs.Turns.{ends, Room, Answers, Stops, KeptTo, LastTurn, Turned};
-use crate::reply::reply_line;
+use crate::reply::reply_request;
 use station::Station;
 
 // What a session needs before it can go on: more bytes of the input, room in the buffer for further answers, or nothing,
@@ -31,50 +31,50 @@ pub struct Next {
     pub at: usize,
 }
 
-// The station after some lines of a block, the place after them, and the end of their text.
-struct Lines {
+// The station after some requests of a block, the place after them, and the end of the text that answers them.
+struct Replies {
     station: Station,
     from: usize,
     at: usize,
 }
 
-// Answers the lines of a block that have ended, one after another, as long as the buffer has room for any answer.
-fn answer_lines(
+// Answers the requests of a block that have ended, one after another, as long as the buffer has room for any answer.
+fn answer_requests(
     station: Station,
     block: &[u8],
     numbers: &mut [u32],
     list: &mut [u32],
     out: &mut [u8],
-) -> Lines
+) -> Replies
     requires { ⌜ Valid station × Room (now numbers) (now list) (now out) ⌝ }
     ensures { λ r. ⌜ Answers (view station) (now (block .entry)) r (now (out .exit)) ⌝ }
     ensures { λ r. ⌜ Stops (now (block .entry)) r ⌝ }
 {
-    let mut lines = Lines {
+    let mut replies = Replies {
         station,
         from: 0,
         at: 0,
     };
-    while lines.at <= 57000 {
-        let from = lines.from;
+    while replies.at <= 57000 {
+        let from = replies.from;
         let end = protocol::part_end(block, from, block.len(), 10);
         if end == block.len() {
-            return lines;
+            return replies;
         }
-        let present = lines.station;
-        let at = lines.at;
-        let reply = reply_line(present, &block[from..end], numbers, list, out, at);
+        let present = replies.station;
+        let at = replies.at;
+        let reply = reply_request(present, &block[from..end], numbers, list, out, at);
         let after = reply.station;
-        lines = Lines {
+        replies = Replies {
             station: after,
             from: end + 1,
             at: reply.at,
         };
     }
-    lines
+    replies
 }
 
-// Of a line that goes on no more is kept than shows that it is too long.
+// Of a request that goes on no more is kept than shows that it is too long.
 fn kept_to(from: usize, filled: usize) -> usize
     requires { ⌜ from ≤ filled ⌝ }
     ensures { λ r. ⌜ KeptTo from filled r ⌝ }
@@ -96,7 +96,7 @@ fn input_ends(wants: Wants, count: usize) -> bool
     }
 }
 
-// The input has ended: what is held is its last line, which has no line feed.
+// The input has ended: what is held is its last request, which has no line feed.
 fn last_turn(
     session: Session,
     block: &[u8],
@@ -109,7 +109,7 @@ fn last_turn(
 {
     let station = session.station;
     let held = session.held;
-    let reply = reply_line(station, &block[..held], numbers, list, out, 0);
+    let reply = reply_request(station, &block[..held], numbers, list, out, 0);
     let last = reply.station;
     let over = Session {
         station: last,
@@ -141,10 +141,10 @@ pub fn turn(
     }
     let station = session.station;
     let filled = session.held + count;
-    let lines = answer_lines(station, &block[..filled], numbers, list, out);
-    let after = lines.station;
-    let from = lines.from;
-    let at = lines.at;
+    let replies = answer_requests(station, &block[..filled], numbers, list, out);
+    let after = replies.station;
+    let from = replies.from;
+    let at = replies.at;
     if at > 57000 {
         let held = protocol::carry(block, from, filled);
         let full = Session {

@@ -1,22 +1,22 @@
--- `console::reply_line` meets its contract: what the line asks for is answered, and the lent lists are those of what was read.
+-- `console::reply_request` meets its contract: what the text asks for is answered, and the lent lists are those of what was read.
 use mathlib.Core.Path.{sym, refl}
 use native.Mathlib.Omega.{arith}
 use lib.Seq.{length-take-le}
 use Rattle.station.specs.View.{view}
-use Rattle.protocol.specs.Lines.{Fits}
-use Rattle.protocol.specs.declared.request.Line.the-variants.{Call}
+use Rattle.protocol.specs.Requests.{Fits}
+use Rattle.protocol.specs.declared.request.Request.the-variants.{Call}
 use Rattle.protocol.proofs.Printing.{printed-none}
 use Rattle.console.proofs.Replies.{as-read, as-listed}
 use borrow.Author.Needs.{needs}
-use Rattle.console.proofs.reply.reply_line.Statement.{statement}
-use Rattle.console.proofs.reply.reply_line.Tie as tie
+use Rattle.console.proofs.reply.reply_request.Statement.{statement}
+use Rattle.console.proofs.reply.reply_request.Tie as tie
 
 -- what is lent beside the call that was read
-fit : (c : tie.After-read2) → Fits (Call (c .read2 .given .0 .0) (c .read2 .given .0 .1 .0) (c .read2 .given .0 .1 .1 .0))
-fit c = rw (c .read2 .given .1) at (c .before .before .before .before .read-line .ensures .fits)
+fit : (c : tie.After-read2) → Fits 2048 (Call (c .read2 .given .0 .0) (c .read2 .given .0 .1 .0) (c .read2 .given .0 .1 .1 .0))
+fit c = rw (c .read2 .given .1) at (c .before .before .before .before .read-request .ensures .fits)
 
-read-line-requires : tie.Need-read-line-requires
-read-line-requires c κs = search needs
+read-request-requires : tie.Need-read-request-requires
+read-request-requires c κs = search needs
 
 enum-told : tie.Need-enum-told
 enum-told c = search needs
@@ -31,10 +31,10 @@ enum-known-read-2 : tie.Need-enum-known-read-2
 enum-known-read-2 c = search needs
 
 slice-reshare-prefix-reply-call : tie.Need-slice-reshare-prefix-reply-call
-slice-reshare-prefix-reply-call c = omega (arith, fit (c .before) .0, c .before .before .before .before .before .read-line .kept .1 .0, c .before .before .before .before .before .before .before .before .before .before .before .pre .1 .0)
+slice-reshare-prefix-reply-call c = omega (arith, fit (c .before) .0, c .before .before .before .before .before .read-request .kept .1 .0, c .before .before .before .before .before .before .before .before .before .before .before .pre .1 .0)
 
 slice-aggregate-reply-call : tie.Need-slice-aggregate-reply-call
-slice-aggregate-reply-call c = sym (length-take-le _ _ (omega (arith, fit (c .before .before) .0, c .before .before .before .before .before .before .read-line .kept .1 .0, c .before .before .before .before .before .before .before .before .before .before .before .before .pre .1 .0)))
+slice-aggregate-reply-call c = sym (length-take-le _ _ (omega (arith, fit (c .before .before) .0, c .before .before .before .before .before .before .read-request .kept .1 .0, c .before .before .before .before .before .before .before .before .before .before .before .before .pre .1 .0)))
 
 reply-call-requires : tie.Need-reply-call-requires
 reply-call-requires c κs = (c .before .before .before .before .before .before .before .before .before .before .before .before .before .before .pre .0, (search needs, (search needs, fit (c .before .before .before .before) .1)))
@@ -51,9 +51,9 @@ same-length c = search needs
 returns : tie.Need-returns
 returns c =
     let s = c .before .before .before .before .before .before .before .before .before .before in
-    let r = c .before .before .before .before .read-line .ensures in (
-      as-read (view (s .args .station)) (s .args .line .now) r (c .enum-told .given .1) (record { state-is = refl; valid = s .pre .0; printed = printed-none (s .args .out .now) (s .args .at) (omega arith) }),
-      as-listed (view (s .args .station)) (s .args .line .now) r (c .enum-told .given .1) refl,
+    let r = c .before .before .before .before .read-request .ensures in (
+      as-read (view (s .args .station)) (s .args .text .now) r (c .enum-told .given .1) (record { state-is = refl; valid = s .pre .0; printed = printed-none (s .args .out .now) (s .args .at) (omega arith) }),
+      as-listed (view (s .args .station)) (s .args .text .now) r (c .enum-told .given .1) refl,
     )
 
 same-length-2 : tie.Need-same-length-2
@@ -65,9 +65,9 @@ same-length-3 c = search needs
 returns-2 : tie.Need-returns-2
 returns-2 c =
     let s = c .before .before .before .before .before .before .before .before .before .before .before .before .before .before .before in
-    let r = c .before .before .before .before .before .before .before .before .before .read-line .ensures in (
-      as-read (view (s .args .station)) (s .args .line .now) r (c .before .before .before .before .before .read .given .1) (c .before .before .reply-open .ensures),
-      as-listed (view (s .args .station)) (s .args .line .now) r (c .before .before .before .before .before .read .given .1) refl,
+    let r = c .before .before .before .before .before .before .before .before .before .read-request .ensures in (
+      as-read (view (s .args .station)) (s .args .text .now) r (c .before .before .before .before .before .read .given .1) (c .before .before .reply-open .ensures),
+      as-listed (view (s .args .station)) (s .args .text .now) r (c .before .before .before .before .before .read .given .1) refl,
     )
 
 same-length-4 : tie.Need-same-length-4
@@ -82,9 +82,9 @@ same-length-6 c = search needs
 returns-3 : tie.Need-returns-3
 returns-3 c =
     let s = c .before .before .before .before .before .before .before .before .before .before .before .before .before .before .before .before .before .before .before in
-    let r = c .before .before .before .before .before .before .before .before .before .before .before .before .before .read-line .ensures in (
-      as-read (view (s .args .station)) (s .args .line .now) r (c .before .before .before .before .before .before .before .before .before .read2 .given .1) (c .before .before .before .before .reply-call .ensures .0),
-      as-listed (view (s .args .station)) (s .args .line .now) r (c .before .before .before .before .before .before .before .before .before .read2 .given .1) (c .before .before .before .before .reply-call .ensures .1),
+    let r = c .before .before .before .before .before .before .before .before .before .before .before .before .before .read-request .ensures in (
+      as-read (view (s .args .station)) (s .args .text .now) r (c .before .before .before .before .before .before .before .before .before .read2 .given .1) (c .before .before .before .before .reply-call .ensures .0),
+      as-listed (view (s .args .station)) (s .args .text .now) r (c .before .before .before .before .before .before .before .before .before .read2 .given .1) (c .before .before .before .before .reply-call .ensures .1),
     )
 
 same-length-7 : tie.Need-same-length-7
@@ -96,16 +96,16 @@ same-length-8 c = search needs
 returns-4 : tie.Need-returns-4
 returns-4 c =
     let s = c .before .before .before .before .before .before .before .before .before .before .before .before .before .before .before in
-    let r = c .before .before .before .before .before .before .before .before .before .read-line .ensures in (
-      as-read (view (s .args .station)) (s .args .line .now) r (c .before .before .before .before .before .read3 .given .1) (record { state-is = refl; valid = s .pre .0; printed = c .before .before .print-error .ensures }),
-      as-listed (view (s .args .station)) (s .args .line .now) r (c .before .before .before .before .before .read3 .given .1) refl,
+    let r = c .before .before .before .before .before .before .before .before .before .read-request .ensures in (
+      as-read (view (s .args .station)) (s .args .text .now) r (c .before .before .before .before .before .read3 .given .1) (record { state-is = refl; valid = s .pre .0; printed = c .before .before .print-error .ensures }),
+      as-listed (view (s .args .station)) (s .args .text .now) r (c .before .before .before .before .before .read3 .given .1) refl,
     )
 
-pub reply-line-spec : {M : Type 1} → statement M
-reply-line-spec =
+pub reply-request-spec : {M : Type 1} → statement M
+reply-request-spec =
     tie.close
     (tie.spec
-    read-line-requires
+    read-request-requires
     enum-told
     enum-known-read
     reply-open-requires

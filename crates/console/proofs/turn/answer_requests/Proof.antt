@@ -1,4 +1,4 @@
--- `console::answer_lines` meets its contract. The measure is what is left of the block.
+-- `console::answer_requests` meets its contract. The measure is what is left of the block.
 use mathlib.Core.Path.{_≡_, refl, _∙_}
 use Prim.Native.Nat.{_-_}
 use native.Mathlib.Omega.{arith}
@@ -6,14 +6,14 @@ use lib.ListN.{length}
 use Rattle.station.specs.View.{view}
 use Rattle.console.specs.Turns.{Answers}
 use Rattle.console.proofs.Serving.{answers-none, answers-more, stops-done, stops-full}
-use Rattle.console.proofs.turn.answer_lines.Statement.{statement}
-use Rattle.console.proofs.turn.answer_lines.Tie as tie
+use Rattle.console.proofs.turn.answer_requests.Statement.{statement}
+use Rattle.console.proofs.turn.answer_requests.Tie as tie
 
 abbrev Inv-loop : tie.InvT-loop
-Inv-loop block numbers₀ list₀ out₀ lines₀ numbers list out lines = Answers (view (lines₀ .station)) block lines out × (length numbers ≡ length numbers₀) × (length list ≡ length list₀) × (length out ≡ length out₀)
+Inv-loop block numbers₀ list₀ out₀ replies₀ numbers list out replies = Answers (view (replies₀ .station)) block replies out × (length numbers ≡ length numbers₀) × (length list ≡ length list₀) × (length out ≡ length out₀)
 
 abbrev μ-loop : tie.MeasureT-loop
-μ-loop block numbers₀ list₀ out₀ lines₀ numbers list out lines = length block - lines .from
+μ-loop block numbers₀ list₀ out₀ replies₀ numbers list out replies = length block - replies .from
 
 loop-holds : tie.Need-loop-holds Inv-loop μ-loop
 loop-holds c = (answers-none (c .before .before .before .before .args .station) (c .before .before .before .before .args .block .now) (c .before .before .before .before .args .out .now) (c .before .before .before .before .pre .0), refl, refl, refl)
@@ -33,17 +33,17 @@ same-length-3 c = c .before .before .before .before .loop .inv .3
 returns : tie.Need-returns Inv-loop μ-loop
 returns c = (c .before .before .before .before .loop .inv .0, stops-done (c .before .before .before .before .loop .inv .0) (c .before .part-end .ensures) (c .if2 .taken))
 
-sub-reply-line : tie.Need-sub-reply-line Inv-loop μ-loop
-sub-reply-line c = c .before .before .part-end .ensures .low
+sub-reply-request : tie.Need-sub-reply-request Inv-loop μ-loop
+sub-reply-request c = c .before .before .part-end .ensures .low
 
-part-reply-line-start : tie.Need-part-reply-line-start Inv-loop μ-loop
-part-reply-line-start c = c .before .before .part-end .ensures .low
+part-reply-request-start : tie.Need-part-reply-request-start Inv-loop μ-loop
+part-reply-request-start c = c .before .before .part-end .ensures .low
 
-part-reply-line-end : tie.Need-part-reply-line-end Inv-loop μ-loop
-part-reply-line-end c = c .before .before .part-end .ensures .high
+part-reply-request-end : tie.Need-part-reply-request-end Inv-loop μ-loop
+part-reply-request-end c = c .before .before .part-end .ensures .high
 
-reply-line-requires : tie.Need-reply-line-requires Inv-loop μ-loop
-reply-line-requires c κs =
+reply-request-requires : tie.Need-reply-request-requires Inv-loop μ-loop
+reply-request-requires c κs =
     let l = c .before .before .before .before .before .before .before .before .before .loop .inv in
     let room = c .before .before .before .before .before .before .before .before .before .before .before .before .before .before .pre .1 in
     (l .0 .valid, (omega (arith, l .1, room .numbers-fit), (omega (arith, l .2, room .list-fits), omega (arith, c .before .before .before .before .before .before .before .if1 .taken, l .3, room .out-fits))))
@@ -57,7 +57,7 @@ loop-less c = omega (arith, c .before .before .before .before .before .before .b
 loop-again : tie.Need-loop-again Inv-loop μ-loop
 loop-again c =
     let l = c .before .before .before .before .before .before .before .before .before .before .before .before .before .before .before .before .before .loop .inv in
-    let r = c .before .before .before .before .before .before .before .reply-line in (
+    let r = c .before .before .before .before .before .before .before .reply-request in (
       answers-more (l .0) (c .before .before .before .before .before .before .before .before .before .before .before .before .before .before .part-end .ensures) (omega (arith, c .before .before .before .before .before .before .before .before .before .before .before .before .before .if2 .left, c .before .before .before .before .before .before .before .before .before .before .before .before .before .before .part-end .ensures .high)) (r .ensures .0),
       r .kept .1 .1 .0 ∙ l .1,
       r .kept .1 .1 .1 .0 ∙ l .2,
@@ -74,10 +74,10 @@ same-length-6 : tie.Need-same-length-6 Inv-loop μ-loop
 same-length-6 c = c .before .before .loop .inv .3
 
 returns-2 : tie.Need-returns-2 Inv-loop μ-loop
-returns-2 c = (c .before .before .loop .inv .0, stops-full (c .before .before .before .before .before .before .before .args .block .now) (c .before .before .loop .lines) (omega (arith, c .if1 .left)))
+returns-2 c = (c .before .before .loop .inv .0, stops-full (c .before .before .before .before .before .before .before .args .block .now) (c .before .before .loop .replies) (omega (arith, c .if1 .left)))
 
-pub answer-lines-spec : {M : Type 1} → statement M
-answer-lines-spec =
+pub answer-requests-spec : {M : Type 1} → statement M
+answer-requests-spec =
     tie.close
     (tie.spec
     Inv-loop
@@ -88,10 +88,10 @@ answer-lines-spec =
     same-length-2
     same-length-3
     returns
-    sub-reply-line
-    part-reply-line-start
-    part-reply-line-end
-    reply-line-requires
+    sub-reply-request
+    part-reply-request-start
+    part-reply-request-end
+    reply-request-requires
     add-t14
     loop-less
     loop-again

@@ -32,17 +32,17 @@ returns c = turned-last (sym (c .before .before .before .before .before .before 
 add-filled : tie.Need-add-filled
 add-filled c = search needs
 
-slice-reshare-prefix-answer-lines : tie.Need-slice-reshare-prefix-answer-lines
-slice-reshare-prefix-answer-lines c = search needs
+slice-reshare-prefix-answer-requests : tie.Need-slice-reshare-prefix-answer-requests
+slice-reshare-prefix-answer-requests c = search needs
 
-slice-aggregate-answer-lines : tie.Need-slice-aggregate-answer-lines
-slice-aggregate-answer-lines c = sym (length-take-le _ _ (c .before .before .before .before .before .before .before .before .before .pre .1 .0))
+slice-aggregate-answer-requests : tie.Need-slice-aggregate-answer-requests
+slice-aggregate-answer-requests c = sym (length-take-le _ _ (c .before .before .before .before .before .before .before .before .before .pre .1 .0))
 
-answer-lines-requires : tie.Need-answer-lines-requires
-answer-lines-requires c κs = search needs
+answer-requests-requires : tie.Need-answer-requests-requires
+answer-requests-requires c κs = search needs
 
 carry-requires : tie.Need-carry-requires
-carry-requires c κs = (omega (arith, c .before .before .before .before .before .before .before .before .before .answer-lines .ensures .0 .within, length-take-le (c .before .before .before .before .before .before .before .before .before .before .before .before .before .before .before .before .before .before .before .before .before .before .args .session .held + c .before .before .before .before .before .before .before .before .before .before .before .before .before .before .before .before .before .before .before .before .before .before .args .count) (c .before .before .before .before .before .before .before .before .before .before .before .before .before .before .before .before .before .before .before .before .before .before .args .block .now) (c .before .before .before .before .before .before .before .before .before .before .before .before .before .before .before .before .before .before .before .before .before .before .pre .1 .0)), c .before .before .before .before .before .before .before .before .before .before .before .before .before .before .before .before .before .before .before .before .before .before .pre .1 .0)
+carry-requires c κs = (omega (arith, c .before .before .before .before .before .before .before .before .before .answer-requests .ensures .0 .within, length-take-le (c .before .before .before .before .before .before .before .before .before .before .before .before .before .before .before .before .before .before .before .before .before .before .args .session .held + c .before .before .before .before .before .before .before .before .before .before .before .before .before .before .before .before .before .before .before .before .before .before .args .count) (c .before .before .before .before .before .before .before .before .before .before .before .before .before .before .before .before .before .before .before .before .before .before .args .block .now) (c .before .before .before .before .before .before .before .before .before .before .before .before .before .before .before .before .before .before .before .before .before .before .pre .1 .0)), c .before .before .before .before .before .before .before .before .before .before .before .before .before .before .before .before .before .before .before .before .before .before .pre .1 .0)
 
 same-length-5 : tie.Need-same-length-5
 same-length-5 c = search needs
@@ -58,10 +58,10 @@ same-length-8 c = search needs
 
 returns-2 : tie.Need-returns-2
 returns-2 c =
-    turned-full (c .before .before .before .before .before .before .before .before .before .before .before .before .before .before .before .before .before .before .before .before .before .before .before .before .before .args .session) (c .before .before .before .before .before .before .before .before .before .before .before .before .before .before .before .before .before .before .before .before .before .before .before .before .before .args .count) (c .before .before .before .before .before .before .before .before .before .before .before .before .before .before .before .before .before .before .before .before .before .before .before .before .before .args .block .now) (sym (c .before .before .before .before .before .before .before .before .before .before .before .before .before .before .before .before .before .before .before .before .input-ends .ensures) ∙ c .before .before .before .before .before .before .before .before .before .before .before .before .before .before .before .before .before .before .before .if1 .left) (c .before .before .before .before .before .before .before .before .before .before .before .before .before .before .before .before .before .before .before .before .before .before .before .before .before .pre .1 .0) (c .before .before .before .before .before .before .before .before .before .before .before .before .answer-lines .ensures .0) (c .before .before .before .before .if2 .taken) (c .before .before .carry .ensures)
+    turned-full (c .before .before .before .before .before .before .before .before .before .before .before .before .before .before .before .before .before .before .before .before .before .before .before .before .before .args .session) (c .before .before .before .before .before .before .before .before .before .before .before .before .before .before .before .before .before .before .before .before .before .before .before .before .before .args .count) (c .before .before .before .before .before .before .before .before .before .before .before .before .before .before .before .before .before .before .before .before .before .before .before .before .before .args .block .now) (sym (c .before .before .before .before .before .before .before .before .before .before .before .before .before .before .before .before .before .before .before .before .input-ends .ensures) ∙ c .before .before .before .before .before .before .before .before .before .before .before .before .before .before .before .before .before .before .before .if1 .left) (c .before .before .before .before .before .before .before .before .before .before .before .before .before .before .before .before .before .before .before .before .before .before .before .before .before .pre .1 .0) (c .before .before .before .before .before .before .before .before .before .before .before .before .answer-requests .ensures .0) (c .before .before .before .before .if2 .taken) (c .before .before .carry .ensures)
 
 kept-to-requires : tie.Need-kept-to-requires
-kept-to-requires c κs = omega (arith, c .before .before .before .before .before .before .before .before .answer-lines .ensures .0 .within, length-take-le (c .before .before .before .before .before .before .before .before .before .before .before .before .before .before .before .before .before .before .before .before .before .args .session .held + c .before .before .before .before .before .before .before .before .before .before .before .before .before .before .before .before .before .before .before .before .before .args .count) (c .before .before .before .before .before .before .before .before .before .before .before .before .before .before .before .before .before .before .before .before .before .args .block .now) (c .before .before .before .before .before .before .before .before .before .before .before .before .before .before .before .before .before .before .before .before .before .pre .1 .0))
+kept-to-requires c κs = omega (arith, c .before .before .before .before .before .before .before .before .answer-requests .ensures .0 .within, length-take-le (c .before .before .before .before .before .before .before .before .before .before .before .before .before .before .before .before .before .before .before .before .before .args .session .held + c .before .before .before .before .before .before .before .before .before .before .before .before .before .before .before .before .before .before .before .before .before .args .count) (c .before .before .before .before .before .before .before .before .before .before .before .before .before .before .before .before .before .before .before .before .before .args .block .now) (c .before .before .before .before .before .before .before .before .before .before .before .before .before .before .before .before .before .before .before .before .before .pre .1 .0))
 
 carry-requires-2 : tie.Need-carry-requires-2
 carry-requires-2 c κs = (omega (arith, c .before .kept-to .ensures .low), omega (arith, c .before .kept-to .ensures .high, c .before .before .before .before .before .before .before .before .before .before .before .before .before .before .before .before .before .before .before .before .before .before .before .pre .1 .0))
@@ -80,7 +80,7 @@ same-length-12 c = search needs
 
 returns-3 : tie.Need-returns-3
 returns-3 c =
-    turned-waiting (c .before .before .before .before .before .before .before .before .before .before .before .before .before .before .before .before .before .before .before .before .before .before .before .before .before .before .args .session) (c .before .before .before .before .before .before .before .before .before .before .before .before .before .before .before .before .before .before .before .before .before .before .before .before .before .before .args .count) (c .before .before .before .before .before .before .before .before .before .before .before .before .before .before .before .before .before .before .before .before .before .before .before .before .before .before .args .block .now) (sym (c .before .before .before .before .before .before .before .before .before .before .before .before .before .before .before .before .before .before .before .before .before .input-ends .ensures) ∙ c .before .before .before .before .before .before .before .before .before .before .before .before .before .before .before .before .before .before .before .before .if1 .left) (c .before .before .before .before .before .before .before .before .before .before .before .before .before .before .before .before .before .before .before .before .before .before .before .before .before .before .pre .1 .0) (c .before .before .before .before .before .before .before .before .before .before .before .before .before .answer-lines .ensures .0) (omega (arith, c .before .before .before .before .before .if2 .left)) (c .before .before .before .before .before .before .before .before .before .before .before .before .before .answer-lines .ensures .1) (c .before .before .before .before .kept-to .ensures) (c .before .before .carry2 .ensures)
+    turned-waiting (c .before .before .before .before .before .before .before .before .before .before .before .before .before .before .before .before .before .before .before .before .before .before .before .before .before .before .args .session) (c .before .before .before .before .before .before .before .before .before .before .before .before .before .before .before .before .before .before .before .before .before .before .before .before .before .before .args .count) (c .before .before .before .before .before .before .before .before .before .before .before .before .before .before .before .before .before .before .before .before .before .before .before .before .before .before .args .block .now) (sym (c .before .before .before .before .before .before .before .before .before .before .before .before .before .before .before .before .before .before .before .before .before .input-ends .ensures) ∙ c .before .before .before .before .before .before .before .before .before .before .before .before .before .before .before .before .before .before .before .before .if1 .left) (c .before .before .before .before .before .before .before .before .before .before .before .before .before .before .before .before .before .before .before .before .before .before .before .before .before .before .pre .1 .0) (c .before .before .before .before .before .before .before .before .before .before .before .before .before .answer-requests .ensures .0) (omega (arith, c .before .before .before .before .before .if2 .left)) (c .before .before .before .before .before .before .before .before .before .before .before .before .before .answer-requests .ensures .1) (c .before .before .before .before .kept-to .ensures) (c .before .before .carry2 .ensures)
 
 pub turn-spec : {M : Type 1} → statement M
 turn-spec =
@@ -94,9 +94,9 @@ turn-spec =
     same-length-4
     returns
     add-filled
-    slice-reshare-prefix-answer-lines
-    slice-aggregate-answer-lines
-    answer-lines-requires
+    slice-reshare-prefix-answer-requests
+    slice-aggregate-answer-requests
+    answer-requests-requires
     carry-requires
     same-length-5
     same-length-6
