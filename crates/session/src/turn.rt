@@ -5,7 +5,7 @@ ghost use mathlib.Core.Path.{_≡_};
 ghost use Prim.Native.Nat.{_+_, _≤_};
 ghost use lib.ListN.{length};
 ghost use Rattle.station.specs.View.{view, Valid};
-ghost use Rattle.console.specs.Turns.{ends, Room, Answers, Stops, KeptTo, LastTurn, Turned};
+ghost use Rattle.session.specs.Turns.{ends, Room, Answers, Stops, KeptTo, LastTurn, Turned};
 use crate::reply::reply_request;
 use station::Station;
 

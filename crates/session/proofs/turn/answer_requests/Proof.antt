@@ -1,13 +1,13 @@
--- `console::answer_requests` meets its contract. The measure is what is left of the block.
+-- `session::answer_requests` meets its contract. The measure is what is left of the block.
 use mathlib.Core.Path.{_≡_, refl, _∙_}
 use Prim.Native.Nat.{_-_}
 use native.Mathlib.Omega.{arith}
 use lib.ListN.{length}
 use Rattle.station.specs.View.{view}
-use Rattle.console.specs.Turns.{Answers}
-use Rattle.console.proofs.Serving.{answers-none, answers-more, stops-done, stops-full}
-use Rattle.console.proofs.turn.answer_requests.Statement.{statement}
-use Rattle.console.proofs.turn.answer_requests.Tie as tie
+use Rattle.session.specs.Turns.{Answers}
+use Rattle.session.proofs.Serving.{answers-none, answers-more, stops-done, stops-full}
+use Rattle.session.proofs.turn.answer_requests.Statement.{statement}
+use Rattle.session.proofs.turn.answer_requests.Tie as tie
 
 abbrev Inv-loop : tie.InvT-loop
 Inv-loop block numbers₀ list₀ out₀ replies₀ numbers list out replies = Answers (view (replies₀ .station)) block replies out × (length numbers ≡ length numbers₀) × (length list ≡ length list₀) × (length out ≡ length out₀)

@@ -8,8 +8,8 @@ ghost use Rattle.protocol.specs.Requests.{readRequest, requestValues, lentList,
 ghost use Rattle.station.specs.View.{view, Valid};
 ghost use Rattle.station.specs.Answers.{settingsOf};
 ghost use Rattle.station.specs.Applied.{callOf, lends};
-ghost use Rattle.console.specs.Reply.{told, reportOf, requestReport, Replied, Lists};
-ghost use Rattle.console.specs.Session.{answered};
+ghost use Rattle.session.specs.Reply.{told, reportOf, requestReport, Replied, Lists};
+ghost use Rattle.session.specs.Session.{answered};
 use protocol::Request;
 use station::Station;
 use station::calls::Call;

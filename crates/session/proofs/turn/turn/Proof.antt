@@ -1,12 +1,12 @@
--- `console::turn` meets its contract, for each of the ways in which a turn ends.
+-- `session::turn` meets its contract, for each of the ways in which a turn ends.
 use mathlib.Core.Path.{sym, _∙_}
 use Prim.Native.Nat.{_+_}
 use native.Mathlib.Omega.{arith}
 use lib.Seq.{length-take-le}
-use Rattle.console.proofs.Serving.{turned-last, turned-full, turned-waiting}
+use Rattle.session.proofs.Serving.{turned-last, turned-full, turned-waiting}
 use borrow.Author.Needs.{needs}
-use Rattle.console.proofs.turn.turn.Statement.{statement}
-use Rattle.console.proofs.turn.turn.Tie as tie
+use Rattle.session.proofs.turn.turn.Statement.{statement}
+use Rattle.session.proofs.turn.turn.Tie as tie
 
 input-ends-requires : tie.Need-input-ends-requires
 input-ends-requires c κs = search needs

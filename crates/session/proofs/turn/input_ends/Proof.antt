@@ -1,7 +1,7 @@
--- `console::input_ends` meets its contract, case by case.
+-- `session::input_ends` meets its contract, case by case.
 use borrow.Author.Needs.{needs}
-use Rattle.console.proofs.turn.input_ends.Statement.{statement}
-use Rattle.console.proofs.turn.input_ends.Tie as tie
+use Rattle.session.proofs.turn.input_ends.Statement.{statement}
+use Rattle.session.proofs.turn.input_ends.Tie as tie
 
 enum-told : tie.Need-enum-told
 enum-told c = search needs

@@ -16,14 +16,14 @@ use Rattle.protocol.specs.Answers.{Printed}
 use Rattle.protocol.proofs.Splitting.{take-slice}
 use Rattle.station.specs.declared.Station.{Station}
 use Rattle.station.specs.View.{view, Valid}
-use Rattle.console.specs.Reply.{Told, Replied}
-use Rattle.console.specs.Session.{answered, first, enough, served, feed}
-use Rattle.console.specs.declared.turn.Wants.the-variants.{Bytes, Room as Space, Nothing}
-use Rattle.console.specs.declared.turn.Session.{Session}
-use Rattle.console.specs.declared.turn.Next.{Next}
-use Rattle.console.specs.declared.turn.Replies.{Replies}
-use Rattle.console.specs.Turns.{after, requestsAfter, Answers, Stops, KeptTo, heldOf, readOf, ends, LastTurn, Turned}
-use Rattle.console.proofs.Sessions.{split-some, served-request, first-first, take-whole}
+use Rattle.session.specs.Reply.{Told, Replied}
+use Rattle.session.specs.Session.{answered, first, enough, served, feed}
+use Rattle.session.specs.declared.turn.Wants.the-variants.{Bytes, Room as Space, Nothing}
+use Rattle.session.specs.declared.turn.Session.{Session}
+use Rattle.session.specs.declared.turn.Next.{Next}
+use Rattle.session.specs.declared.turn.Replies.{Replies}
+use Rattle.session.specs.Turns.{after, requestsAfter, Answers, Stops, KeptTo, heldOf, readOf, ends, LastTurn, Turned}
+use Rattle.session.proofs.Sessions.{split-some, served-request, first-first, take-whole}
 
 -- The text at the front of the buffer
 

@@ -5,7 +5,7 @@ use lib.ListN.{take}
 use Rattle.rules.specs.Calls.{settings, State, fresh}
 use Rattle.protocol.specs.Words.{split}
 use Rattle.protocol.specs.Requests.{readRequest}
-use Rattle.console.specs.Reply.{Told, reply}
+use Rattle.session.specs.Reply.{Told, reply}
 
 -- a text in front of all that follows it
 abbrev pub saying : List ℕ → Told → Told

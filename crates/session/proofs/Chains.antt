@@ -12,15 +12,15 @@ use Rattle.protocol.specs.Words.{split}
 use Rattle.station.specs.declared.Station.{Station}
 use Rattle.station.specs.Answers.{Gives}
 use Rattle.station.specs.View.{view}
-use Rattle.console.specs.Reply.{Told}
-use Rattle.console.specs.Session.{answered, console, Fed, first, served, feed}
-use Rattle.console.specs.declared.turn.Wants.{Wants}
-use Rattle.console.specs.declared.turn.Wants.the-variants.{Bytes, Room as Space, Nothing}
-use Rattle.console.specs.declared.turn.Session.{Session}
-use Rattle.console.specs.declared.turn.Next.{Next}
-use Rattle.console.specs.Turns.{heldOf, readOf, ends, over, Standing, Turned, Chain, opened, turned, EveryChain, Reached}
-use Rattle.console.proofs.Serving.{not-both}
-use Rattle.console.proofs.Sessions.{finish, first-first, feed-append, console-fed}
+use Rattle.session.specs.Reply.{Told}
+use Rattle.session.specs.Session.{answered, console, Fed, first, served, feed}
+use Rattle.session.specs.declared.turn.Wants.{Wants}
+use Rattle.session.specs.declared.turn.Wants.the-variants.{Bytes, Room as Space, Nothing}
+use Rattle.session.specs.declared.turn.Session.{Session}
+use Rattle.session.specs.declared.turn.Next.{Next}
+use Rattle.session.specs.Turns.{heldOf, readOf, ends, over, Standing, Turned, Chain, opened, turned, EveryChain, Reached}
+use Rattle.session.proofs.Serving.{not-both}
+use Rattle.session.proofs.Sessions.{finish, first-first, feed-append, console-fed}
 
 -- what is known after each turn
 record Known (read written : List ℕ) (s : Session) (block : List ℕ) : Type 0 where

@@ -14,8 +14,8 @@ use Rattle.rules.proofs.Ranges.{below-or-not}
 use Rattle.protocol.specs.Words.{joined, split}
 use Rattle.protocol.specs.Requests.{readRequest, error}
 use Rattle.protocol.specs.declared.number.Reason.the-variants.{LineTooLong}
-use Rattle.console.specs.Reply.{Told}
-use Rattle.console.specs.Session.{saying, answered, session, console, Fed, first, enough, served, feed}
+use Rattle.session.specs.Reply.{Told}
+use Rattle.session.specs.Session.{saying, answered, session, console, Fed, first, enough, served, feed}
 
 -- Requests that are too long
 

@@ -1,10 +1,10 @@
--- `console::last_turn` meets its contract: what is held is answered.
+-- `session::last_turn` meets its contract: what is held is answered.
 use mathlib.Core.Path.{sym}
 use lib.Seq.{length-take-le}
-use Rattle.console.proofs.Serving.{last-request}
+use Rattle.session.proofs.Serving.{last-request}
 use borrow.Author.Needs.{needs}
-use Rattle.console.proofs.turn.last_turn.Statement.{statement}
-use Rattle.console.proofs.turn.last_turn.Tie as tie
+use Rattle.session.proofs.turn.last_turn.Statement.{statement}
+use Rattle.session.proofs.turn.last_turn.Tie as tie
 
 slice-aggregate-reply-request : tie.Need-slice-aggregate-reply-request
 slice-aggregate-reply-request c = sym (length-take-le _ _ (c .before .before .before .before .before .before .pre .1 .0))

@@ -9,12 +9,12 @@ use lib.Seq.{slice}
 use Rattle.rules.specs.Calls.{settings, State, fresh}
 use Rattle.protocol.specs.Words.{split}
 use Rattle.station.specs.View.{view, Valid}
-use Rattle.console.specs.Session.{answered, console, first, served, feed}
-use Rattle.console.specs.declared.turn.Wants as declared
-use Rattle.console.specs.declared.turn.Wants.the-variants.{Bytes, Room as Space, Nothing}
-use Rattle.console.specs.declared.turn.Session.{Session}
-use Rattle.console.specs.declared.turn.Next.{Next}
-use Rattle.console.specs.declared.turn.Replies.{Replies}
+use Rattle.session.specs.Session.{answered, console, first, served, feed}
+use Rattle.session.specs.declared.turn.Wants as declared
+use Rattle.session.specs.declared.turn.Wants.the-variants.{Bytes, Room as Space, Nothing}
+use Rattle.session.specs.declared.turn.Session.{Session}
+use Rattle.session.specs.declared.turn.Next.{Next}
+use Rattle.session.specs.declared.turn.Replies.{Replies}
 
 -- what the lent lists have room for
 pub record Room (numbers list out : List ℕ) : Type 0 where

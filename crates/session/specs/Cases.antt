@@ -7,7 +7,7 @@ use Rattle.protocol.specs.Numbers.{valueFrom, numberOf, digitsWithin}
 use Rattle.protocol.specs.Words.{split, sameText}
 use Rattle.protocol.specs.Requests.{readNumbers, readCall, readRequest}
 use Rattle.protocol.specs.Answers.{answerText}
-use Rattle.console.specs.Session.{answered, session, console}
+use Rattle.session.specs.Session.{answered, session, console}
 
 -- "enquire 1", "#", "", "q" are answered "refused 15", "error unknown call"
 small-run :
