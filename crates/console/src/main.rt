@@ -1,7 +1,5 @@
-// Reads calls from standard input, one to a line, and writes one answer line to each on standard output.
-mod reply;
+// Reads requests from standard input, one to a line of text, and writes the answer to each on standard output.
 mod serve;
-mod turn;
 
 fn main() {
     let mut block = io::large_buffer();

@@ -2,10 +2,10 @@
 ghost use mathlib.Core.Path.{_≡_};
 ghost use Prim.Native.Nat.{_+_, _≤_};
 ghost use lib.ListN.{length, take};
-ghost use Rattle.console.specs.Turns.{over, Room, Reached};
-use crate::turn::Session;
-use crate::turn::Wants;
-use crate::turn::turn;
+ghost use Rattle.session.specs.Turns.{over, Room, Reached};
+use session::turn::Session;
+use session::turn::Wants;
+use session::turn::turn;
 use station::Station;
 use station::open::Settings;
 

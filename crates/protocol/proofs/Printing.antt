@@ -10,7 +10,7 @@ use lib.ListN.{length, take, getD, set, length-append}
 use lib.Seq.{sets, length-sets, take-suc, take-length}
 use Rattle.protocol.specs.Numbers.{decimal}
 use Rattle.protocol.proofs.Values.{decimal-small, decimal-more}
-use Rattle.protocol.specs.Answers.{Printed, field, spaced, listed, answerLine}
+use Rattle.protocol.specs.Answers.{Printed, field, spaced, listed, answerText}
 use Rattle.station.specs.Answers.{enquiryAnswer}
 use Rattle.station.specs.declared.enquiry.EnquiryAnswer.{EnquiryAnswer}
 use Rattle.station.proofs.enquiry.EnquiryAnswer.{the-type}
@@ -91,8 +91,8 @@ refused-left Refused p q = refl
 -- nothing of the lent list is printed
 pub enquiry-line :
     (a : EnquiryAnswer) (list : List ℕ) {before : List ℕ} {at : ℕ} {after : List ℕ} {next : ℕ}
-    → Printed (answerLine (enquiryAnswer a) []) before at after next → Printed (answerLine (enquiryAnswer a) list) before at after next
-unfolding answerLine
+    → Printed (answerText (enquiryAnswer a) []) before at after next → Printed (answerText (enquiryAnswer a) list) before at after next
+unfolding answerText
 enquiry-line (Waiting start) list p = p
 enquiry-line (Charging start end) list p = p
 enquiry-line Refused list p = p

@@ -1,4 +1,4 @@
--- A line as it is read: its numbers, from the left, into the lent list; its call by name; the line as a whole.
+-- A request as it is read: its numbers, from the left, into the lent list; its call by name; the request as a whole.
 use mathlib.Core.Path.{_≡_, refl, sym, ap, _∙_}
 use mathlib.Core.Bool.{true, false}
 use mathlib.Core.List.{List, [], _∷_, _++_, append-assoc, append-nil}
@@ -8,34 +8,30 @@ use native.Mathlib.Omega.{arith}
 use borrow.Author.Tests.{lt-ltb, le-ltb, eq-eqb, ne-eqb}
 use lib.Dec.{ltb}
 use lib.ListN.{length, take, getD, set, length-set}
-use lib.Seq.{slice, sets, take-length, length-take-le, take-suc-set, getD-take}
+use lib.Seq.{slice, sets, take-length, take-take, length-take-le, take-suc-set}
 use Rattle.protocol.specs.Numbers.{numberOf}
 use Rattle.protocol.specs.Words.{split, partsAfter, PartEnd, named}
-use Rattle.protocol.specs.Lines.{
+use Rattle.protocol.specs.Requests.{
   nothing,
   error,
   Numbers,
   numbers,
   wrong,
-  known,
-  neededBy,
-  allowedBy,
+  taken,
   followed,
   readNumbers,
   before,
   valuesRead,
-  Enough,
-  callOf,
-  lineOf,
   readCall,
   callValues,
   passedOver,
   byName,
   byKind,
-  readLine,
-  lineValues,
+  readRequest,
+  requestValues,
   meaning,
   Fits,
+  Calls,
   TakesNumbers,
   Asks,
 }
@@ -46,9 +42,9 @@ use Rattle.protocol.specs.declared.number.Reason.the-variants.{UnknownCa
 use Rattle.protocol.specs.declared.number.Number.{Number}
 use Rattle.protocol.specs.declared.number.Number.the-variants.{Value, Wrong}
 use Rattle.protocol.specs.declared.word.CallName.{CallName}
-use Rattle.protocol.specs.declared.word.CallName.the-variants.{Open, Order, Move, Offer, Latest, Lines, Enquire, Unknown}
-use Rattle.protocol.specs.declared.request.Line as declared
-use Rattle.protocol.specs.declared.request.Line.the-variants as asked
+use Rattle.protocol.specs.declared.request.Takes.the-variants.{Between, NoCall}
+use Rattle.protocol.specs.declared.request.Request as declared
+use Rattle.protocol.specs.declared.request.Request.the-variants as asked
 use Rattle.protocol.specs.declared.request.Numbers as code
 use Rattle.protocol.specs.declared.request.Numbers.the-variants as told
 
@@ -66,21 +62,21 @@ one-more : (ns : List ℕ) (n : ℕ) (rest : Numbers) → after ns (followed (Va
 one-more ns n (numbers ms) = rw (append-assoc ns (n ∷ []) ms)
 one-more ns n (wrong reason) = refl
 
--- What is read of a line: the whole is the numbers in the list, and then those that follow the word that ends at `at`.
-pub record Reads (line : List ℕ) (from least most : ℕ) (lent list : List ℕ) (at count : ℕ) : Type 0 where
-  pub within : at ≤ length line
+-- What is read of a request: the whole is the numbers in the list, and then those that follow the word that ends at `at`.
+pub record Reads (text : List ℕ) (from least most : ℕ) (lent list : List ℕ) (at count : ℕ) : Type 0 where
+  pub within : at ≤ length text
   pub few : count ≤ most
   pub long : length list ≡ length lent
   pub written : list ≡ sets lent 0 (take count list)
   pub values :
-      valuesRead most (partsAfter 32 line from (length line))
-      ≡ take count list ++ valuesRead (most - count) (partsAfter 32 line at (length line))
+      valuesRead most (partsAfter 32 text from (length text))
+      ≡ take count list ++ valuesRead (most - count) (partsAfter 32 text at (length text))
   pub whole :
-      readNumbers least most (partsAfter 32 line from (length line))
-      ≡ after (take count list) (readNumbers (least - count) (most - count) (partsAfter 32 line at (length line)))
+      readNumbers least most (partsAfter 32 text from (length text))
+      ≡ after (take count list) (readNumbers (least - count) (most - count) (partsAfter 32 text at (length text)))
 
-pub reads-none : (line : List ℕ) (from least most : ℕ) (list : List ℕ) → from ≤ length line → Reads line from least most list list from 0
-reads-none line from least most list h =
+pub reads-none : (text : List ℕ) (from least most : ℕ) (list : List ℕ) → from ≤ length text → Reads text from least most list list from 0
+reads-none text from least most list h =
     let p : least - 0 ≡ least = omega arith in
     let q : most - 0 ≡ most = omega arith in
     record {
@@ -89,76 +85,76 @@ reads-none line from least most list h =
       long = refl;
       written = refl;
       values = rw q refl;
-      whole = rw (p, q) (sym (nothing (readNumbers least most (partsAfter 32 line from (length line)))));
+      whole = rw (p, q) (sym (nothing (readNumbers least most (partsAfter 32 text from (length text)))));
     }
   where
     nothing : (r : Numbers) → after [] r ≡ r
     nothing (numbers ns) = refl
     nothing (wrong reason) = refl
 
-module _ {line : List ℕ} {from least most : ℕ} {lent list : List ℕ} {at count : ℕ} (r : Reads line from least most lent list at count) where
+module _ {text : List ℕ} {from least most : ℕ} {lent list : List ℕ} {at count : ℕ} (r : Reads text from least most lent list at count) where
   abbrev words : List (List ℕ)
-  words = partsAfter 32 line from (length line)
+  words = partsAfter 32 text from (length text)
 
   -- no more numbers are read
-  list-done : valuesRead (most - count) (partsAfter 32 line at (length line)) ≡ [] → list ≡ sets lent 0 (valuesRead most words)
+  list-done : valuesRead (most - count) (partsAfter 32 text at (length text)) ≡ [] → list ≡ sets lent 0 (valuesRead most words)
   list-done e = r .written ∙ ap (sets lent 0) (sym (r .values ∙ ap (λ (x : List ℕ). take count list ++ x) e ∙ append-nil (take count list)))
 
   -- no word is left
-  none-left : length line ≤ at → valuesRead (most - count) (partsAfter 32 line at (length line)) ≡ []
+  none-left : length text ≤ at → valuesRead (most - count) (partsAfter 32 text at (length text)) ≡ []
   unfolding valuesRead
-  none-left h = rw (le-ltb at (length line) h)
+  none-left h = rw (le-ltb at (length text) h)
 
-  pub reads-missing : length line ≤ at → count < least → TakesNumbers least most words lent list (told.Wrong MissingNumber)
+  pub reads-missing : length text ≤ at → count < least → TakesNumbers least most words lent list (told.Wrong MissingNumber)
   unfolding readNumbers
   reads-missing h k =
       record {
-        numbers-are = sym (r .whole ∙ rw (le-ltb at (length line) h, lt-ltb 0 (least - count) (omega arith)));
-        enough = tt;
+        numbers-are = sym (r .whole ∙ rw (le-ltb at (length text) h, lt-ltb 0 (least - count) (omega arith)));
+        few = tt;
         list-is = list-done (none-left h);
       }
 
-  pub reads-all : length line ≤ at → least ≤ count → TakesNumbers least most words lent list (told.Count count)
+  pub reads-all : length text ≤ at → least ≤ count → TakesNumbers least most words lent list (told.Count count)
   unfolding readNumbers
   reads-all h k =
       record {
         numbers-are =
-            sym (r .whole ∙ rw (le-ltb at (length line) h, le-ltb 0 (least - count) (omega arith), append-nil (take count list)));
-        enough = (k, r .few);
+            sym (r .whole ∙ rw (le-ltb at (length text) h, le-ltb 0 (least - count) (omega arith), append-nil (take count list)));
+        few = r .few;
         list-is = list-done (none-left h);
       }
 
   -- a word is left
-  module _ (h : at < length line) {end : ℕ} (p : PartEnd 32 line (at + 1) (length line) end) where
-    parts-left : partsAfter 32 line at (length line) ≡ slice (at + 1) end line ∷ partsAfter 32 line end (length line)
-    parts-left = rw (lt-ltb at (length line) h, ← add-one at) (p .parts)
+  module _ (h : at < length text) {end : ℕ} (p : PartEnd 32 text (at + 1) (length text) end) where
+    parts-left : partsAfter 32 text at (length text) ≡ slice (at + 1) end text ∷ partsAfter 32 text end (length text)
+    parts-left = rw (lt-ltb at (length text) h, ← add-one at) (p .parts)
 
     module _ (k : count < most) where
       reads-word :
           readNumbers least most words
-          ≡ after (take count list) (followed (numberOf (slice (at + 1) end line)) (readNumbers (least - count - 1) (most - (count + 1)) (partsAfter 32 line end (length line))))
+          ≡ after (take count list) (followed (numberOf (slice (at + 1) end text)) (readNumbers (least - count - 1) (most - (count + 1)) (partsAfter 32 text end (length text))))
       unfolding readNumbers
       reads-word =
           let e : most - count ≡ suc (most - (count + 1)) = omega arith in
           r .whole ∙ rw (e, parts-left)
 
       value-word :
-          valuesRead (most - count) (partsAfter 32 line at (length line))
-          ≡ before (numberOf (slice (at + 1) end line)) (valuesRead (most - (count + 1)) (partsAfter 32 line end (length line)))
+          valuesRead (most - count) (partsAfter 32 text at (length text))
+          ≡ before (numberOf (slice (at + 1) end text)) (valuesRead (most - (count + 1)) (partsAfter 32 text end (length text)))
       unfolding valuesRead
       value-word =
           let e : most - count ≡ suc (most - (count + 1)) = omega arith in
           rw (e, parts-left)
 
       pub reads-wrong :
-          (reason : Reason) → numberOf (slice (at + 1) end line) ≡ Wrong reason
+          (reason : Reason) → numberOf (slice (at + 1) end text) ≡ Wrong reason
           → TakesNumbers least most words lent list (told.Wrong reason)
       reads-wrong reason q =
-          record { numbers-are = sym (reads-word ∙ rw q); enough = tt; list-is = list-done (value-word ∙ rw q) }
+          record { numbers-are = sym (reads-word ∙ rw q); few = tt; list-is = list-done (value-word ∙ rw q) }
 
       pub reads-more :
-          (n : ℕ) → most ≤ length list → numberOf (slice (at + 1) end line) ≡ Value n
-          → Reads line from least most lent (set list count n) end (count + 1)
+          (n : ℕ) → most ≤ length list → numberOf (slice (at + 1) end text) ≡ Value n
+          → Reads text from least most lent (set list count n) end (count + 1)
       reads-more n l q =
           let e : least - count - 1 ≡ least - (count + 1) = omega arith in
           let room : count < length list = omega arith in
@@ -173,136 +169,125 @@ module _ {line : List ℕ} {from least most : ℕ} {lent list : List ℕ} {at co
             whole = reads-word ∙ rw (q, e, one-more, s);
           }
 
-  pub reads-extra : at < length line → count ≡ most → TakesNumbers least most words lent list (told.Wrong ExtraNumber)
+  pub reads-extra : at < length text → count ≡ most → TakesNumbers least most words lent list (told.Wrong ExtraNumber)
   unfolding readNumbers valuesRead
   reads-extra h e =
       let none : most - count ≡ 0 = omega arith in
       record {
         numbers-are =
-            sym (r .whole ∙ rw (none, lt-ltb at (length line) h, first-part 32 (slice (suc at) (length line) line)));
-        enough = tt;
-        list-is = list-done (rw (none, lt-ltb at (length line) h, first-part 32 (slice (suc at) (length line) line)));
+            sym (r .whole ∙ rw (none, lt-ltb at (length text) h, first-part 32 (slice (suc at) (length text) text)));
+        few = tt;
+        list-is = list-done (rw (none, lt-ltb at (length text) h, first-part 32 (slice (suc at) (length text) text)));
       }
 
 -- A call by its name
 
--- the numbers at the front of the list are those that were read
-call-told :
-    (name : CallName) (k : ℕ) (list : List ℕ) → neededBy name ≤ k
-    → meaning (lineOf name k list) list ≡ callOf name (take k list)
-call-told Open k list h = rw (getD-take k list 0 0 (omega arith), getD-take k list 1 0 (omega arith))
-call-told Order k list h =
-    rw (getD-take k list 0 0 (omega arith), getD-take k list 1 0 (omega arith), getD-take k list 2 0 (omega arith))
-call-told Move k list h = rw (getD-take k list 0 0 (omega arith), getD-take k list 1 0 (omega arith))
-call-told Offer k list h = refl
-call-told Latest k list h = refl
-call-told Lines k list h = rw (getD-take k list 0 0 (omega arith))
-call-told Enquire k list h = rw (getD-take k list 0 0 (omega arith))
-call-told Unknown k list h = refl
+-- a request means the same with the numbers that were read, and with the list at whose front they stand
+front-means :
+    (k : ℕ) (list : List ℕ) (r : declared.Request) → k ≤ length list → Fits (length (take k list)) r
+    → meaning r (take k list) ≡ meaning r list
+front-means k list asked.Nothing h f = refl
+front-means k list (asked.Open x) h f = refl
+front-means k list (asked.Call c starts places) h f =
+    rw (take-take starts k list (omega (arith, length-take-le k list h, f .0)))
+front-means k list (asked.Error reason) h f = refl
 
--- a name that is not known, numbers that are wrong, a call
-pub call-unknown :
-    (name : CallName) (words : List (List ℕ)) (list : List ℕ) → known name ≡ false
-    → Asks (readCall name words) (callValues name words) list list (asked.Error UnknownCall)
-unfolding readCall
-call-unknown name words list e = record { request-is = rw e; fits = tt; list-is = rw e }
+fits-more : (k : ℕ) (r : declared.Request) → k ≤ 2048 → Fits k r → Fits 2048 r
+fits-more k asked.Nothing h f = tt
+fits-more k (asked.Open x) h f = tt
+fits-more k (asked.Call c starts places) h f = (omega (arith, f .0), f .1)
+fits-more k (asked.Error reason) h f = tt
 
-fits-told : (name : CallName) (k : ℕ) (list : List ℕ) → k ≤ allowedBy name → Fits (lineOf name k list)
-fits-told Open k list h = tt
-fits-told Order k list h = (omega arith, refl)
-fits-told Move k list h = (omega arith, tt)
-fits-told Offer k list h = (h, refl)
-fits-told Latest k list h = (omega arith, refl)
-fits-told Lines k list h = (omega arith, refl)
-fits-told Enquire k list h = (omega arith, refl)
-fits-told Unknown k list h = tt
-
-module _ (name : CallName) (words : List (List ℕ)) {least most : ℕ} {read : code.Numbers} {list after : List ℕ}
-    (k : known name ≡ true) (l : least ≡ neededBy name) (m : most ≡ allowedBy name)
-    (r : TakesNumbers least most words list after read) where
-  values-so : after ≡ sets list 0 (callValues name words)
-  values-so = rw (k, ← m) (r .list-is)
-
-  pub call-wrong : (reason : Reason) → read ≡ told.Wrong reason → Asks (readCall name words) (callValues name words) list after (asked.Error reason)
+-- a name that is none, numbers that are wrong, a call
+module _ (name : CallName) (words : List (List ℕ)) (list : List ℕ) where
+  pub call-unknown : taken name ≡ NoCall → Asks (readCall name words) (callValues name words) list list (asked.Error UnknownCall)
   unfolding readCall
-  call-wrong reason e = record { request-is = rw (k, ← l, ← m, ← (r .numbers-are), e); fits = tt; list-is = values-so }
+  call-unknown e = record { request-is = rw e; fits = tt; list-is = rw e }
 
-  pub call-read :
-      (n : ℕ) → read ≡ told.Count n → Asks (readCall name words) (callValues name words) list after (lineOf name n after)
-  unfolding readCall
-  call-read n e =
-      let enough : Enough least most (told.Count n) = rw e at (r .enough) in
-      let h : neededBy name ≤ n = rw (← l) (enough .0) in
-      record {
-        request-is = rw (k, ← l, ← m, ← (r .numbers-are), e) (call-told name n after h);
-        fits = fits-told name n after (rw (← m) (enough .1));
-        list-is = values-so;
-      }
+  module _ {least most : ℕ} {read : code.Numbers} {after : List ℕ} (t : taken name ≡ Between least most)
+      (r : TakesNumbers least most words list after read) where
+    values-so : after ≡ sets list 0 (callValues name words)
+    values-so = rw t (r .list-is)
 
--- A line by its kind
+    pub call-wrong : (reason : Reason) → read ≡ told.Wrong reason → Asks (readCall name words) (callValues name words) list after (asked.Error reason)
+    unfolding readCall
+    call-wrong reason e = record { request-is = rw (t, ← (r .numbers-are), e); fits = tt; list-is = values-so }
 
-not-passed : (line : List ℕ) → (length line ≡ 0 → ⊥) → (getD line 0 0 ≡ 35 → ⊥) → passedOver line ≡ false
+    pub call-read :
+        (k : ℕ) {q : declared.Request} → read ≡ told.Count k → k ≤ 2048 → k ≤ length after → Calls name (take k after) q
+        → Asks (readCall name words) (callValues name words) list after q
+    unfolding readCall
+    call-read k {q} e m h c =
+        record {
+          request-is = sym (front-means k after q h (c .call-fits)) ∙ c .call-is ∙ rw (t, ← (r .numbers-are), e);
+          fits = fits-more (length (take k after)) q (omega (arith, length-take-le k after h)) (c .call-fits);
+          list-is = values-so;
+        }
+
+-- A request by its kind
+
+not-passed : (text : List ℕ) → (length text ≡ 0 → ⊥) → (getD text 0 0 ≡ 35 → ⊥) → passedOver text ≡ false
 not-passed [] some ne = absurd (some refl)
 not-passed (b ∷ bs) some ne = ne-eqb b 35 ne
 
 module _ {A : Type 0} (long none : A) (of : CallName → List (List ℕ) → A) where
-  kind-long : (line : List ℕ) → 4096 < length line → byKind long none of line ≡ long
-  kind-long line h = rw (lt-ltb 4096 (length line) h)
+  kind-long : (text : List ℕ) → 4096 < length text → byKind long none of text ≡ long
+  kind-long text h = rw (lt-ltb 4096 (length text) h)
 
-  kind-empty : (line : List ℕ) → length line ≡ 0 → byKind long none of line ≡ none
+  kind-empty : (text : List ℕ) → length text ≡ 0 → byKind long none of text ≡ none
   kind-empty [] h = refl
   kind-empty (b ∷ bs) h = absurd (omega arith)
 
   kind-comment :
-      (line : List ℕ) → length line ≤ 4096 → (length line ≡ 0 → ⊥) → getD line 0 0 ≡ 35 → byKind long none of line ≡ none
+      (text : List ℕ) → length text ≤ 4096 → (length text ≡ 0 → ⊥) → getD text 0 0 ≡ 35 → byKind long none of text ≡ none
   kind-comment [] h some e = absurd (some refl)
   kind-comment (b ∷ bs) h some e = rw (le-ltb 4096 (length (b ∷ bs)) h, eq-eqb b 35 e)
 
   kind-call :
-      (line : List ℕ) (end : ℕ) (name : CallName) → length line ≤ 4096 → (length line ≡ 0 → ⊥) → (getD line 0 0 ≡ 35 → ⊥)
-      → PartEnd 32 line 0 (length line) end → name ≡ named (take end line)
-      → of name (partsAfter 32 line end (length line)) ≡ byKind long none of line
-  kind-call line end name h some ne p e =
-      sym (rw (le-ltb 4096 (length line) h, not-passed line some ne) (ap (byName none of) (ap (split 32) (sym (take-length line)) ∙ p .parts) ∙ rw e))
+      (text : List ℕ) (end : ℕ) (name : CallName) → length text ≤ 4096 → (length text ≡ 0 → ⊥) → (getD text 0 0 ≡ 35 → ⊥)
+      → PartEnd 32 text 0 (length text) end → name ≡ named (take end text)
+      → of name (partsAfter 32 text end (length text)) ≡ byKind long none of text
+  kind-call text end name h some ne p e =
+      sym (rw (le-ltb 4096 (length text) h, not-passed text some ne) (ap (byName none of) (ap (split 32) (sym (take-length text)) ∙ p .parts) ∙ rw e))
 
-module _ (line list : List ℕ) where
-  pub line-too-long : 4096 < length line → Asks (readLine line) (lineValues line) list list (asked.Error LineTooLong)
-  unfolding readLine lineValues
-  line-too-long h =
+module _ (text list : List ℕ) where
+  pub text-too-long : 4096 < length text → Asks (readRequest text) (requestValues text) list list (asked.Error LineTooLong)
+  unfolding readRequest requestValues
+  text-too-long h =
       record {
-        request-is = sym (kind-long (error LineTooLong) nothing readCall line h);
+        request-is = sym (kind-long (error LineTooLong) nothing readCall text h);
         fits = tt;
-        list-is = rw (kind-long [] [] callValues line h);
+        list-is = rw (kind-long [] [] callValues text h);
       }
 
-  pub line-empty : length line ≡ 0 → Asks (readLine line) (lineValues line) list list asked.Nothing
-  unfolding readLine lineValues
-  line-empty h =
+  pub text-empty : length text ≡ 0 → Asks (readRequest text) (requestValues text) list list asked.Nothing
+  unfolding readRequest requestValues
+  text-empty h =
       record {
-        request-is = sym (kind-empty (error LineTooLong) nothing readCall line h);
+        request-is = sym (kind-empty (error LineTooLong) nothing readCall text h);
         fits = tt;
-        list-is = rw (kind-empty [] [] callValues line h);
+        list-is = rw (kind-empty [] [] callValues text h);
       }
 
-  module _ (h : length line ≤ 4096) (some : length line ≡ 0 → ⊥) where
-    pub line-comment : getD line 0 0 ≡ 35 → Asks (readLine line) (lineValues line) list list asked.Nothing
-    unfolding readLine lineValues
-    line-comment e =
+  module _ (h : length text ≤ 4096) (some : length text ≡ 0 → ⊥) where
+    pub text-comment : getD text 0 0 ≡ 35 → Asks (readRequest text) (requestValues text) list list asked.Nothing
+    unfolding readRequest requestValues
+    text-comment e =
         record {
-          request-is = sym (kind-comment (error LineTooLong) nothing readCall line h some e);
+          request-is = sym (kind-comment (error LineTooLong) nothing readCall text h some e);
           fits = tt;
-          list-is = rw (kind-comment [] [] callValues line h some e);
+          list-is = rw (kind-comment [] [] callValues text h some e);
         }
 
-    pub line-call :
-        (end : ℕ) (name : CallName) {after : List ℕ} {l : declared.Line} → (getD line 0 0 ≡ 35 → ⊥)
-        → PartEnd 32 line 0 (length line) end → name ≡ named (take end line)
-        → Asks (readCall name (partsAfter 32 line end (length line))) (callValues name (partsAfter 32 line end (length line))) list after l
-        → Asks (readLine line) (lineValues line) list after l
-    unfolding readLine lineValues
-    line-call end name ne p e a =
+    pub text-call :
+        (end : ℕ) (name : CallName) {after : List ℕ} {l : declared.Request} → (getD text 0 0 ≡ 35 → ⊥)
+        → PartEnd 32 text 0 (length text) end → name ≡ named (take end text)
+        → Asks (readCall name (partsAfter 32 text end (length text))) (callValues name (partsAfter 32 text end (length text))) list after l
+        → Asks (readRequest text) (requestValues text) list after l
+    unfolding readRequest requestValues
+    text-call end name ne p e a =
         record {
-          request-is = a .request-is ∙ kind-call (error LineTooLong) nothing readCall line end name h some ne p e;
+          request-is = a .request-is ∙ kind-call (error LineTooLong) nothing readCall text end name h some ne p e;
           fits = a .fits;
-          list-is = a .list-is ∙ ap (sets list 0) (kind-call [] [] callValues line end name h some ne p e);
+          list-is = a .list-is ∙ ap (sets list 0) (kind-call [] [] callValues text end name h some ne p e);
         }

@@ -1,4 +1,4 @@
-// The answer lines, each with its line feed. A buffer has room for a line where 96 bytes are left, and 42 more for each pair
+// The answers as text, each with its line feed. A buffer has room for an answer where 96 bytes are left, and 42 more for each pair
 // that a clock move reports.
 ghost use Prim.Native.Nat.{_+_, _*_, _≤_};
 ghost use mathlib.Core.List.{[]};
@@ -6,7 +6,7 @@ ghost use lib.ListN.{length};
 ghost use Rattle.rules.specs.Calls.{refused, moved as movedAnswer};
 ghost use Rattle.station.specs.Answers.{openAnswer, enquiryAnswer};
 ghost use Rattle.station.specs.Applied.{answerOf};
-ghost use Rattle.protocol.specs.Answers.{Printed, one, two, four, answerLine, pairsOf, errorLine};
+ghost use Rattle.protocol.specs.Answers.{Printed, one, two, four, answerText, pairsOf, errorText};
 use crate::number::Reason;
 use crate::printer::print_field;
 use crate::printer::print_list;
@@ -18,7 +18,7 @@ use station::open::OpenAnswer;
 use station::order::OrderAnswer;
 use station::plan::PlanAnswer;
 
-// A line of one number, after a text.
+// One number, after a text.
 fn print_one(text: &[u8], n: u64, buffer: &mut [u8], at: usize) -> usize
     requires { ⌜ at + (length (now text) + 21) ≤ length (now buffer) ⌝ }
     ensures { λ r. ⌜ Printed (one (now (text .entry)) n) (now (buffer .entry)) at (now (buffer .exit)) r ⌝ }
@@ -27,7 +27,7 @@ fn print_one(text: &[u8], n: u64, buffer: &mut [u8], at: usize) -> usize
     print_text(b"\n", buffer, a)
 }
 
-// A line of two numbers, each after a text.
+// Two numbers, each after a text.
 fn print_two(text: &[u8], n: u64, next: &[u8], m: u64, buffer: &mut [u8], at: usize) -> usize
     requires { ⌜ at + (length (now text) + (length (now next) + 41)) ≤ length (now buffer) ⌝ }
     ensures { λ r. ⌜ Printed (two (now (text .entry)) n (now (next .entry)) m) (now (buffer .entry)) at (now (buffer .exit)) r ⌝ }
@@ -36,7 +36,7 @@ fn print_two(text: &[u8], n: u64, next: &[u8], m: u64, buffer: &mut [u8], at: us
     print_one(next, m, buffer, a)
 }
 
-// A line of four numbers, the first after a text and each other after a space.
+// Four numbers, the first after a text and each other after a space.
 fn print_four(
     text: &[u8],
     first: u64,
@@ -56,7 +56,7 @@ fn print_four(
 
 fn print_refused(number: u32, buffer: &mut [u8], at: usize) -> usize
     requires { ⌜ at + 96 ≤ length (now buffer) ⌝ }
-    ensures { λ r. ⌜ Printed (answerLine (refused number) []) (now (buffer .entry)) at (now (buffer .exit)) r ⌝ }
+    ensures { λ r. ⌜ Printed (answerText (refused number) []) (now (buffer .entry)) at (now (buffer .exit)) r ⌝ }
 {
     print_one(b"refused ", number as u64, buffer, at)
 }
@@ -64,7 +64,7 @@ fn print_refused(number: u32, buffer: &mut [u8], at: usize) -> usize
 // The reported pairs stand at the front of the list that was lent to the move.
 fn print_moved(reported: usize, dropped: usize, list: &[u32], buffer: &mut [u8], at: usize) -> usize
     requires { ⌜ (2 * reported ≤ length (now list)) × (at + (96 + 42 * reported) ≤ length (now buffer)) ⌝ }
-    ensures { λ r. ⌜ Printed (answerLine (movedAnswer reported dropped) (now (list .entry))) (now (buffer .entry)) at (now (buffer .exit)) r ⌝ }
+    ensures { λ r. ⌜ Printed (answerText (movedAnswer reported dropped) (now (list .entry))) (now (buffer .entry)) at (now (buffer .exit)) r ⌝ }
 {
     let a = print_field(b"moved ", reported as u64, buffer, at);
     let b = print_field(b" dropped ", dropped as u64, buffer, a);
@@ -75,7 +75,7 @@ fn print_moved(reported: usize, dropped: usize, list: &[u32], buffer: &mut [u8],
 
 fn print_enquiry(answer: EnquiryAnswer, buffer: &mut [u8], at: usize) -> usize
     requires { ⌜ at + 96 ≤ length (now buffer) ⌝ }
-    ensures { λ r. ⌜ Printed (answerLine (enquiryAnswer answer) []) (now (buffer .entry)) at (now (buffer .exit)) r ⌝ }
+    ensures { λ r. ⌜ Printed (answerText (enquiryAnswer answer) []) (now (buffer .entry)) at (now (buffer .exit)) r ⌝ }
 {
     if let EnquiryAnswer::Waiting(start) = answer {
         return print_one(b"waiting ", start as u64, buffer, at);
@@ -88,7 +88,7 @@ fn print_enquiry(answer: EnquiryAnswer, buffer: &mut [u8], at: usize) -> usize
 
 pub fn print_opening(answer: OpenAnswer, buffer: &mut [u8], at: usize) -> usize
     requires { ⌜ at + 96 ≤ length (now buffer) ⌝ }
-    ensures { λ r. ⌜ Printed (answerLine (openAnswer answer) []) (now (buffer .entry)) at (now (buffer .exit)) r ⌝ }
+    ensures { λ r. ⌜ Printed (answerText (openAnswer answer) []) (now (buffer .entry)) at (now (buffer .exit)) r ⌝ }
 {
     match answer {
         OpenAnswer::Opened(bound) => print_one(b"open 0 ", bound as u64, buffer, at),
@@ -99,7 +99,7 @@ pub fn print_opening(answer: OpenAnswer, buffer: &mut [u8], at: usize) -> usize
 // The answer of any call, with the list that was lent for its report.
 pub fn print_answer(answer: Answer, list: &[u32], buffer: &mut [u8], at: usize) -> usize
     requires { ⌜ (2 * pairsOf (answerOf answer) ≤ length (now list)) × (at + (96 + 42 * pairsOf (answerOf answer)) ≤ length (now buffer)) ⌝ }
-    ensures { λ r. ⌜ Printed (answerLine (answerOf answer) (now (list .entry))) (now (buffer .entry)) at (now (buffer .exit)) r ⌝ }
+    ensures { λ r. ⌜ Printed (answerText (answerOf answer) (now (list .entry))) (now (buffer .entry)) at (now (buffer .exit)) r ⌝ }
 {
     match answer {
         Answer::Order(order) => match order {
@@ -146,7 +146,7 @@ pub fn print_answer(answer: Answer, list: &[u32], buffer: &mut [u8], at: usize) 
 
 pub fn print_error(reason: Reason, buffer: &mut [u8], at: usize) -> usize
     requires { ⌜ at + 96 ≤ length (now buffer) ⌝ }
-    ensures { λ r. ⌜ Printed (errorLine reason) (now (buffer .entry)) at (now (buffer .exit)) r ⌝ }
+    ensures { λ r. ⌜ Printed (errorText reason) (now (buffer .entry)) at (now (buffer .exit)) r ⌝ }
 {
     match reason {
         Reason::UnknownCall => print_text(b"error unknown call\n", buffer, at),

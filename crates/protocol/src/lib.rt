@@ -1,4 +1,4 @@
-// The line protocol of the station: a call is read from a line of bytes, an answer is printed as one.
+// The text protocol of the station: a call is read from a line of text, an answer is printed as one.
 //
 // No contract speaks of input or output: everything here is a function on slices.
 mod answer;
@@ -13,8 +13,8 @@ pub use answer::print_error;
 pub use answer::print_opening;
 pub use block::carry;
 pub use number::Reason;
-pub use request::Line;
+pub use request::Request;
 pub use request::fill_lent;
 pub use request::places_lent;
-pub use request::read_line;
+pub use request::read_request;
 pub use word::part_end;

@@ -7,8 +7,8 @@ use native.Mathlib.Omega.{arith}
 use lib.ListN.{length}
 use lib.Seq.{length-take-le}
 use Rattle.station.specs.View.{Valid}
-use Rattle.console.specs.Turns.{over, opened, Reached}
-use Rattle.console.proofs.Chains.{reached-on, opened-fresh}
+use Rattle.session.specs.Turns.{over, opened, Reached}
+use Rattle.session.proofs.Chains.{reached-on, opened-fresh}
 use borrow.Author.Needs.{needs}
 use Rattle.console.proofs.serve.serve.Statement.{statement}
 use Rattle.console.proofs.serve.serve.Tie as tie

@@ -1,5 +1,5 @@
 -- `protocol::print_answer` meets its contract, case by case.
-use Rattle.protocol.specs.Answers.{answerLine}
+use Rattle.protocol.specs.Answers.{answerText}
 use Rattle.protocol.proofs.Printing.{enquiry-line}
 use borrow.Author.Needs.{needs}
 use Rattle.protocol.proofs.answer.print_answer.Statement.{statement}
@@ -81,42 +81,42 @@ same-length : tie.Need-same-length
 same-length c = search needs
 
 returns : tie.Need-returns
-unfolding answerLine
+unfolding answerText
 returns c = rw (c .before .before .before .before .before .before .before .before .before .before .answer .given .1, c .before .before .before .before .before .before .before .order .given .1) (c .before .before .print-two .ensures)
 
 same-length-2 : tie.Need-same-length-2
 same-length-2 c = search needs
 
 returns-2 : tie.Need-returns-2
-unfolding answerLine
+unfolding answerText
 returns-2 c = rw (c .before .before .before .before .before .before .before .before .answer .given .1, c .before .before .before .before .before .order2 .given .1) (c .before .before .print-refused .ensures)
 
 same-length-3 : tie.Need-same-length-3
 same-length-3 c = search needs
 
 returns-3 : tie.Need-returns-3
-unfolding answerLine
+unfolding answerText
 returns-3 c = rw (c .before .before .before .before .before .before .before .before .answer2 .given .1, c .before .before .before .before .before .moved .given .1) (c .before .before .print-moved .ensures)
 
 same-length-4 : tie.Need-same-length-4
 same-length-4 c = search needs
 
 returns-4 : tie.Need-returns-4
-unfolding answerLine
+unfolding answerText
 returns-4 c = rw (c .before .before .before .before .before .before .before .before .answer2 .given .1, c .before .before .before .before .before .moved2 .given .1) (c .before .before .print-refused2 .ensures)
 
 same-length-5 : tie.Need-same-length-5
 same-length-5 c = search needs
 
 returns-5 : tie.Need-returns-5
-unfolding answerLine
+unfolding answerText
 returns-5 c = rw (c .before .before .before .before .before .before .before .before .before .answer3 .given .1, c .before .before .before .before .before .before .plan .given .1) (c .before .before .print-four .ensures)
 
 same-length-6 : tie.Need-same-length-6
 same-length-6 c = search needs
 
 returns-6 : tie.Need-returns-6
-unfolding answerLine
+unfolding answerText
 returns-6 c = rw (c .before .before .before .before .before .before .before .before .answer3 .given .1, c .before .before .before .before .before .plan2 .given .1) (c .before .before .print-refused3 .ensures)
 
 same-length-7 : tie.Need-same-length-7

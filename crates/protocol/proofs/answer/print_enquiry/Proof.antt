@@ -1,5 +1,5 @@
 -- `protocol::print_enquiry` meets its contract, case by case.
-use Rattle.protocol.specs.Answers.{answerLine}
+use Rattle.protocol.specs.Answers.{answerText}
 use Rattle.protocol.proofs.Printing.{refused-left}
 use borrow.Author.Needs.{needs}
 use Rattle.protocol.proofs.answer.print_enquiry.Statement.{statement}
@@ -21,7 +21,7 @@ same-length : tie.Need-same-length
 same-length c = search needs
 
 returns : tie.Need-returns
-unfolding answerLine
+unfolding answerText
 returns c = rw (c .before .before .before .before .before .before .answer .given .1) (c .before .before .print-one .ensures)
 
 enum-known-answer-2 : tie.Need-enum-known-answer-2
@@ -34,7 +34,7 @@ same-length-2 : tie.Need-same-length-2
 same-length-2 c = search needs
 
 returns-2 : tie.Need-returns-2
-unfolding answerLine
+unfolding answerText
 returns-2 c = rw (refused-left (c .before .before .before .before .before .before .before .args .answer) (c .before .before .before .before .before .match .keys2) (c .before .before .before .before .match2 .keys2)) (c .before .before .print-refused .ensures)
 
 slice-aggregate-print-two : tie.Need-slice-aggregate-print-two
@@ -56,7 +56,7 @@ same-length-3 : tie.Need-same-length-3
 same-length-3 c = search needs
 
 returns-3 : tie.Need-returns-3
-unfolding answerLine
+unfolding answerText
 returns-3 c = rw (c .before .before .before .before .before .before .before .answer2 .given .1) (c .before .before .print-two .ensures)
 
 pub print-enquiry-spec : {M : Type 1} → statement M

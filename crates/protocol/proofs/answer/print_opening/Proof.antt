@@ -1,5 +1,5 @@
 -- `protocol::print_opening` meets its contract, case by case.
-use Rattle.protocol.specs.Answers.{answerLine}
+use Rattle.protocol.specs.Answers.{answerText}
 use borrow.Author.Needs.{needs}
 use Rattle.protocol.proofs.answer.print_opening.Statement.{statement}
 use Rattle.protocol.proofs.answer.print_opening.Tie as tie
@@ -26,14 +26,14 @@ same-length : tie.Need-same-length
 same-length c = search needs
 
 returns : tie.Need-returns
-unfolding answerLine
+unfolding answerText
 returns c = rw (c .before .before .before .before .before .before .answer .given .1) (c .before .before .print-one .ensures)
 
 same-length-2 : tie.Need-same-length-2
 same-length-2 c = search needs
 
 returns-2 : tie.Need-returns-2
-unfolding answerLine
+unfolding answerText
 returns-2 c = rw (c .before .before .before .before .before .answer2 .given .1) (c .before .before .print-refused .ensures)
 
 pub print-opening-spec : {M : Type 1} → statement M

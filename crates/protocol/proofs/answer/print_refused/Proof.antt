@@ -1,5 +1,5 @@
 -- `protocol::print_refused` meets its contract.
-use Rattle.protocol.specs.Answers.{answerLine}
+use Rattle.protocol.specs.Answers.{answerText}
 use borrow.Author.Needs.{needs}
 use Rattle.protocol.proofs.answer.print_refused.Statement.{statement}
 use Rattle.protocol.proofs.answer.print_refused.Tie as tie
@@ -14,7 +14,7 @@ same-length : tie.Need-same-length
 same-length c = search needs
 
 returns : tie.Need-returns
-unfolding answerLine
+unfolding answerText
 returns c = c .before .before .print-one .ensures
 
 pub print-refused-spec : {M : Type 1} → statement M

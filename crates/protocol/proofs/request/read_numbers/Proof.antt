@@ -1,4 +1,4 @@
--- `protocol::read_numbers` meets its contract: the numbers in the list, and those that are left to read, are those of the line.
+-- `protocol::read_numbers` meets its contract: the numbers in the list, and those that are left to read, are those of the request.
 use mathlib.Core.Path.{sym, _∙_}
 use Prim.Native.Nat.{_-_}
 use native.Mathlib.Omega.{arith}
@@ -9,15 +9,15 @@ use Rattle.protocol.proofs.request.read_numbers.Statement.{statement}
 use Rattle.protocol.proofs.request.read_numbers.Tie as tie
 
 abbrev Inv-loop : tie.InvT-loop
-Inv-loop line from least most numbers₀ at₀ count₀ numbers at count = Reads line from least most numbers₀ numbers at count
+Inv-loop text from least most numbers₀ at₀ count₀ numbers at count = Reads text from least most numbers₀ numbers at count
 
 abbrev μ-loop : tie.MeasureT-loop
-μ-loop line from least most numbers₀ at₀ count₀ numbers at count = length line - at
+μ-loop text from least most numbers₀ at₀ count₀ numbers at count = length text - at
 
 loop-holds : tie.Need-loop-holds Inv-loop μ-loop
 loop-holds c =
     let a = c .before .before .args in
-    reads-none (a .line .now) (a .from) (a .least) (a .most) (a .numbers .now) (c .before .before .pre .0)
+    reads-none (a .text .now) (a .from) (a .least) (a .most) (a .numbers .now) (c .before .before .pre .0)
 
 same-length : tie.Need-same-length Inv-loop μ-loop
 same-length c = c .before .before .loop .inv .long
