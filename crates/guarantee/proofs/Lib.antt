@@ -16,3 +16,4 @@ pub mod RefutedOne
 pub mod RefutedTwoOrders
 pub mod RefutedTwoPlans
 pub mod RefutedThree
+pub mod BreaksThree

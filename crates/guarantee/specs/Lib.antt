@@ -9,3 +9,7 @@ pub mod WrongRefusals
 pub mod WrongOrders
 pub mod WrongMoves
 pub mod WrongPlans
+pub mod Same
+pub mod FieldsThree
+pub mod TestsThree
+pub mod BreaksThree
