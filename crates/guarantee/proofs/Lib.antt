@@ -16,4 +16,6 @@ pub mod RefutedOne
 pub mod RefutedTwoOrders
 pub mod RefutedTwoPlans
 pub mod RefutedThree
+pub mod Same
+pub mod TestsThree
 pub mod BreaksThree

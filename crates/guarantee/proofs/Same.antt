@@ -1,0 +1,80 @@
+-- What the tests of lists and answers say.
+use mathlib.Core.Logic.{_↔_}
+use mathlib.Core.Path.{_≡_, refl, sym, ap, _∙_}
+use Prim.Native.Nat.{ℕ, _≤_, _<_}
+use mathlib.Core.Bool.{Bool, true, false, cond, _&&_, false≢true}
+use mathlib.Core.List.{List, [], _∷_}
+use native.Mathlib.Omega.{arith}
+use lib.Dec.{leb, ltb, eqb}
+use lib.ListN.{getD}
+use borrow.Author.Tests.{leb-true, ltb-true, eqb-true, le-leb, lt-ltb, eq-eqb}
+use Rattle.rules.specs.Basics.{Each}
+use Rattle.rules.specs.Calls.{Answer, refused, opened, ordered, moved, planned, waiting, charging}
+use Rattle.rules.proofs.Ranges.{and-left, and-right, and-both}
+use Rattle.guarantee.specs.Same.{every, where-so, sameList, inNumbers, sameAnswer}
+
+-- a test of a fact
+abbrev pub Tests : Bool → Type 0 → Type 0
+Tests b P = (b ≡ true) ↔ P
+
+pub leb-tests : (a b : ℕ) → Tests (leb a b) (a ≤ b)
+leb-tests a b = (leb-true a b, le-leb a b)
+
+pub ltb-tests : (a b : ℕ) → Tests (ltb a b) (a < b)
+ltb-tests a b = (ltb-true a b, lt-ltb a b)
+
+pub eqb-tests : (a b : ℕ) → Tests (eqb a b) (a ≡ b)
+eqb-tests a b = (eqb-true a b, eq-eqb a b)
+
+pub every-tests :
+    {A : Type 0} {f : A → Bool} {P : A → Type 0} → ((a : A) → Tests (f a) (P a)) → (l : List A) → Tests (every f l) (Each P l)
+every-tests h [] = ((λ e. tt), (λ e. refl))
+every-tests {f = f} h (a ∷ l) = (
+  (λ e. (h a .0 (and-left (f a) (every f l) e), every-tests h l .0 (and-right (f a) (every f l) e))),
+  (λ p. and-both (f a) (every f l) (h a .1 (p .0)) (every-tests h l .1 (p .1))),
+)
+
+pub where-so-tests : {a b : Bool} {P Q : Type 0} → Tests a P → Tests b Q → Tests (where-so a b) (P → Q)
+where-so-tests {a = true} h k = ((λ e p. k .0 e), (λ f. k .1 (f (h .0 refl))))
+where-so-tests {a = false} h k = ((λ e p. absurd (false≢true (h .1 p))), (λ f. refl))
+
+pub same-list : (l m : List ℕ) → Tests (sameList l m) (l ≡ m)
+same-list [] [] = ((λ e. refl), (λ e. refl))
+same-list [] (b ∷ m) = ((λ e. absurd (false≢true e)), (λ e. let z : _≡_ {A = ℕ} 0 1 = cc in absurd (omega arith)))
+same-list (a ∷ l) [] = ((λ e. absurd (false≢true e)), (λ e. let z : _≡_ {A = ℕ} 0 1 = cc in absurd (omega arith)))
+same-list (a ∷ l) (b ∷ m) = (
+  (λ e.
+      let p : a ≡ b = eqb-true a b (and-left (eqb a b) (sameList l m) e) in
+      let q : l ≡ m = same-list l m .0 (and-right (eqb a b) (sameList l m) e) in
+      rw (p, q)),
+  (λ e.
+      let p : a ≡ b = cc in
+      let q : l ≡ m = cc in
+      and-both (eqb a b) (sameList l m) (eq-eqb a b p) (same-list l m .1 q)),
+)
+
+-- the answer with these numbers
+abbrev read : List ℕ → Answer
+read l =
+    let of : ℕ → ℕ = λ i. getD l i 0 in
+    cond (eqb (of 0) 0) (refused (of 1))
+    (cond (eqb (of 0) 1) (opened (of 1))
+    (cond (eqb (of 0) 2) (ordered (of 1) (of 2))
+    (cond (eqb (of 0) 3) (moved (of 1) (of 2))
+    (cond (eqb (of 0) 4) (planned (of 1) (of 2) (of 3) (of 4))
+    (cond (eqb (of 0) 5) (waiting (of 1)) (charging (of 1) (of 2)))))))
+
+read-back : (a : Answer) → read (inNumbers a) ≡ a
+read-back (refused k) = refl
+read-back (opened d) = refl
+read-back (ordered t s) = refl
+read-back (moved n m) = refl
+read-back (planned c b a n) = refl
+read-back (waiting s) = refl
+read-back (charging s e) = refl
+
+pub same-answer : (a b : Answer) → Tests (sameAnswer a b) (a ≡ b)
+same-answer a b = (
+  (λ e. sym (read-back a) ∙ (ap read (same-list (inNumbers a) (inNumbers b) .0 e) ∙ read-back b)),
+  (λ e. same-list (inNumbers a) (inNumbers b) .1 (ap inNumbers e)),
+)
