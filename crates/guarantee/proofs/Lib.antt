@@ -17,5 +17,6 @@ pub mod RefutedTwoOrders
 pub mod RefutedTwoPlans
 pub mod RefutedThree
 pub mod Same
+pub mod FieldsThree
 pub mod TestsThree
 pub mod BreaksThree

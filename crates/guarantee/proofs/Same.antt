@@ -3,12 +3,12 @@ use mathlib.Core.Logic.{_↔_}
 use mathlib.Core.Path.{_≡_, refl, sym, ap, _∙_}
 use Prim.Native.Nat.{ℕ, _≤_, _<_}
 use mathlib.Core.Bool.{Bool, true, false, cond, _&&_, false≢true}
-use mathlib.Core.List.{List, [], _∷_}
+use mathlib.Core.List.{List, [], _∷_, map}
 use native.Mathlib.Omega.{arith}
 use lib.Dec.{leb, ltb, eqb}
 use lib.ListN.{getD}
 use borrow.Author.Tests.{leb-true, ltb-true, eqb-true, le-leb, lt-ltb, eq-eqb}
-use Rattle.rules.specs.Basics.{Each}
+use Rattle.rules.specs.Basics.{Each, keep}
 use Rattle.rules.specs.Calls.{Answer, refused, opened, ordered, moved, planned, waiting, charging}
 use Rattle.rules.proofs.Ranges.{and-left, and-right, and-both}
 use Rattle.guarantee.specs.Same.{every, where-so, sameList, inNumbers, sameAnswer}
@@ -78,3 +78,21 @@ same-answer a b = (
   (λ e. sym (read-back a) ∙ (ap read (same-list (inNumbers a) (inNumbers b) .0 e) ∙ read-back b)),
   (λ e. same-list (inNumbers a) (inNumbers b) .1 (ap inNumbers e)),
 )
+
+-- what the test of each member that is kept means
+pub each-kept :
+    {A : Type 0} (f : A → Bool) (P : A → Type 0) → ((a : A) → f a ≡ true → P a) → (l : List A) → Each P (keep f l)
+each-kept f P h [] = tt
+each-kept f P h (a ∷ l) = go (f a) refl (each-kept f P h l)
+  where
+    go : (b : Bool) → f a ≡ b → Each P (keep f l) → Each P (cond b (a ∷ keep f l) (keep f l))
+    go true p r = (h a p, r)
+    go false p r = r
+
+-- a function that leaves a list as it is leaves each member
+pub each-same : {A : Type 0} (f : A → A) (l : List A) → map f l ≡ l → Each (λ a. f a ≡ a) l
+each-same f [] e = tt
+each-same f (a ∷ l) e =
+    let p : f a ≡ a = cc in
+    let q : map f l ≡ l = cc in
+    (p, each-same f l q)

@@ -3,14 +3,15 @@ use Prim.Native.Nat.{ℕ}
 use mathlib.Core.Bool.{Bool, not}
 use mathlib.Core.List.{List, [], _∷_, _++_, map}
 use lib.Dec.{eqb}
-use Rattle.rules.specs.Basics.{keep, some}
+use Rattle.rules.specs.Basics.{Each, keep, some}
 use Rattle.rules.specs.Entry.{lentList}
 use Rattle.rules.specs.Calls.{settings, State, Call, order, move, offer, replanLatest, opening, step}
 use Rattle.guarantee.specs.Past.{Gives}
 use Rattle.guarantee.specs.WrongOrders.{ownLineOnly, neighboursOnly, limitIgnored, fixedStart, ticketSkipped}
 use Rattle.guarantee.specs.WrongMoves.{startAtClockLeftOut, firstReportOnly, reportedTwice, startAtTargetReported, nobodyReported, slowClock, droppedEarly, droppedLate, neverDropped, shownLate, shownBegun, shownEarly}
 use Rattle.guarantee.specs.WrongPlans.{untested, begunMoved}
-use Rattle.guarantee.specs.FieldsThree.{Field, limit, balance, tickets, not-early, in-time, reported, not-reported, waits, charges, finished, no-other, unmoved, fields, place}
+use Rattle.guarantee.specs.FieldsThree.{Field, limit, balance, tickets, not-early, in-time, reported, not-reported, waits, charges, finished, no-other, unmoved, fields, place, Holds}
+use Rattle.guarantee.specs.Same.{sameList}
 use Rattle.guarantee.specs.TestsThree.{tested}
 
 -- an entry: a station, the first state, the calls, the fields that are false on them and those that hold
@@ -31,6 +32,11 @@ computed e =
       broken = keep (λ f. not (test f)) fields;
       kept = keep test fields;
     }
+
+-- what an entry claims: each field named as broken is false, each named as kept holds
+pub record Exactly (e : Entry) : Type 0 where
+  pub breaks : Each (λ f. Holds (e .gives) (e .first) (e .calls) f → ⊥) (e .broken)
+  pub keeps : Each (λ f. Holds (e .gives) (e .first) (e .calls) f) (e .kept)
 
 -- "and no other": the fields named are false, all others hold
 abbrev only : Gives → State → List Call → List Field → Entry
@@ -84,6 +90,10 @@ wrongEntries =
     ∷ only nobodyReported one (to 1 ∷ []) (no-other ∷ [])
     ∷ only shownEarly one (single ∷ single ∷ to 9 ∷ to 11 ∷ []) (unmoved ∷ [])
     ∷ []
+
+-- whether some entry breaks this field and no other
+abbrev pub brokenAlone : Field → Bool
+brokenAlone f = some (λ e. sameList (map place (e .broken)) (place f ∷ [])) wrongEntries
 
 -- and the rules themselves on the same calls, where nothing breaks
 abbrev pub entries : List Entry
