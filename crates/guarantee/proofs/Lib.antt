@@ -17,6 +17,7 @@ pub mod RefutedTwoOrders
 pub mod RefutedTwoPlans
 pub mod RefutedThree
 pub mod Same
+pub mod Breaks
 pub mod FieldsThree
 pub mod TestsThree
 pub mod BreaksThree

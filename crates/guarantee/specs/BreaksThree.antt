@@ -1,9 +1,7 @@
 -- For each field of demand 3 a wrong station, and a list of calls on which that field is false and no other.
 use Prim.Native.Nat.{ℕ}
-use mathlib.Core.Bool.{Bool, not}
+use mathlib.Core.Bool.{Bool}
 use mathlib.Core.List.{List, [], _∷_, _++_, map}
-use lib.Dec.{eqb}
-use Rattle.rules.specs.Basics.{Each, keep, some}
 use Rattle.rules.specs.Entry.{lentList}
 use Rattle.rules.specs.Calls.{settings, State, Call, order, move, offer, replanLatest, opening, step}
 use Rattle.guarantee.specs.Past.{Gives}
@@ -11,43 +9,29 @@ use Rattle.guarantee.specs.WrongOrders.{ownLineOnly, neighboursOnly, lim
 use Rattle.guarantee.specs.WrongMoves.{startAtClockLeftOut, firstReportOnly, reportedTwice, startAtTargetReported, nobodyReported, slowClock, droppedEarly, droppedLate, neverDropped, shownLate, shownBegun, shownEarly}
 use Rattle.guarantee.specs.WrongPlans.{untested, begunMoved}
 use Rattle.guarantee.specs.FieldsThree.{Field, limit, balance, tickets, not-early, in-time, reported, not-reported, waits, charges, finished, no-other, unmoved, fields, place, Holds}
-use Rattle.guarantee.specs.Same.{sameList}
+use Rattle.guarantee.specs.Breaks.{Entry, computedBy, onlyOf}
 use Rattle.guarantee.specs.TestsThree.{tested}
 
--- an entry: a station, the first state, the calls, the fields that are false on them and those that hold
-pub record Entry : Type 0 where
+-- a station, its first state and the calls made to it
+pub record Trial : Type 0 where
   pub gives : Gives
   pub first : State
   pub calls : List Call
-  pub broken : List Field
-  pub kept : List Field
 
-abbrev pub computed : Entry → Entry
-computed e =
-    let test : Field → Bool = tested (e .gives) (e .first) (e .calls) in
-    record {
-      gives = e .gives;
-      first = e .first;
-      calls = e .calls;
-      broken = keep (λ f. not (test f)) fields;
-      kept = keep test fields;
-    }
+abbrev pub HoldsOf : Trial → Field → Type 0
+HoldsOf r f = Holds (r .gives) (r .first) (r .calls) f
 
--- what an entry claims: each field named as broken is false, each named as kept holds
-pub record Exactly (e : Entry) : Type 0 where
-  pub breaks : Each (λ f. Holds (e .gives) (e .first) (e .calls) f → ⊥) (e .broken)
-  pub keeps : Each (λ f. Holds (e .gives) (e .first) (e .calls) f) (e .kept)
+abbrev pub testOf : Trial → Field → Bool
+testOf r f = tested (r .gives) (r .first) (r .calls) f
 
--- "and no other": the fields named are false, all others hold
-abbrev only : Gives → State → List Call → List Field → Entry
-only gives s calls broken =
-    record {
-      gives = gives;
-      first = s;
-      calls = calls;
-      broken = broken;
-      kept = keep (λ f. not (some (λ b. eqb (place b) (place f)) broken)) fields;
-    }
+abbrev pub Breach : Type 0
+Breach = Entry Trial Field
+
+abbrev pub computed : Breach → Breach
+computed = computedBy testOf fields
+
+abbrev only : Gives → State → List Call → List Field → Breach
+only gives s calls broken = onlyOf place fields (record { gives = gives; first = s; calls = calls }) broken
 
 -- the station of 1, 100 and that of 2, 50, both with D = 1
 abbrev pub one : State
@@ -67,7 +51,7 @@ fourOrders = order 1 10 60 ∷ order 2 10 60 ∷ order 3 10 60 ∷ order 1 10 60
 abbrev pub to : ℕ → Call
 to target = move target lentList
 
-abbrev pub wrongEntries : List Entry
+abbrev pub wrongEntries : List Breach
 wrongEntries =
     only limitIgnored one fourOrders (limit ∷ [])
     ∷ only fixedStart one fourOrders (limit ∷ [])
@@ -91,10 +75,6 @@ wrongEntries =
     ∷ only shownEarly one (single ∷ single ∷ to 9 ∷ to 11 ∷ []) (unmoved ∷ [])
     ∷ []
 
--- whether some entry breaks this field and no other
-abbrev pub brokenAlone : Field → Bool
-brokenAlone f = some (λ e. sameList (map place (e .broken)) (place f ∷ [])) wrongEntries
-
 -- and the rules themselves on the same calls, where nothing breaks
-abbrev pub entries : List Entry
-entries = wrongEntries ++ map (λ e. only step (e .first) (e .calls) []) wrongEntries
+abbrev pub entries : List Breach
+entries = wrongEntries ++ map (λ e. only step (e .thing .first) (e .thing .calls) []) wrongEntries

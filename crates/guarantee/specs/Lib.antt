@@ -10,6 +10,7 @@ pub mod WrongOrders
 pub mod WrongMoves
 pub mod WrongPlans
 pub mod Same
+pub mod Breaks
 pub mod FieldsThree
 pub mod TestsThree
 pub mod BreaksThree
