@@ -1,9 +1,11 @@
--- Tests of lists and answers that compute: of each member, and whether two are the same.
+-- Tests of lists, answers and stations that compute: of each member, and whether two are the same.
 use Prim.Native.Nat.{ℕ}
 use mathlib.Core.Bool.{Bool, true, false, cond, _&&_}
 use mathlib.Core.List.{List, [], _∷_}
 use lib.Dec.{eqb}
-use Rattle.rules.specs.Calls.{Answer, refused, opened, ordered, moved, planned, waiting, charging}
+use lib.ListN.{getD}
+use Rattle.rules.specs.Charge.{Charge}
+use Rattle.rules.specs.Calls.{State, Answer, refused, opened, ordered, moved, planned, waiting, charging}
 
 -- f holds at each member
 abbrev pub every : {A : Type 0} → (A → Bool) → List A → Bool
@@ -14,11 +16,14 @@ every f (a ∷ l) = f a && every f l
 abbrev pub where-so : Bool → Bool → Bool
 where-so a b = cond a b true
 
+abbrev pub sameEach : {A : Type 0} → (A → A → Bool) → List A → List A → Bool
+sameEach same [] [] = true
+sameEach same [] (b ∷ m) = false
+sameEach same (a ∷ l) [] = false
+sameEach same (a ∷ l) (b ∷ m) = same a b && sameEach same l m
+
 abbrev pub sameList : List ℕ → List ℕ → Bool
-sameList [] [] = true
-sameList [] (b ∷ m) = false
-sameList (a ∷ l) [] = false
-sameList (a ∷ l) (b ∷ m) = eqb a b && sameList l m
+sameList = sameEach eqb
 
 -- an answer as a number for its kind and the numbers that it gives
 abbrev pub inNumbers : Answer → List ℕ
@@ -32,3 +37,20 @@ inNumbers (charging s e) = 6 ∷ s ∷ e ∷ []
 
 abbrev pub sameAnswer : Answer → Answer → Bool
 sameAnswer a b = sameList (inNumbers a) (inNumbers b)
+
+-- the number at place i of that list, 0 behind its end
+abbrev pub numberIn : ℕ → Answer → ℕ
+numberIn i a = getD (inNumbers a) i 0
+
+abbrev pub ofCharge : Charge → List ℕ
+ofCharge c = c .ticket ∷ c .line ∷ c .orderMinute ∷ c .time ∷ c .due ∷ c .start ∷ []
+
+abbrev pub sameCharges : List Charge → List Charge → Bool
+sameCharges = sameEach (λ c d. sameList (ofCharge c) (ofCharge d))
+
+-- a station without its charges
+abbrev pub ofState : State → List ℕ
+ofState s = s .limit ∷ s .percent ∷ s .bound ∷ s .clock ∷ s .next ∷ []
+
+abbrev pub sameState : State → State → Bool
+sameState s t = sameList (ofState s) (ofState t) && sameCharges (s .charges) (t .charges)
