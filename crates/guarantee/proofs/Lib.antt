@@ -20,4 +20,5 @@ pub mod Same
 pub mod Breaks
 pub mod FieldsThree
 pub mod TestsThree
+pub mod BreaksOne
 pub mod BreaksThree

@@ -46,13 +46,13 @@ same-each same h [] (b ∷ m) = ((λ e. absurd (false≢true e)), (λ e. let z :
 same-each same h (a ∷ l) [] = ((λ e. absurd (false≢true e)), (λ e. let z : _≡_ {A = ℕ} 0 1 = cc in absurd (omega arith)))
 same-each same h (a ∷ l) (b ∷ m) = (
   (λ e.
-    let p : a ≡ b = h a b .0 (and-left (same a b) (sameEach same l m) e) in
-    let q : l ≡ m = same-each same h l m .0 (and-right (same a b) (sameEach same l m) e) in
-    rw (p, q)),
+      let p : a ≡ b = h a b .0 (and-left (same a b) (sameEach same l m) e) in
+      let q : l ≡ m = same-each same h l m .0 (and-right (same a b) (sameEach same l m) e) in
+      rw (p, q)),
   (λ e.
-    let p : a ≡ b = cc in
-    let q : l ≡ m = cc in
-    and-both (same a b) (sameEach same l m) (h a b .1 p) (same-each same h l m .1 q)),
+      let p : a ≡ b = cc in
+      let q : l ≡ m = cc in
+      and-both (same a b) (sameEach same l m) (h a b .1 p) (same-each same h l m .1 q)),
 )
 
 pub same-list : (l m : List ℕ) → Tests (sameList l m) (l ≡ m)
@@ -123,13 +123,13 @@ readState l cs =
 pub same-state : (s t : State) → Tests (sameState s t) (s ≡ t)
 same-state s t = (
   (λ e.
-    let p : ofState s ≡ ofState t = same-list (ofState s) (ofState t) .0 (and-left (sameList (ofState s) (ofState t)) (sameCharges (s .charges) (t .charges)) e) in
-    let q : s .charges ≡ t .charges = same-charges (s .charges) (t .charges) .0 (and-right (sameList (ofState s) (ofState t)) (sameCharges (s .charges) (t .charges)) e) in
-    ap (λ l. readState l (s .charges)) p ∙ ap (readState (ofState t)) q),
+      let p : ofState s ≡ ofState t = same-list (ofState s) (ofState t) .0 (and-left (sameList (ofState s) (ofState t)) (sameCharges (s .charges) (t .charges)) e) in
+      let q : s .charges ≡ t .charges = same-charges (s .charges) (t .charges) .0 (and-right (sameList (ofState s) (ofState t)) (sameCharges (s .charges) (t .charges)) e) in
+      ap (λ l. readState l (s .charges)) p ∙ ap (readState (ofState t)) q),
   (λ e.
-    and-both (sameList (ofState s) (ofState t)) (sameCharges (s .charges) (t .charges))
-    (same-list (ofState s) (ofState t) .1 (ap ofState e))
-    (same-charges (s .charges) (t .charges) .1 (ap (λ (s : State). s .charges) e))),
+      and-both (sameList (ofState s) (ofState t)) (sameCharges (s .charges) (t .charges))
+      (same-list (ofState s) (ofState t) .1 (ap ofState e))
+      (same-charges (s .charges) (t .charges) .1 (ap (λ (s : State). s .charges) e))),
 )
 
 -- what the test of each member that is kept means

@@ -13,4 +13,6 @@ pub mod Same
 pub mod Breaks
 pub mod FieldsThree
 pub mod TestsThree
+pub mod FieldsOne
+pub mod BreaksOne
 pub mod BreaksThree
