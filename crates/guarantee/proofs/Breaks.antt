@@ -6,7 +6,7 @@ use borrow.Author.Tests.{not-true}
 use Rattle.rules.specs.Basics.{Each}
 use Rattle.rules.proofs.Lists.{each-map}
 use Rattle.guarantee.specs.Breaks.{Entry, Exactly, computedBy}
-use Rattle.guarantee.proofs.Same.{Tests, each-kept, each-same}
+use Rattle.guarantee.proofs.Tests.{Tests, each-kept, each-same}
 
 module _
     (Thing : Type 0) (Field : Type 0) (Holds : Thing → Field → Type 0) (test : Thing → Field → Bool) (fields : List Field)

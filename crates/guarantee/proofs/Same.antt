@@ -1,43 +1,16 @@
--- What the tests of lists and answers say.
-use mathlib.Core.Logic.{_↔_}
+-- The tests whether two lists, answers or stations are the same.
 use mathlib.Core.Path.{_≡_, refl, sym, ap, _∙_}
-use Prim.Native.Nat.{ℕ, _≤_, _<_}
-use mathlib.Core.Bool.{Bool, true, false, cond, _&&_, false≢true}
-use mathlib.Core.List.{List, [], _∷_, map}
+use Prim.Native.Nat.{ℕ}
+use mathlib.Core.Bool.{Bool, cond, _&&_, false≢true}
+use mathlib.Core.List.{List, [], _∷_}
 use native.Mathlib.Omega.{arith}
-use lib.Dec.{leb, ltb, eqb}
+use lib.Dec.{eqb}
 use lib.ListN.{getD}
-use borrow.Author.Tests.{leb-true, ltb-true, eqb-true, le-leb, lt-ltb, eq-eqb}
-use Rattle.rules.specs.Basics.{Each, keep}
 use Rattle.rules.specs.Charge.{Charge}
 use Rattle.rules.specs.Calls.{State, Answer, refused, opened, ordered, moved, planned, waiting, charging}
 use Rattle.rules.proofs.Ranges.{and-left, and-right, and-both}
-use Rattle.guarantee.specs.Same.{every, where-so, sameEach, sameList, inNumbers, sameAnswer, ofCharge, sameCharges, ofState, sameState}
-
--- a test of a fact
-abbrev pub Tests : Bool → Type 0 → Type 0
-Tests b P = (b ≡ true) ↔ P
-
-pub leb-tests : (a b : ℕ) → Tests (leb a b) (a ≤ b)
-leb-tests a b = (leb-true a b, le-leb a b)
-
-pub ltb-tests : (a b : ℕ) → Tests (ltb a b) (a < b)
-ltb-tests a b = (ltb-true a b, lt-ltb a b)
-
-pub eqb-tests : (a b : ℕ) → Tests (eqb a b) (a ≡ b)
-eqb-tests a b = (eqb-true a b, eq-eqb a b)
-
-pub every-tests :
-    {A : Type 0} {f : A → Bool} {P : A → Type 0} → ((a : A) → Tests (f a) (P a)) → (l : List A) → Tests (every f l) (Each P l)
-every-tests h [] = ((λ e. tt), (λ e. refl))
-every-tests {f = f} h (a ∷ l) = (
-  (λ e. (h a .0 (and-left (f a) (every f l) e), every-tests h l .0 (and-right (f a) (every f l) e))),
-  (λ p. and-both (f a) (every f l) (h a .1 (p .0)) (every-tests h l .1 (p .1))),
-)
-
-pub where-so-tests : {a b : Bool} {P Q : Type 0} → Tests a P → Tests b Q → Tests (where-so a b) (P → Q)
-where-so-tests {a = true} h k = ((λ e p. k .0 e), (λ f. k .1 (f (h .0 refl))))
-where-so-tests {a = false} h k = ((λ e p. absurd (false≢true (h .1 p))), (λ f. refl))
+use Rattle.guarantee.specs.Same.{sameEach, sameList, inNumbers, sameAnswer, ofCharge, sameCharges, ofState, sameState}
+use Rattle.guarantee.proofs.Tests.{Tests, eqb-tests}
 
 pub same-each :
     {A : Type 0} (same : A → A → Bool) → ((a b : A) → Tests (same a b) (a ≡ b)) → (l m : List A) → Tests (sameEach same l m) (l ≡ m)
@@ -131,21 +104,3 @@ same-state s t = (
       (same-list (ofState s) (ofState t) .1 (ap ofState e))
       (same-charges (s .charges) (t .charges) .1 (ap (λ (s : State). s .charges) e))),
 )
-
--- what the test of each member that is kept means
-pub each-kept :
-    {A : Type 0} (f : A → Bool) (P : A → Type 0) → ((a : A) → f a ≡ true → P a) → (l : List A) → Each P (keep f l)
-each-kept f P h [] = tt
-each-kept f P h (a ∷ l) = go (f a) refl (each-kept f P h l)
-  where
-    go : (b : Bool) → f a ≡ b → Each P (keep f l) → Each P (cond b (a ∷ keep f l) (keep f l))
-    go true p r = (h a p, r)
-    go false p r = r
-
--- a function that leaves a list as it is leaves each member
-pub each-same : {A : Type 0} (f : A → A) (l : List A) → map f l ≡ l → Each (λ a. f a ≡ a) l
-each-same f [] e = tt
-each-same f (a ∷ l) e =
-    let p : f a ≡ a = cc in
-    let q : map f l ≡ l = cc in
-    (p, each-same f l q)

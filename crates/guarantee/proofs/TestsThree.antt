@@ -17,7 +17,8 @@ use Rattle.guarantee.specs.DemandThree.{Kept, Unmoved, DemandThree}
 use Rattle.guarantee.specs.Same.{every, where-so, sameAnswer}
 use Rattle.guarantee.specs.FieldsThree.{Field, limit, balance, tickets, not-early, in-time, reported, not-reported, waits, charges, finished, no-other, unmoved, Holds}
 use Rattle.guarantee.specs.TestsThree.{numbered, afterEach, unmovedFrom, reportedOrder, tested}
-use Rattle.guarantee.proofs.Same.{Tests, leb-tests, ltb-tests, eqb-tests, every-tests, where-so-tests, same-answer}
+use Rattle.guarantee.proofs.Tests.{Tests, leb-tests, ltb-tests, eqb-tests, every-tests, where-so-tests}
+use Rattle.guarantee.proofs.Same.{same-answer}
 
 -- Limit and balance
 
