@@ -16,3 +16,11 @@ pub mod RefutedOne
 pub mod RefutedTwoOrders
 pub mod RefutedTwoPlans
 pub mod RefutedThree
+pub mod Tests
+pub mod Same
+pub mod Breaks
+pub mod FieldsThree
+pub mod TestsThree
+pub mod TestsOne
+pub mod BreaksOne
+pub mod BreaksThree

@@ -7,12 +7,12 @@ use native.Mathlib.Omega.{arith}
 use lib.ListN.{length}
 use Rattle.rules.specs.Load.{limited, balanced, sound}
 use Rattle.rules.specs.Search.{earliest}
+use Rattle.rules.specs.Entry.{lentList}
 use Rattle.rules.specs.Calls.{settings, State, refused, opened, ordered, waiting, order, move, refusals, fresh, opening, ordering}
 use Rattle.rules.proofs.Granted.{refusals-none}
 use Rattle.guarantee.specs.DemandOne.{DemandOne, DemandOneOpening}
 use Rattle.guarantee.specs.WrongRefusals.{lineAccepted, highestNumber, alwaysFull, standstillRefused, ticketUsedUp, listCleared, ticketNotSaid, smallProduct, openedAsAsked, openingWrites, limitSaid, percentLost}
 use Rattle.guarantee.proofs.Tables.{is-firstOf}
-use Rattle.guarantee.proofs.Refuting.{lentList}
 
 -- Calls to a fresh station of 1, 100
 

@@ -2,33 +2,20 @@
 use mathlib.Core.Path.{_≡_, refl}
 use Prim.Native.Nat.{ℕ, _≤_}
 use mathlib.Core.Bool.{false≢true}
-use mathlib.Core.List.{List, [], _∷_}
+use mathlib.Core.List.{[], _∷_}
 use native.Mathlib.Omega.{arith}
 use Rattle.rules.specs.Load.{limited, balanced, sound}
 use Rattle.rules.specs.Search.{earliest, earliestUnder}
 use Rattle.rules.specs.Replan.{placeAll, latest}
 use Rattle.rules.specs.Judgement.{judged}
-use Rattle.rules.specs.Calls.{settings, State, refused, waiting, charging, Call, order, move, offer, replanLatest, opening, ordering, moving, replanningLatest, enquiring}
+use Rattle.rules.specs.Entry.{lentList}
+use Rattle.rules.specs.Calls.{refused, waiting, charging, order, move, offer, replanLatest, opening, ordering, moving, replanningLatest, enquiring}
 use Rattle.guarantee.specs.DemandThree.{DemandThree}
 use Rattle.guarantee.specs.WrongOrders.{ownLineOnly, neighboursOnly, limitIgnored, fixedStart, ticketSkipped}
 use Rattle.guarantee.specs.WrongMoves.{startAtClockLeftOut, firstReportOnly, reportedTwice, startAtTargetReported, nobodyReported, slowClock, droppedEarly, droppedLate, neverDropped, shownLate, shownBegun, shownEarly}
 use Rattle.guarantee.specs.WrongPlans.{untested, begunMoved}
-use Rattle.guarantee.proofs.Refuting.{line-one, line-two, line-three, lentList}
-
--- the station of 1, 100 and that of 2, 50, both with D = 1
-abbrev one : State
-one = opening (settings 1 100) .state
-
-abbrev two : State
-two = opening (settings 2 50) .state
-
--- one order that charges on line 1 from 0 to 10
-abbrev single : Call
-single = order 1 10 60
-
--- one order on each line, and another on line 1
-abbrev fourOrders : List Call
-fourOrders = order 1 10 60 ∷ order 2 10 60 ∷ order 3 10 60 ∷ order 1 10 60 ∷ []
+use Rattle.guarantee.specs.BreaksThree.{one, two, single, fourOrders}
+use Rattle.guarantee.proofs.Refuting.{line-one, line-two, line-three}
 
 -- Limit, balance and tickets
 

@@ -8,6 +8,7 @@ use native.Mathlib.Omega.{arith}
 use Rattle.rules.specs.Load.{draw, limited, balanced, sound}
 use Rattle.rules.specs.Charge.{loadsOf, lastEnd}
 use Rattle.rules.specs.Search.{added, earliest, earliestUnder}
+use Rattle.rules.specs.Entry.{lentList}
 use Rattle.rules.specs.Calls.{settings, limitsOf, refusals, taking, newCharge, State, ordered, Call, order, move, opening, ordering, moving}
 use Rattle.rules.proofs.Granted.{refusals-none}
 use Rattle.guarantee.specs.Past.{Gives}
@@ -16,7 +17,7 @@ use Rattle.guarantee.specs.Demands.{reached}
 use Rattle.guarantee.specs.WrongOrders.{ownLineOnly, limitIgnored, queued, otherTicket, othersPutOff}
 use Rattle.guarantee.specs.WrongMoves.{slowClock}
 use Rattle.guarantee.proofs.DemandTwo.{plan-sound}
-use Rattle.guarantee.proofs.Refuting.{line-one, line-two, lentList, stationH}
+use Rattle.guarantee.proofs.Refuting.{line-one, line-two, stationH}
 
 -- what demand 2 says of an order that is answered with ticket t and start u
 module _

@@ -9,13 +9,14 @@ use Rattle.rules.specs.Charge.{Charge, loadsOf, lastEnd}
 use Rattle.rules.specs.Search.{earliest, earliestUnder, firstUnbalanced}
 use Rattle.rules.specs.Replan.{starts, placeAll, latest, round, roundsFrom, byLines}
 use Rattle.rules.specs.Judgement.{restarted, judged}
+use Rattle.rules.specs.Entry.{lentList}
 use Rattle.rules.specs.Calls.{settings, State, planned, order, move, offer, opening, ordering, moving, offering}
 use Rattle.guarantee.specs.Past.{Gives}
 use Rattle.guarantee.specs.DemandTwo.{Better, Taken, GivenStarts, DemandTwo}
 use Rattle.guarantee.specs.Demands.{reached}
 use Rattle.guarantee.specs.WrongPlans.{untested, neverTaken, offerCleared, takenLater, begunPutOff, lineChanged, takenForTicket, keptForTicket, alwaysKept, spentAfterNone, roundsInvented}
 use Rattle.guarantee.proofs.DemandTwo.{not-taken, demand-two}
-use Rattle.guarantee.proofs.Refuting.{line-one, line-two, lentList, ordersH, stationH}
+use Rattle.guarantee.proofs.Refuting.{line-one, line-two, ordersH, stationH}
 
 -- What an offer must be
 

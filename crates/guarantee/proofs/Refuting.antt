@@ -1,9 +1,7 @@
 -- What the refutations of wrong stations share.
 use mathlib.Core.Path.{_≡_, refl}
-use Prim.Native.Nat.{ℕ}
 use mathlib.Core.List.{List, [], _∷_}
 use native.Mathlib.Omega.{arith}
-use lib.ListN.{replicate}
 use Rattle.rules.specs.Load.{IsLine}
 use Rattle.rules.specs.Calls.{settings, State, Call, order, move, offer, replanLatest, replanLines, enquire, ordering, step}
 use Rattle.guarantee.specs.Demands.{reached}
@@ -26,10 +24,6 @@ line-two = record { low = omega arith; high = omega arith }
 
 pub line-three : IsLine 3
 line-three = record { low = omega arith; high = omega arith }
-
--- a report list
-abbrev pub lentList : List ℕ
-lentList = replicate 360 7
 
 -- the orders of case h, and the station after them: starts 0 and 10, lateness 5
 abbrev pub ordersH : List Call

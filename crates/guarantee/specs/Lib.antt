@@ -9,3 +9,10 @@ pub mod WrongRefusals
 pub mod WrongOrders
 pub mod WrongMoves
 pub mod WrongPlans
+pub mod Same
+pub mod Breaks
+pub mod FieldsThree
+pub mod TestsThree
+pub mod FieldsOne
+pub mod BreaksOne
+pub mod BreaksThree
