@@ -23,4 +23,6 @@ pub mod FieldsThree
 pub mod TestsThree
 pub mod TestsOne
 pub mod BreaksOne
+pub mod BreaksTwoOrders
+pub mod BreaksTwoPlans
 pub mod BreaksThree

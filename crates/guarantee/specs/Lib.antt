@@ -15,4 +15,8 @@ pub mod FieldsThree
 pub mod TestsThree
 pub mod FieldsOne
 pub mod BreaksOne
+pub mod FieldsTwoOrders
+pub mod BreaksTwoOrders
+pub mod FieldsTwoPlans
+pub mod BreaksTwoPlans
 pub mod BreaksThree
