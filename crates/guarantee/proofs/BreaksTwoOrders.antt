@@ -11,11 +11,16 @@ use Rattle.guarantee.specs.Breaks.{Exactly, aloneIn}
 use Rattle.guarantee.specs.FieldsTwoOrders.{Field, fields, place, Trial, Holds, tested}
 use Rattle.guarantee.specs.BreaksTwoOrders.{computed, wrongEntries, entries}
 use Rattle.guarantee.proofs.Breaks.{each-exactly}
+use Rattle.guarantee.proofs.TestsTwoOrders.{orders-tested}
 
 -- the checker computes every test
 pub entries-hold : map computed entries ≡ entries
 unfolding limited balanced sound earliest earliestUnder opening ordering moving
 entries-hold = refl
+
+-- so each wrong station breaks the field that its entry names, and no other, and the rules break none
+pub exactly-two-orders : Each (Exactly Trial Field Holds) entries
+exactly-two-orders = each-exactly Trial Field Holds tested fields orders-tested entries entries-hold
 
 pub alone-two-orders : every (aloneIn place wrongEntries) fields ≡ true
 alone-two-orders = refl

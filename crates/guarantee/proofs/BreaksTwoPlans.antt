@@ -11,18 +11,28 @@ use Rattle.rules.specs.Judgement.{judged}
 use Rattle.rules.specs.Calls.{opening, ordering, moving, offering, replanningLatest, replanningLines}
 use Rattle.guarantee.specs.Same.{every}
 use Rattle.guarantee.specs.Breaks.{Exactly, aloneIn}
-use Rattle.guarantee.specs.FieldsTwoPlans.{not-before-clock, limit, balance, no-later, less-late, rank, waiting-starts, begun-same, charges-same, station-same, unchanged, answer, same-list, place}
+use Rattle.guarantee.specs.FieldsTwoPlans.{Merit, not-before-clock, limit, balance, no-later, less-late, merits, rank, Plan, Merits, merited, Field, waiting-starts, begun-same, charges-same, station-same, unchanged, answer, same-list, fields, place, Trial, Holds, tested}
 use Rattle.guarantee.specs.BreaksTwoPlans.{computedPlan, plans, computed, wrongEntries, entries}
 use Rattle.guarantee.proofs.Breaks.{each-exactly}
+use Rattle.guarantee.proofs.TestsBetter.{better-tested}
+use Rattle.guarantee.proofs.TestsTwoPlans.{plans-tested}
 
 -- the checker computes every test
 pub plans-hold : map computedPlan plans ≡ plans
 unfolding limited balanced sound earliest opening ordering moving
 plans-hold = refl
 
+-- so of each offered plan the field that its entry names is false, and no other
+pub exactly-better : Each (Exactly Plan Merit Merits) plans
+exactly-better = each-exactly Plan Merit Merits merited merits better-tested plans plans-hold
+
 pub entries-hold : map computed entries ≡ entries
 unfolding limited balanced sound earliest earliestUnder firstUnbalanced placeAll latest round roundsFrom byLines judged opening ordering moving offering replanningLatest replanningLines
 entries-hold = refl
+
+-- so each wrong station breaks the fields that its entry names, and no other, and the rules break none
+pub exactly-two-plans : Each (Exactly Trial Field Holds) entries
+exactly-two-plans = each-exactly Trial Field Holds tested fields plans-tested entries entries-hold
 
 -- each field alone, but for `taken`, which follows from `answer` and demand 1
 pub alone-two-plans :
