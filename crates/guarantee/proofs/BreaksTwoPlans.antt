@@ -11,7 +11,8 @@ use Rattle.rules.specs.Judgement.{judged}
 use Rattle.rules.specs.Calls.{opening, ordering, moving, offering, replanningLatest, replanningLines}
 use Rattle.guarantee.specs.Same.{every}
 use Rattle.guarantee.specs.Breaks.{Exactly, aloneIn}
-use Rattle.guarantee.specs.FieldsTwoPlans.{Merit, not-before-clock, limit, balance, no-later, less-late, merits, rank, Plan, Merits, merited, Field, waiting-starts, begun-same, charges-same, station-same, unchanged, answer, same-list, fields, place, Trial, Holds, tested}
+use Rattle.guarantee.specs.FieldsBetter.{Merit, not-before-clock, limit, balance, no-later, less-late, merits, rank, Plan, Merits, merited}
+use Rattle.guarantee.specs.FieldsTwoPlans.{Field, waiting-starts, begun-same, charges-same, station-same, unchanged, answer, same-list, fields, place, Trial, Holds, tested}
 use Rattle.guarantee.specs.BreaksTwoPlans.{computedPlan, plans, computed, wrongEntries, entries}
 use Rattle.guarantee.proofs.Breaks.{each-exactly}
 use Rattle.guarantee.proofs.TestsBetter.{better-tested}

@@ -20,6 +20,7 @@ pub mod Tests
 pub mod Same
 pub mod Breaks
 pub mod TestsMinutes
+pub mod FieldsOne
 pub mod TestsOne
 pub mod TestsTwoOrders
 pub mod TestsBetter

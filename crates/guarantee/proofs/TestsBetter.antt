@@ -1,12 +1,12 @@
 -- The test of each field of `Better` is true exactly where the field holds, and the fields one by one are `Better`.
 use mathlib.Core.Logic.{_↔_}
-use mathlib.Core.Path.{_≡_, refl}
+use mathlib.Core.Path.{refl}
 use Rattle.rules.specs.Basics.{Each}
 use Rattle.rules.specs.Charge.{loadsOf, lastEnd, lateness}
 use Rattle.rules.specs.Calls.{limitsOf}
 use Rattle.guarantee.specs.DemandTwo.{Better}
 use Rattle.guarantee.specs.Same.{every}
-use Rattle.guarantee.specs.FieldsTwoPlans.{Merit, not-before-clock, not-before-order, unbroken, limit, balance, no-later, less-late, merits, Plan, newOf, Merits, merited}
+use Rattle.guarantee.specs.FieldsBetter.{Merit, not-before-clock, not-before-order, unbroken, limit, balance, no-later, less-late, merits, Plan, newOf, Merits, merited}
 use Rattle.guarantee.proofs.DemandTwo.{each-unbroken}
 use Rattle.guarantee.proofs.Tests.{Tests, leb-tests, ltb-tests, every-tests}
 use Rattle.guarantee.proofs.TestsMinutes.{limit-tests, balance-tests}

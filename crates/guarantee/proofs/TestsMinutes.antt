@@ -1,5 +1,4 @@
 -- The tests of limit and balance in every minute from the clock on.
-use mathlib.Core.Path.{_≡_}
 use Prim.Native.Nat.{ℕ, _+_, _≤_}
 use mathlib.Core.List.{List}
 use Rattle.rules.specs.Load.{Load, count, counts, Limits, IsLine, limitAt, balanceAt, fromOn}

@@ -1,20 +1,19 @@
 -- The test of each field of demand 3 is true exactly where the field holds.
-use mathlib.Core.Logic.{_↔_}
-use mathlib.Core.Path.{_≡_, refl, ap, subst}
-use Prim.Native.Nat.{ℕ, suc, _+_, _≤_, _<_}
-use mathlib.Core.Bool.{Bool, true, false, cond, _&&_, _||_, false≢true}
+use mathlib.Core.Path.{_≡_, refl, ap}
+use Prim.Native.Nat.{ℕ, suc, _+_, _≤_}
+use mathlib.Core.Bool.{Bool, true, false, cond}
 use mathlib.Core.List.{List, [], _∷_, _++_, map}
 use native.Mathlib.Omega.{arith}
-use lib.Dec.{leb, ltb, eqb}
+use lib.Dec.{eqb}
 use borrow.Author.Tests.{eqb-true, eq-eqb}
 use Rattle.rules.specs.Basics.{Each, some}
 use Rattle.rules.specs.Calls.{State, limitsOf, refused, waiting, charging, Call}
 use Rattle.rules.proofs.Ranges.{and-left, and-right, and-both}
 use Rattle.guarantee.specs.Past.{Gives, Order, Report, Past, beginning, extended, after, past, timesReported, enquiry, startOf, endOf, loadOf, Numbered, totalTime, lastMinute}
-use Rattle.guarantee.specs.DemandThree.{Kept, Unmoved, DemandThree}
-use Rattle.guarantee.specs.Same.{every, where-so, sameAnswer}
+use Rattle.guarantee.specs.DemandThree.{Unmoved}
+use Rattle.guarantee.specs.Same.{every}
 use Rattle.guarantee.specs.FieldsThree.{Field, limit, balance, tickets, not-early, in-time, reported, not-reported, waits, charges, finished, no-other, unmoved, Holds}
-use Rattle.guarantee.specs.TestsThree.{numbered, afterEach, unmovedFrom, reportedOrder, tested}
+use Rattle.guarantee.specs.TestsThree.{numbered, afterEach, unmovedFrom, tested}
 use Rattle.guarantee.proofs.Tests.{Tests, leb-tests, ltb-tests, eqb-tests, every-tests, where-so-tests}
 use Rattle.guarantee.proofs.TestsMinutes.{limit-tests, balance-tests}
 use Rattle.guarantee.proofs.Same.{same-answer}

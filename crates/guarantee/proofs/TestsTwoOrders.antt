@@ -1,16 +1,14 @@
 -- The test of each field of demand 2 for orders is true exactly where the field holds, and the fields one by one are what
 -- demand 2 says of an order.
 use mathlib.Core.Logic.{_⊎_, inl, inr, _↔_}
-use mathlib.Core.Path.{_≡_, refl, sym, ap, subst, _∙_}
+use mathlib.Core.Path.{_≡_, sym, ap, subst, _∙_}
 use Prim.Native.Nat.{ℕ, _-_, _≤_, _<_}
 use mathlib.Core.Bool.{true, false, not, false≢true}
 use native.Mathlib.Omega.{arith}
 use borrow.Author.Tests.{not-true}
-use Rattle.rules.specs.Basics.{throughout}
 use Rattle.rules.specs.Load.{sound}
-use Rattle.rules.specs.Calls.{State, limitsOf, ordered, refusals, newCharge, taking, Call, order}
+use Rattle.rules.specs.Calls.{limitsOf, ordered, refusals, newCharge, taking}
 use Rattle.rules.proofs.Ranges.{fails, below-or-not, throughout-at, throughout-all}
-use Rattle.guarantee.specs.Past.{Gives}
 use Rattle.guarantee.specs.DemandOne.{NoneApplies}
 use Rattle.guarantee.specs.DemandTwo.{SoundPlan, OrderStart}
 use Rattle.guarantee.specs.Same.{numberIn}

@@ -12,8 +12,9 @@ use Rattle.rules.specs.Judgement.{restarted}
 use Rattle.rules.specs.Calls.{holding, Answer, planned, lent, refusals}
 use Rattle.guarantee.specs.DemandOne.{NoneApplies}
 use Rattle.guarantee.specs.DemandTwo.{Better, Taken, causeOf, Tested}
-use Rattle.guarantee.specs.Same.{every, where-so, sameList, sameCharges, sameState, numberIn}
-use Rattle.guarantee.specs.FieldsTwoPlans.{merits, Plan, merited, Field, taken, waiting-starts, begun-same, charges-same, station-same, unchanged, answer, same-list, Trial, resultOf, Given, Holds, isTaken, noneApplies, ofStarts, given, tested}
+use Rattle.guarantee.specs.Same.{every, where-so, numberIn}
+use Rattle.guarantee.specs.FieldsBetter.{merits, merited}
+use Rattle.guarantee.specs.FieldsTwoPlans.{Field, taken, waiting-starts, begun-same, charges-same, station-same, unchanged, answer, same-list, Trial, resultOf, Given, Holds, isTaken, noneApplies, ofStarts, given, tested}
 use Rattle.guarantee.proofs.Tests.{Tests, fails-tests, both-tests, same-tests, not-tests, every-tests, where-so-tests}
 use Rattle.guarantee.proofs.TestsBetter.{merits-tests}
 use Rattle.guarantee.proofs.Same.{same-list as same-lists, same-answer, same-charges, same-state}

@@ -9,7 +9,8 @@ use Rattle.guarantee.specs.Past.{Gives}
 use Rattle.guarantee.specs.Demands.{reached}
 use Rattle.guarantee.specs.WrongPlans.{untested, neverTaken, offerCleared, takenLater, begunPutOff, lineChanged, takenForTicket, keptForTicket, alwaysKept, spentAfterNone, roundsInvented}
 use Rattle.guarantee.specs.Breaks.{Entry, computedBy, onlyOf}
-use Rattle.guarantee.specs.FieldsTwoPlans.{Merit, not-before-clock, limit, balance, no-later, less-late, merits, rank, Plan, merited, Field, taken, waiting-starts, begun-same, charges-same, station-same, unchanged, answer, same-list, fields, place, Trial, tested}
+use Rattle.guarantee.specs.FieldsBetter.{Merit, not-before-clock, limit, balance, no-later, less-late, merits, rank, Plan, merited}
+use Rattle.guarantee.specs.FieldsTwoPlans.{Field, taken, waiting-starts, begun-same, charges-same, station-same, unchanged, answer, same-list, fields, place, Trial, tested}
 use Rattle.guarantee.specs.BreaksTwoOrders.{ordersH, stationH}
 
 abbrev pub Breach : Type 0

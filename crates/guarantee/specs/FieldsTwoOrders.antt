@@ -9,7 +9,7 @@ use Rattle.rules.specs.Basics.{throughout}
 use Rattle.rules.specs.Load.{draw, Load, count, IsLine, limitAt, balanceAt, fromOn, sound}
 use Rattle.rules.specs.Charge.{loadsOf}
 use Rattle.rules.specs.Search.{added}
-use Rattle.rules.specs.Calls.{State, limitsOf, Answer, ordered, Result, Call, order, refusals, newCharge, taking}
+use Rattle.rules.specs.Calls.{State, limitsOf, ordered, Result, Call, order, refusals, newCharge, taking}
 use Rattle.guarantee.specs.Past.{Gives}
 use Rattle.guarantee.specs.DemandOne.{NoneApplies}
 use Rattle.guarantee.specs.DemandTwo.{SoundPlan}
@@ -72,7 +72,7 @@ Claim r earliest = (u : ℕ) → r .station .clock ≤ u → SoundPlan (r .stati
 Claim r others-same =
     resultOf r .state ≡ taking (r .station) (newCharge (r .station) (r .line) (r .time) (r .due) (startOf r))
 
--- what a field says of an order that is not refused; all together they are what demand 2 says of it (`order-fields`)
+-- what a field says of an order that is not refused; all together they are what demand 2 says of it (`order-fields` there)
 abbrev pub Holds : Trial → Field → Type 0
 Holds r f = NoneApplies (refusals (r .station) (callOf r)) → Claim r f
 

@@ -1,82 +1,19 @@
--- The fields of demand 2 for offers and replans one by one, those of `Better` too, and a test of each that computes. It is
--- true exactly where the field holds: `better-tested`, `plans-tested` in proofs/TestsTwoPlans.antt.
+-- The fields of demand 2 for offers and replans one by one, and a test of each that computes. It is true exactly where the
+-- field holds: `plans-tested` in proofs/TestsTwoPlans.antt.
 use mathlib.Core.Logic.{_↔_}
 use mathlib.Core.Path.{_≡_}
-use Prim.Native.Nat.{ℕ, _+_, _≤_, _<_}
-use mathlib.Core.Bool.{Bool, true, false, cond, not, _&&_}
+use Prim.Native.Nat.{ℕ}
+use mathlib.Core.Bool.{Bool, true, false, not, _&&_}
 use mathlib.Core.List.{List, [], _∷_, map}
-use lib.Dec.{leb, ltb}
-use Rattle.rules.specs.Basics.{Each}
-use Rattle.rules.specs.Load.{Load, count, IsLine, limitAt, balanceAt, fromOn}
-use Rattle.rules.specs.Charge.{Charge, starting, loadsOf, begunCharges, waitingCharges, lastEnd, lateness}
+use Rattle.rules.specs.Charge.{Charge, starting, begunCharges, waitingCharges, lateness}
 use Rattle.rules.specs.Replan.{Proposal, starts, none}
 use Rattle.rules.specs.Judgement.{restarted}
-use Rattle.rules.specs.Calls.{State, limitsOf, holding, Answer, planned, Result, Call, lent, refusals}
+use Rattle.rules.specs.Calls.{State, holding, Answer, planned, Result, Call, lent, refusals}
 use Rattle.guarantee.specs.Past.{Gives}
 use Rattle.guarantee.specs.DemandOne.{NoneApplies}
-use Rattle.guarantee.specs.DemandTwo.{Unbroken, Better, Taken, causeOf}
+use Rattle.guarantee.specs.DemandTwo.{Better, Taken, causeOf}
+use Rattle.guarantee.specs.FieldsBetter.{merits, merited}
 use Rattle.guarantee.specs.Same.{every, where-so, sameTest, sameList, sameAnswer, numberIn, sameCharges, sameState}
-
--- Better
-
-pub data Merit : Type 0 where
-  not-before-clock : Merit
-  not-before-order : Merit
-  unbroken : Merit
-  limit : Merit
-  balance : Merit
-  no-later : Merit
-  less-late : Merit
-
-abbrev pub merits : List Merit
-merits = not-before-clock ∷ not-before-order ∷ unbroken ∷ limit ∷ balance ∷ no-later ∷ less-late ∷ []
-
--- the place of a field in that list
-abbrev pub rank : Merit → ℕ
-rank not-before-clock = 0
-rank not-before-order = 1
-rank unbroken = 2
-rank limit = 3
-rank balance = 4
-rank no-later = 5
-rank less-late = 6
-
--- a station and a list of starts for it
-pub record Plan : Type 0 where
-  pub station : State
-  pub list : List ℕ
-
-abbrev pub newOf : Plan → List Charge
-newOf x = restarted (x .station .clock) (x .station .charges) (x .list)
-
--- what a field says; all together they are `Better` (`better-fields`)
-abbrev pub Merits : Plan → Merit → Type 0
-Merits x not-before-clock = Each (λ u. x .station .clock ≤ u) (x .list)
-Merits x not-before-order = Each (λ c. c .orderMinute ≤ c .start) (newOf x)
-Merits x unbroken = Each Unbroken (newOf x)
-Merits x limit = (l t : ℕ) → IsLine l → x .station .clock ≤ t → count (loadsOf (newOf x)) l t ≤ x .station .limit
-Merits x balance =
-    (l m t : ℕ)
-    → IsLine l
-    → IsLine m
-    → x .station .clock ≤ t
-    → count (loadsOf (newOf x)) l t ≤ count (loadsOf (newOf x)) m t + x .station .bound
-Merits x no-later = lastEnd (newOf x) ≤ lastEnd (x .station .charges)
-Merits x less-late = lateness (newOf x) < lateness (x .station .charges)
-
-abbrev pub merited : Plan → Merit → Bool
-merited x not-before-clock = every (leb (x .station .clock)) (x .list)
-merited x not-before-order = every (λ c. leb (c .orderMinute) (c .start)) (newOf x)
--- of every charge
-merited x unbroken = true
-merited x limit =
-    let xs : List Load = loadsOf (newOf x) in fromOn (x .station .clock) xs (limitAt (limitsOf (x .station)) xs)
-merited x balance =
-    let xs : List Load = loadsOf (newOf x) in fromOn (x .station .clock) xs (balanceAt (limitsOf (x .station)) xs)
-merited x no-later = leb (lastEnd (newOf x)) (lastEnd (x .station .charges))
-merited x less-late = ltb (lateness (newOf x)) (lateness (x .station .charges))
-
--- Offers and replans
 
 -- of `Tested`, with those of `GivenStarts` in the place of `given`
 pub data Field : Type 0 where
@@ -119,7 +56,7 @@ resultOf r = r .gives (r .station) (r .call)
 abbrev pub Given : Trial → (List ℕ → Type 0) → Type 0
 Given r P = (ss : List ℕ) → r .proposal ≡ starts ss → Taken (resultOf r .answer) → P ss
 
--- what a field says; all together they are `Tested` (`plan-fields`)
+-- what a field says; all together they are `Tested` (`plan-fields` there)
 abbrev pub Holds : Trial → Field → Type 0
 Holds r taken =
     Taken (resultOf r .answer)

@@ -17,6 +17,7 @@ pub mod FieldsOne
 pub mod BreaksOne
 pub mod FieldsTwoOrders
 pub mod BreaksTwoOrders
+pub mod FieldsBetter
 pub mod FieldsTwoPlans
 pub mod BreaksTwoPlans
 pub mod BreaksThree
