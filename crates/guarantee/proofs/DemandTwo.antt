@@ -40,7 +40,7 @@ plan-sound s xs e =
       balance = λ l m t j i h. sound-from (limitsOf s) (s .clock) xs e t h .balance l m j i;
     }
 
-sound-plan : (s : State) (xs : List Load) → SoundPlan s xs → sound (limitsOf s) (s .clock) xs ≡ true
+pub sound-plan : (s : State) (xs : List Load) → SoundPlan s xs → sound (limitsOf s) (s .clock) xs ≡ true
 sound-plan s xs p =
     sound-true (limitsOf s) (s .clock) xs
     (λ t h. record { limit = λ l j. p .limit l t j h; balance = λ l m j i. p .balance l m t j i h })
@@ -54,7 +54,7 @@ unbroken c t = (
   (λ p. and-both (leb (c .start) t) (ltb t (endOf c)) (le-leb (c .start) t (p .0)) (lt-ltb t (endOf c) (p .1))),
 )
 
-each-unbroken : (cs : List Charge) → Each Unbroken cs
+pub each-unbroken : (cs : List Charge) → Each Unbroken cs
 each-unbroken [] = tt
 each-unbroken (c ∷ cs) = (unbroken c, each-unbroken cs)
 

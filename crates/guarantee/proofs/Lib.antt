@@ -19,8 +19,15 @@ pub mod RefutedThree
 pub mod Tests
 pub mod Same
 pub mod Breaks
+pub mod TestsMinutes
+pub mod FieldsOne
+pub mod TestsOne
+pub mod TestsTwoOrders
+pub mod TestsBetter
+pub mod TestsTwoPlans
 pub mod FieldsThree
 pub mod TestsThree
-pub mod TestsOne
 pub mod BreaksOne
+pub mod BreaksTwoOrders
+pub mod BreaksTwoPlans
 pub mod BreaksThree

@@ -8,16 +8,14 @@ use lib.ListN.{length}
 use Rattle.rules.specs.Load.{limited, balanced, sound}
 use Rattle.rules.specs.Search.{earliest}
 use Rattle.rules.specs.Entry.{lentList}
-use Rattle.rules.specs.Calls.{settings, State, refused, opened, ordered, waiting, order, move, refusals, fresh, opening, ordering}
+use Rattle.rules.specs.Calls.{settings, State, refused, opened, ordered, waiting, order, move, refusals, opening, ordering}
 use Rattle.rules.proofs.Granted.{refusals-none}
 use Rattle.guarantee.specs.DemandOne.{DemandOne, DemandOneOpening}
 use Rattle.guarantee.specs.WrongRefusals.{lineAccepted, highestNumber, alwaysFull, standstillRefused, ticketUsedUp, listCleared, ticketNotSaid, smallProduct, openedAsAsked, openingWrites, limitSaid, percentLost}
+use Rattle.guarantee.specs.BreaksOne.{station}
 use Rattle.guarantee.proofs.Tables.{is-firstOf}
 
 -- Calls to a fresh station of 1, 100
-
-abbrev station : State
-station = fresh (settings 1 100)
 
 -- `number`: line 4 is answered with a ticket
 line-accepted : DemandOne lineAccepted station (order 4 10 60) → ⊥

@@ -2,22 +2,23 @@
 use mathlib.Core.Path.{_≡_, refl, ap, subst, _∙_}
 use Prim.Native.Nat.{ℕ, _≤_}
 use mathlib.Core.Bool.{true}
-use mathlib.Core.List.{List, [], _∷_}
+use mathlib.Core.List.{[], _∷_}
 use Rattle.rules.specs.Basics.{firstOf}
 use native.Mathlib.Omega.{arith}
 use Rattle.rules.specs.Load.{draw, limited, balanced, sound}
 use Rattle.rules.specs.Charge.{loadsOf, lastEnd}
 use Rattle.rules.specs.Search.{added, earliest, earliestUnder}
 use Rattle.rules.specs.Entry.{lentList}
-use Rattle.rules.specs.Calls.{settings, limitsOf, refusals, taking, newCharge, State, ordered, Call, order, move, opening, ordering, moving}
+use Rattle.rules.specs.Calls.{settings, limitsOf, refusals, taking, newCharge, State, ordered, order, move, opening, ordering, moving}
 use Rattle.rules.proofs.Granted.{refusals-none}
 use Rattle.guarantee.specs.Past.{Gives}
 use Rattle.guarantee.specs.DemandTwo.{SoundPlan, OrderStart, DemandTwo}
 use Rattle.guarantee.specs.Demands.{reached}
 use Rattle.guarantee.specs.WrongOrders.{ownLineOnly, limitIgnored, queued, otherTicket, othersPutOff}
 use Rattle.guarantee.specs.WrongMoves.{slowClock}
+use Rattle.guarantee.specs.BreaksTwoOrders.{threeOrders, stationH}
 use Rattle.guarantee.proofs.DemandTwo.{plan-sound}
-use Rattle.guarantee.proofs.Refuting.{line-one, line-two, stationH}
+use Rattle.guarantee.proofs.Refuting.{line-one, line-two}
 
 -- what demand 2 says of an order that is answered with ticket t and start u
 module _
@@ -59,10 +60,6 @@ slow-clock : DemandTwo slowClock (reached (settings 1 100) (move 5 lentList ∷ 
 unfolding limited balanced sound earliest opening moving
 slow-clock d =
     let h : 5 ≤ 4 = order-not-early slowClock (reached (settings 1 100) (move 5 lentList ∷ [])) 1 10 60 1 4 d refl refl in omega arith
-
--- a charge on each line from 0 to 10
-abbrev threeOrders : List Call
-threeOrders = order 1 10 60 ∷ order 2 10 60 ∷ order 3 10 60 ∷ []
 
 -- `sound .limit`: N = 1
 limit-ignored : DemandTwo limitIgnored (reached (settings 1 100) threeOrders) → ⊥

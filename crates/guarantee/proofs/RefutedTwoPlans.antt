@@ -9,14 +9,15 @@ use Rattle.rules.specs.Charge.{Charge, loadsOf, lastEnd}
 use Rattle.rules.specs.Search.{earliest, earliestUnder, firstUnbalanced}
 use Rattle.rules.specs.Replan.{starts, placeAll, latest, round, roundsFrom, byLines}
 use Rattle.rules.specs.Judgement.{restarted, judged}
-use Rattle.rules.specs.Entry.{lentList}
-use Rattle.rules.specs.Calls.{settings, State, planned, order, move, offer, opening, ordering, moving, offering}
+use Rattle.rules.specs.Calls.{settings, State, planned, offer, opening, ordering, moving, offering}
 use Rattle.guarantee.specs.Past.{Gives}
 use Rattle.guarantee.specs.DemandTwo.{Better, Taken, GivenStarts, DemandTwo}
 use Rattle.guarantee.specs.Demands.{reached}
 use Rattle.guarantee.specs.WrongPlans.{untested, neverTaken, offerCleared, takenLater, begunPutOff, lineChanged, takenForTicket, keptForTicket, alwaysKept, spentAfterNone, roundsInvented}
+use Rattle.guarantee.specs.BreaksTwoOrders.{ordersH, stationH}
+use Rattle.guarantee.specs.BreaksTwoPlans.{waitingSince, stationFour, begunAndWaiting, offerJ}
 use Rattle.guarantee.proofs.DemandTwo.{not-taken, demand-two}
-use Rattle.guarantee.proofs.Refuting.{line-one, line-two, ordersH, stationH}
+use Rattle.guarantee.proofs.Refuting.{line-one, line-two}
 
 -- What an offer must be
 
@@ -35,10 +36,6 @@ module _ (gives : Gives) (s : State) (ss : List ℕ) (demand : DemandTwo gives s
   offer-given : GivenStarts s ss (gives s (offer ss) .state)
   offer-given = demand .offers ss .given ss refl taken
 
--- at clock 1 ticket 2 waits for 1 and ticket 3, due at 11, for 11
-abbrev waitingSince : State
-waitingSince = reached (settings 1 100) (order 1 1 60 ∷ order 1 10 60 ∷ order 1 10 11 ∷ move 1 lentList ∷ [])
-
 -- `not-before-clock`
 untested-three : DemandTwo (untested 3) waitingSince → ⊥
 unfolding limited balanced sound earliest opening ordering moving
@@ -51,10 +48,6 @@ untested-four : DemandTwo (untested 4) stationH → ⊥
 unfolding limited balanced sound earliest opening ordering
 untested-four d =
     let h : 21 ≤ 20 = offer-better (untested 4) stationH (11 ∷ 0 ∷ []) d (_, _, _, refl) .no-later in omega arith
-
--- as `threeOrders`, and ticket 4 on line 1, due at 15, from 10 to 20
-abbrev stationFour : State
-stationFour = reached (settings 1 100) (order 1 10 60 ∷ order 2 10 60 ∷ order 3 10 60 ∷ order 1 10 15 ∷ [])
 
 -- `sound .limit`: N = 1
 untested-five : DemandTwo (untested 5) stationFour → ⊥
@@ -79,10 +72,6 @@ unfolding limited balanced sound earliest opening ordering
 untested-seven d =
     let h : 5 < 5 = offer-better (untested 7) stationH (0 ∷ 10 ∷ []) d (_, _, _, refl) .less-late in omega arith
 
--- the offer of case j that is taken
-abbrev offerJ : List ℕ
-offerJ = 10 ∷ 0 ∷ []
-
 -- `taken`, the other way round
 never-taken : DemandTwo neverTaken stationH → ⊥
 unfolding limited balanced sound earliest judged opening ordering offering
@@ -100,11 +89,6 @@ taken-later d =
     = offer-given takenLater stationH offerJ d (_, _, _, refl) .waiting-starts in
     let z : _≡_ {A = ℕ} 11 10 = cc in
     omega arith
-
--- at clock 2 ticket 1 charges on line 2 from 0 to 10, tickets 3 and 4, due at 12, wait for 2 and 12
-abbrev begunAndWaiting : State
-begunAndWaiting =
-    reached (settings 1 100) (order 2 10 60 ∷ order 1 2 60 ∷ order 1 10 60 ∷ order 1 10 12 ∷ move 2 lentList ∷ [])
 
 -- `begun-same`: ticket 1 ends at 10
 begun-put-off : DemandTwo begunPutOff begunAndWaiting → ⊥

@@ -1,10 +1,8 @@
 -- What the refutations of wrong stations share.
 use mathlib.Core.Path.{_≡_, refl}
-use mathlib.Core.List.{List, [], _∷_}
 use native.Mathlib.Omega.{arith}
 use Rattle.rules.specs.Load.{IsLine}
-use Rattle.rules.specs.Calls.{settings, State, Call, order, move, offer, replanLatest, replanLines, enquire, ordering, step}
-use Rattle.guarantee.specs.Demands.{reached}
+use Rattle.rules.specs.Calls.{State, Call, order, move, offer, replanLatest, replanLines, enquire, ordering, step}
 use Rattle.guarantee.specs.Parts.{withOrders}
 
 -- with nothing put in their place, the parts are the rules: a wrong station differs in its one part only
@@ -24,10 +22,3 @@ line-two = record { low = omega arith; high = omega arith }
 
 pub line-three : IsLine 3
 line-three = record { low = omega arith; high = omega arith }
-
--- the orders of case h, and the station after them: starts 0 and 10, lateness 5
-abbrev pub ordersH : List Call
-ordersH = order 1 10 60 ∷ order 1 10 15 ∷ []
-
-abbrev pub stationH : State
-stationH = reached (settings 1 100) ordersH

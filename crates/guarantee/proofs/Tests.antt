@@ -8,7 +8,7 @@ use lib.Dec.{leb, ltb, eqb}
 use borrow.Author.Tests.{leb-true, ltb-true, eqb-true, le-leb, lt-ltb, eq-eqb, not-true}
 use Rattle.rules.specs.Basics.{Each, keep}
 use Rattle.rules.proofs.Ranges.{and-left, and-right, and-both}
-use Rattle.guarantee.specs.Same.{every, where-so}
+use Rattle.guarantee.specs.Same.{every, where-so, sameTest}
 
 -- a test of a fact
 abbrev pub Tests : Bool → Type 0 → Type 0
@@ -54,6 +54,28 @@ either-tests {a = false} {b = b} {P = P} {Q = Q} h k = ((λ e. inr (k .0 e)), ot
     other : P ⊎ Q → b ≡ true
     other (inl p) = absurd (false≢true (h .1 p))
     other (inr q) = k .1 q
+
+pub same-tests : {a b : Bool} {P Q : Type 0} → Tests a P → Tests b Q → Tests (sameTest a b) (P ↔ Q)
+same-tests {a = true} h k = (
+  (λ e. ((λ p. k .0 e), (λ q. h .0 refl))),
+  (λ f. k .1 (f .0 (h .0 refl))),
+)
+same-tests {a = false} {b = b} h k = (
+  (λ e. ((λ p. absurd (false≢true (h .1 p))), (λ q. absurd (false≢true (never b e (k .1 q)))))),
+  (λ f. other b (λ e. false≢true (h .1 (f .1 (k .0 e))))),
+)
+  where
+    never : (b : Bool) → not b ≡ true → b ≡ true → false ≡ true
+    never true e p = e
+    never false e p = p
+
+    other : (b : Bool) → (b ≡ true → ⊥) → not b ≡ true
+    other true f = absurd (f refl)
+    other false f = refl
+
+pub not-tests : {b : Bool} {P : Type 0} → Tests b P → Tests (not b) (P → ⊥)
+not-tests {b = true} h = ((λ e p. false≢true e), (λ f. absurd (f (h .0 refl))))
+not-tests {b = false} h = ((λ e p. false≢true (h .1 p)), (λ f. refl))
 
 -- Lists
 

@@ -1,4 +1,4 @@
--- The test of each field of demand 1 is true exactly where the field holds, and the fields one by one are the demand.
+-- The test of each field of demand 1 is true exactly where the field holds.
 use mathlib.Core.Logic.{_⊎_, inl, inr, _↔_}
 use mathlib.Core.Path.{_≡_, refl, sym, ap, _∙_}
 use Prim.Native.Nat.{ℕ}
@@ -141,24 +141,3 @@ one-tested r same-station =
 one-tested r same-list =
     where-so-tests (is-true (isRefused (tried r .result .answer))) (same-lists (tried r .result .list) (tried r .list))
 one-tested r answered = where-so-tests (every-tests (λ row. fails-tests (row .0)) (tried r .rows)) (own-tests r)
-
--- The fields one by one
-
-pub one-fields : (gives : Gives) (s : State) (c : Call) → DemandOne gives s c ↔ ((f : Field) → Holds (calledOn gives s c) f)
-one-fields gives s c = (there, (λ h. record { refused-by = record { number = h number; same-station = h same-station; same-list = h same-list }; answered = h answered }))
-  where
-    there : DemandOne gives s c → (f : Field) → Holds (calledOn gives s c) f
-    there d number = d .refused-by .number
-    there d same-station = d .refused-by .same-station
-    there d same-list = d .refused-by .same-list
-    there d answered = d .answered
-
-pub one-opening-fields :
-    (opens : Settings → Result) (x : Settings) → DemandOneOpening opens x ↔ ((f : Field) → Holds (openedBy opens x) f)
-one-opening-fields opens x = (there, (λ h. record { refused-by = record { number = h number; same-station = h same-station; same-list = h same-list }; answered = h answered }))
-  where
-    there : DemandOneOpening opens x → (f : Field) → Holds (openedBy opens x) f
-    there d number = d .refused-by .number
-    there d same-station = d .refused-by .same-station
-    there d same-list = d .refused-by .same-list
-    there d answered = d .answered

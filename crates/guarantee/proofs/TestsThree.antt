@@ -1,49 +1,24 @@
 -- The test of each field of demand 3 is true exactly where the field holds.
-use mathlib.Core.Logic.{_↔_}
-use mathlib.Core.Path.{_≡_, refl, ap, subst}
-use Prim.Native.Nat.{ℕ, suc, _+_, _≤_, _<_}
-use mathlib.Core.Bool.{Bool, true, false, cond, _&&_, _||_, false≢true}
+use mathlib.Core.Path.{_≡_, refl, ap}
+use Prim.Native.Nat.{ℕ, suc, _+_, _≤_}
+use mathlib.Core.Bool.{Bool, true, false, cond}
 use mathlib.Core.List.{List, [], _∷_, _++_, map}
 use native.Mathlib.Omega.{arith}
-use lib.Dec.{leb, ltb, eqb}
+use lib.Dec.{eqb}
 use borrow.Author.Tests.{eqb-true, eq-eqb}
 use Rattle.rules.specs.Basics.{Each, some}
-use Rattle.rules.specs.Load.{Load, counts, Limits, IsLine, limitAt, balanceAt, fromOn}
-use Rattle.rules.specs.Calls.{State, limitsOf, refused, waiting, charging, Call}
+use Rattle.rules.specs.Calls.{Settings, State, limitsOf, refused, waiting, charging, opening, Call, step}
 use Rattle.rules.proofs.Ranges.{and-left, and-right, and-both}
-use Rattle.rules.proofs.Counts.{limited-at, limited-all, balanced-at, balanced-all, fromOn-at, fromOn-all, limit-past, balance-past}
 use Rattle.guarantee.specs.Past.{Gives, Order, Report, Past, beginning, extended, after, past, timesReported, enquiry, startOf, endOf, loadOf, Numbered, totalTime, lastMinute}
-use Rattle.guarantee.specs.DemandThree.{Kept, Unmoved, DemandThree}
-use Rattle.guarantee.specs.Same.{every, where-so, sameAnswer}
+use Rattle.guarantee.specs.DemandThree.{Unmoved}
+use Rattle.guarantee.specs.Same.{every}
 use Rattle.guarantee.specs.FieldsThree.{Field, limit, balance, tickets, not-early, in-time, reported, not-reported, waits, charges, finished, no-other, unmoved, Holds}
-use Rattle.guarantee.specs.TestsThree.{numbered, afterEach, unmovedFrom, reportedOrder, tested}
+use Rattle.guarantee.specs.TestsThree.{numbered, afterEach, unmovedFrom, tested}
+use Rattle.guarantee.proofs.DemandThree.{demand-three}
+use Rattle.guarantee.proofs.FieldsThree.{three-fields}
 use Rattle.guarantee.proofs.Tests.{Tests, leb-tests, ltb-tests, eqb-tests, every-tests, where-so-tests}
+use Rattle.guarantee.proofs.TestsMinutes.{limit-tests, balance-tests}
 use Rattle.guarantee.proofs.Same.{same-answer}
-
--- Limit and balance
-
-module _ (s : State) (xs : List Load) where
-  limit-tests : Tests (fromOn 0 xs (limitAt (limitsOf s) xs)) ((l t : ℕ) → IsLine l → counts xs t l ≤ s .limit)
-  limit-tests = (
-    (λ e l t h.
-        limited-at (s .limit) (counts xs t)
-        (fromOn-at 0 xs (limitAt (limitsOf s) xs) (limit-past (limitsOf s) xs) e t (omega arith))
-        l h),
-    (λ p. fromOn-all 0 xs (limitAt (limitsOf s) xs) (λ t h. limited-all (s .limit) (counts xs t) (λ l j. p l t j))),
-  )
-
-  balance-tests :
-      Tests (fromOn 0 xs (balanceAt (limitsOf s) xs))
-      ((l m t : ℕ) → IsLine l → IsLine m → counts xs t l ≤ counts xs t m + s .bound)
-  balance-tests = (
-    (λ e l m t h j.
-        balanced-at (s .bound) (counts xs t)
-        (fromOn-at 0 xs (balanceAt (limitsOf s) xs) (balance-past (limitsOf s) xs) e t (omega arith))
-        l m h j),
-    (λ p.
-        fromOn-all 0 xs (balanceAt (limitsOf s) xs)
-        (λ t h. balanced-all (s .bound) (counts xs t) (λ l m j i. p l m t j i))),
-  )
 
 -- Tickets and reports
 
@@ -121,9 +96,11 @@ after-each f gives h (c ∷ calls) = (
 
 pub three-tested : (gives : Gives) (s : State) (calls : List Call) (f : Field) → Tests (tested gives s calls f) (Holds gives s calls f)
 three-tested gives s calls limit =
-    limit-tests s (map (loadOf gives (past gives s calls)) (past gives s calls .orders))
+    let law = limit-tests (limitsOf s) 0 (map (loadOf gives (past gives s calls)) (past gives s calls .orders)) in
+    ((λ e l t j. law .0 e l t j (omega arith)), (λ p. law .1 (λ l t j h. p l t j)))
 three-tested gives s calls balance =
-    balance-tests s (map (loadOf gives (past gives s calls)) (past gives s calls .orders))
+    let law = balance-tests (limitsOf s) 0 (map (loadOf gives (past gives s calls)) (past gives s calls .orders)) in
+    ((λ e l m t j i. law .0 e l m t j i (omega arith)), (λ p. law .1 (λ l m t j i h. p l m t j i)))
 three-tested gives s calls tickets = tickets-tests 1 (past gives s calls .orders)
 three-tested gives s calls not-early =
     let h : Past = past gives s calls in
@@ -175,3 +152,9 @@ three-tested gives s calls unmoved =
       (λ e part rest q. at (past gives s part) .0 (each .0 e part rest q)),
       (λ p. each .1 (λ part rest q. at (past gives s part) .1 (p part rest q))),
     )
+
+-- of the rules every test is true, on every list
+pub rules-tested : (x : Settings) (calls : List Call) (f : Field) → tested step (opening x .state) calls f ≡ true
+rules-tested x calls f =
+    three-tested step (opening x .state) calls f .1
+    (three-fields step (opening x .state) calls .0 (demand-three x calls) f)

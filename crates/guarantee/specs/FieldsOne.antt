@@ -1,5 +1,5 @@
 -- The fields of demand 1 one by one, of a call or of an opening, and a test of each that computes. It is true exactly where
--- the field holds: `one-tested` in proofs/BreaksOne.antt.
+-- the field holds: `one-tested` in proofs/TestsOne.antt.
 use mathlib.Core.Logic.{_↔_}
 use mathlib.Core.Path.{_≡_}
 use Prim.Native.Nat.{ℕ}
@@ -48,7 +48,7 @@ abbrev pub OwnAnswer : Trial → Type 0
 OwnAnswer (calledOn gives s c) = AnswerTo c (gives s c .answer)
 OwnAnswer (openedBy opens x) = (opens x .answer ≡ opened (fresh x .bound)) × (opens x .state ≡ fresh x)
 
--- what a field says; all together they are demand 1 (`one-fields`, `one-opening-fields` in proofs/BreaksOne.antt)
+-- what a field says; all together they are demand 1 (`one-fields`, `one-opening-fields` in proofs/FieldsOne.antt)
 abbrev pub Holds : Trial → Field → Type 0
 Holds r number = (k : ℕ) → (tried r .result .answer ≡ refused k) ↔ FirstIs (tried r .rows) k
 Holds r same-station = isRefused (tried r .result .answer) ≡ true → tried r .result .state ≡ tried r .station

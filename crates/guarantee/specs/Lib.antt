@@ -15,4 +15,9 @@ pub mod FieldsThree
 pub mod TestsThree
 pub mod FieldsOne
 pub mod BreaksOne
+pub mod FieldsTwoOrders
+pub mod BreaksTwoOrders
+pub mod FieldsBetter
+pub mod FieldsTwoPlans
+pub mod BreaksTwoPlans
 pub mod BreaksThree

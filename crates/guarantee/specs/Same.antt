@@ -1,6 +1,6 @@
 -- Tests of lists, answers and stations that compute: of each member, and whether two are the same.
 use Prim.Native.Nat.{ℕ}
-use mathlib.Core.Bool.{Bool, true, false, cond, _&&_}
+use mathlib.Core.Bool.{Bool, true, false, cond, not, _&&_}
 use mathlib.Core.List.{List, [], _∷_}
 use lib.Dec.{eqb}
 use lib.ListN.{getD}
@@ -15,6 +15,10 @@ every f (a ∷ l) = f a && every f l
 -- b where a is true
 abbrev pub where-so : Bool → Bool → Bool
 where-so a b = cond a b true
+
+-- two tests that come out the same
+abbrev pub sameTest : Bool → Bool → Bool
+sameTest a b = cond a b (not b)
 
 abbrev pub sameEach : {A : Type 0} → (A → A → Bool) → List A → List A → Bool
 sameEach same [] [] = true
