@@ -4,6 +4,7 @@
 
 use crate::demand;
 use crate::generate;
+use crate::loops;
 use crate::program::{Answering, Outcome};
 use crate::script::{self, Line, Script};
 use crate::shrink::shrink;
@@ -11,10 +12,46 @@ use crate::shrink::shrink;
 /// So many scripts are fed to one run of the program.
 const BATCH: u64 = 40;
 
+/// The name of the trials of the loop, among the kinds of scripts.
+pub const LOOPS: &str = "loops";
+
+#[derive(Default)]
 pub struct Choice<'a> {
     pub scripts: u64,
     pub seed: u64,
+    /// This kind only; else all of them, and the trials of the loop.
     pub kind: Option<&'a str>,
+    /// All but this kind.
+    pub without: Option<&'a str>,
+}
+
+impl Choice<'_> {
+    fn wants_loops(&self) -> bool {
+        self.kind.is_none_or(|kind| kind == LOOPS) && self.without != Some(LOOPS)
+    }
+
+    /// The script with this number, unless its kind is left out.
+    pub fn script(&self, number: u64) -> Option<Script> {
+        let script = match self.kind {
+            None => Some(generate::script(self.seed, number)),
+            Some(kind) => generate::script_of_kind(kind, self.seed, number),
+        };
+        script.filter(|script| self.without != Some(script.kind))
+    }
+
+    /// The scripts of one run. The first one opens no station; where all are so,
+    /// each has a run of its own.
+    fn batch(&self, first: u64) -> (Vec<Script>, u64) {
+        let unopened = self.kind == Some(generate::UNOPENED);
+        let until = self.scripts.min(first + if unopened { 1 } else { BATCH });
+        let lead = generate::script_of_kind(generate::UNOPENED, self.seed, first);
+        let others = (first..until).filter_map(|number| self.script(number));
+        let batch = match unopened {
+            true => others.collect(),
+            false => lead.into_iter().chain(others).collect(),
+        };
+        (batch, until)
+    }
 }
 
 /// All answers were as they should be.
@@ -34,37 +71,37 @@ pub struct Failure {
 
 pub fn compare(program: &dyn Answering, choice: &Choice) -> Result<Summary, Failure> {
     let mut summary = Summary::default();
-    while summary.scripts < choice.scripts {
-        let until = (summary.scripts + BATCH).min(choice.scripts);
-        let batch: Vec<Script> =
-            (summary.scripts..until).map(|number| write(choice, number)).collect();
-        summary.answers += compare_batch(program, &batch, summary.scripts)?;
-        summary.scripts = until;
+    if choice.wants_loops() {
+        summary = loops::compare(program)?;
+    }
+    let mut number = 0;
+    while number < choice.scripts && choice.kind != Some(LOOPS) {
+        let (batch, until) = choice.batch(number);
+        // "A last line without a line feed counts": every other batch ends so.
+        let unended = number / BATCH % 2 == 1;
+        summary.answers += compare_batch(program, &batch, unended)?;
+        summary.scripts += batch.len() as u64;
+        number = until;
     }
     Ok(summary)
 }
 
-fn write(choice: &Choice, number: u64) -> Script {
-    match choice.kind {
-        None => generate::script(choice.seed, number),
-        Some(kind) => generate::script_of_kind(kind, choice.seed, number)
-            .unwrap_or_else(|| panic!("no kind {kind}")),
-    }
-}
-
-fn compare_batch(program: &dyn Answering, batch: &[Script], first: u64) -> Result<usize, Failure> {
+fn compare_batch(
+    program: &dyn Answering,
+    batch: &[Script],
+    unended: bool,
+) -> Result<usize, Failure> {
     let lines: Vec<Line> = batch.iter().flat_map(|script| script.lines.clone()).collect();
     let expected: Vec<Line> = batch.iter().flat_map(|script| script.answers.clone()).collect();
     let mut input = script::join(&lines);
-    // "A last line without a line feed counts": every other batch ends so.
-    if first / BATCH % 2 == 1 {
+    if unended {
         input.pop();
     }
     let outcome = program.answers(&input);
     if let Some(difference) = difference(&expected, &outcome) {
-        return Err(difference_found(program, batch, first, difference.place));
+        return Err(difference_found(program, batch, difference.place));
     }
-    check_demand(batch, &outcome.answers, first)?;
+    check_demand(batch, &outcome.answers)?;
     Ok(expected.len())
 }
 
@@ -102,12 +139,7 @@ fn differs(program: &dyn Answering, lines: &[Line]) -> Option<Difference> {
 
 /// Names the script with the first difference and shrinks it. Should it be
 /// right on its own, the scripts before it are needed too.
-fn difference_found(
-    program: &dyn Answering,
-    batch: &[Script],
-    first: u64,
-    place: usize,
-) -> Failure {
+fn difference_found(program: &dyn Answering, batch: &[Script], place: usize) -> Failure {
     let mut before = 0;
     let mut number = 0;
     while number + 1 < batch.len() && before + batch[number].answers.len() <= place {
@@ -123,21 +155,21 @@ fn difference_found(
         || "the difference is gone when the script is run again".to_string(),
         |difference| difference.what,
     );
-    Failure { title: title(batch, first, number), lines, what }
+    Failure { title: title(&batch[number]), lines, what }
 }
 
-fn title(batch: &[Script], first: u64, number: usize) -> String {
-    format!("script {} of kind {}", first + number as u64, batch[number].kind)
+fn title(script: &Script) -> String {
+    format!("script {} of kind {}", script.number, script.kind)
 }
 
-/// Demand 3 for each script on its own: each begins with an opening.
-fn check_demand(batch: &[Script], answers: &[Line], first: u64) -> Result<(), Failure> {
+/// Demand 3 for each script on its own: each begins with a fresh station.
+fn check_demand(batch: &[Script], answers: &[Line]) -> Result<(), Failure> {
     let mut rest = answers;
-    for (number, script) in batch.iter().enumerate() {
+    for script in batch {
         let (own, others) = rest.split_at(script.answers.len());
         rest = others;
         if let Err(broken) = demand::check(&script.lines, own) {
-            let title = title(batch, first, number);
+            let title = title(script);
             return Err(Failure { title, lines: script.lines.clone(), what: broken.to_string() });
         }
     }

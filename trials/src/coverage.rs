@@ -2,22 +2,15 @@
 //! nothing about an answer that no script brings about.
 
 use crate::compare::Choice;
-use crate::generate;
 use crate::protocol::{read_call, Call};
 use crate::script::{self, Script};
 use std::collections::BTreeMap;
 
 pub fn coverage(choice: &Choice) -> BTreeMap<String, usize> {
     let mut totals = BTreeMap::new();
-    for number in 0..choice.scripts {
-        let script = match choice.kind {
-            None => Some(generate::script(choice.seed, number)),
-            Some(kind) => generate::script_of_kind(kind, choice.seed, number),
-        };
-        if let Some(script) = script {
-            *totals.entry(format!("kind {}", script.kind)).or_default() += 1;
-            add(&script, &mut totals);
-        }
+    for script in (0..choice.scripts).filter_map(|number| choice.script(number)) {
+        *totals.entry(format!("kind {}", script.kind)).or_default() += 1;
+        add(&script, &mut totals);
     }
     totals
 }

@@ -9,6 +9,7 @@ use std::io::{self, Read, Write};
 /// What every place of a lent list holds before a clock move.
 const UNTOUCHED: u32 = u32::MAX;
 
+#[derive(Clone)]
 pub struct Interpreter<Y> {
     yard: Y,
     /// Kept between calls so that no move has to ask for memory.

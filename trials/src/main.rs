@@ -4,16 +4,18 @@ use std::collections::HashMap;
 use std::io::{self, Write};
 use std::process::ExitCode;
 use std::time::{Duration, Instant};
-use trials::compare::{compare, Choice, Failure};
+use trials::compare::{compare, Choice, Failure, LOOPS};
 use trials::program::Program;
-use trials::{benchmark, coverage, demand, fast, generate, interpret, reference, script};
+use trials::{benchmark, coverage, demand, fast, generate, interpret, loops, reference, script};
 
 const USAGE: &str = "\
 trials answers < SCRIPT                      answers of the reference
 trials fast < SCRIPT                         answers of the fast program
 trials generate [--kind KIND] [--seed S] [--scripts K]
-trials compare PROGRAM [--scripts K] [--seed S] [--kind KIND] [--patience SECONDS]
-trials coverage [--scripts K] [--seed S] [--kind KIND]
+trials compare PROGRAM [--scripts K] [--seed S] [--kind KIND] [--without KIND]
+                       [--patience SECONDS]
+trials loops [TITLE]                         titles of the trials of the loop, or an input
+trials coverage [--scripts K] [--seed S] [--kind KIND] [--without KIND]
 trials benchmark PROGRAM [--repeat R] [--days D]
                                              run times beside those of the fast program
 trials demand SCRIPT ANSWERS                 demand 3 from calls and answers alone";
@@ -51,17 +53,23 @@ impl Words {
     }
 
     fn choice(&self, scripts: u64) -> Result<Choice<'_>, String> {
-        let kind = self.named.get("kind").map(String::as_str);
-        let known = |name: &str| generate::KINDS.iter().any(|kind| kind.name == name);
-        if let Some(name) = kind.filter(|name| !known(name)) {
-            let names: Vec<&str> = generate::KINDS.iter().map(|kind| kind.name).collect();
-            return Err(format!("no kind {name}; there are {}", names.join(", ")));
-        }
         Ok(Choice {
             scripts: self.number("scripts", scripts)?,
             seed: self.number("seed", 1)?,
-            kind,
+            kind: self.kind("kind")?,
+            without: self.kind("without")?,
         })
+    }
+
+    /// The kind of scripts that a named word gives.
+    fn kind(&self, name: &str) -> Result<Option<&str>, String> {
+        let kind = self.named.get(name).map(String::as_str);
+        let mut known: Vec<&str> = generate::KINDS.iter().map(|kind| kind.name).collect();
+        known.push(LOOPS);
+        match kind.filter(|kind| !known.contains(kind)) {
+            Some(kind) => Err(format!("no kind {kind}; there are {}", known.join(", "))),
+            None => Ok(kind),
+        }
     }
 }
 
@@ -81,6 +89,7 @@ fn run(words: &Words) -> Outcome {
         Some("fast") => serve(fast::Station::fresh(1, 100)),
         Some("generate") => print_scripts(&words.choice(1)?),
         Some("compare") => run_comparison(words),
+        Some("loops") => print_loops(words.others.get(1)),
         Some("coverage") => print_coverage(&words.choice(1_000)?),
         Some("benchmark") => run_benchmark(words),
         Some("demand") => check_files(&words.others[1..]),
@@ -94,18 +103,28 @@ fn serve(yard: impl trials::yard::Yard) -> Outcome {
 }
 
 fn print_scripts(choice: &Choice) -> Outcome {
-    for number in 0..choice.scripts {
-        let script = match choice.kind {
-            None => generate::script(choice.seed, number),
-            Some(kind) => generate::script_of_kind(kind, choice.seed, number).ok_or("no kind")?,
-        };
-        print_lines(&script.lines)?;
-    }
-    Ok(())
+    let scripts = (0..choice.scripts).filter_map(|number| choice.script(number));
+    scripts.map(|script| script.lines).try_for_each(|lines| print_lines(&lines))
 }
 
 fn print_lines(lines: &[script::Line]) -> Outcome {
-    io::stdout().write_all(&script::join(lines)).map_err(|error| error.to_string())
+    print_bytes(&script::join(lines))
+}
+
+fn print_bytes(bytes: &[u8]) -> Outcome {
+    io::stdout().write_all(bytes).map_err(|error| error.to_string())
+}
+
+/// The titles, or the input of one.
+fn print_loops(title: Option<&String>) -> Outcome {
+    let trials = loops::trials();
+    let Some(title) = title else {
+        let titles: Vec<script::Line> =
+            trials.into_iter().map(|trial| trial.title.into_bytes()).collect();
+        return print_lines(&titles);
+    };
+    let trial = trials.iter().find(|trial| trial.title == *title);
+    print_bytes(&trial.ok_or(format!("no trial {title}"))?.input)
 }
 
 fn print_coverage(choice: &Choice) -> Outcome {

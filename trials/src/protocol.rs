@@ -19,8 +19,6 @@ use crate::yard::{Found, Moved, Ordered, Planned, Refusal};
 pub const LONGEST_LINE: usize = 4096;
 /// More places than these are never lent to a clock move.
 pub const MOST_PLACES: u32 = 4096;
-/// More starts than the station has places are not read from a line.
-pub const MOST_STARTS: usize = 180;
 
 #[derive(Clone, Debug, PartialEq, Eq)]
 pub enum Call {
@@ -93,16 +91,10 @@ fn numbers<'a, const K: usize>(
     }
 }
 
-/// Any number of starts up to the places of a station.
+/// As many starts as the line has, judged from left to right: whether they are
+/// too many is the station's to say.
 fn starts<'a>(words: impl Iterator<Item = &'a [u8]>) -> Result<Vec<u32>, Fault> {
-    let mut values = Vec::new();
-    for word in words {
-        if values.len() == MOST_STARTS {
-            return Err(Fault::ExtraNumber);
-        }
-        values.push(number(word)?);
-    }
-    Ok(values)
+    words.map(number).collect()
 }
 
 /// A decimal number of 32 bits. Leading zeros don't count, so the digits alone

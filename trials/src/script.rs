@@ -12,6 +12,8 @@ pub type Line = Vec<u8>;
 #[derive(Clone, Debug, Default)]
 pub struct Script {
     pub kind: &'static str,
+    /// Among the scripts of its seed.
+    pub number: u64,
     pub lines: Vec<Line>,
     pub answers: Vec<Line>,
 }

@@ -3,8 +3,8 @@
 
 mod common;
 
-use common::literal::{Error, Literal};
-use common::{answers, expect, Inside};
+use common::faulty::{Error, Faulty};
+use common::{answers, expect, reference, Inside};
 use trials::compare::{compare, Choice};
 use trials::{demand, generate, script};
 
@@ -26,12 +26,10 @@ const FAULTY: [Error; 13] = [
 
 /// The rules give the last answer, the faulty yard another one.
 fn caught(error: Error, text: &str, right: &str, wrong: &str) {
-    let last = |error| answers(Literal::new(error), text).pop().unwrap();
-    let mut expected = answers(Literal::new(Error::None), text);
-    assert_eq!(expected.pop().unwrap(), right);
-    expected.push(right.to_string());
+    let expected = answers(reference(), text);
     expect(text, &expected.iter().map(String::as_str).collect::<Vec<_>>());
-    assert_eq!(last(error), wrong);
+    assert_eq!(expected.last().map(String::as_str), Some(right));
+    assert_eq!(answers(Faulty::new(error), text).last().map(String::as_str), Some(wrong));
 }
 
 /// "Testing balance only at the new charge's start. An end on another line can
@@ -81,24 +79,13 @@ fn neighbouring_lines_only() {
 }
 
 fn choice(kind: &str, scripts: u64) -> Choice<'_> {
-    Choice { scripts, seed: 7, kind: Some(kind) }
-}
-
-/// The literal rules without an error, the reference and the fast program are
-/// three texts of the same rules.
-#[test]
-fn literal_rules_agree() {
-    let literal = Inside(|| Literal::new(Error::None));
-    for kind in ["leaning", "offers", "malformed"] {
-        let summary = compare(&literal, &choice(kind, 60)).map_err(|failure| failure.what);
-        assert_eq!(summary.map(|summary| summary.scripts), Ok(60), "{kind}");
-    }
+    Choice { scripts, seed: 7, kind: Some(kind), ..Choice::default() }
 }
 
 #[test]
 fn the_comparison_finds_every_faulty_yard() {
     for error in FAULTY {
-        let faulty = Inside(|| Literal::new(error));
+        let faulty = Inside(|| Faulty::new(error));
         let failure = compare(&faulty, &choice("leaning", 80)).expect_err(&format!("{error:?}"));
         assert!(failure.lines.len() <= 9, "{error:?} is left with {} lines", failure.lines.len());
         assert!(failure.what.contains("should be"), "{error:?}: {}", failure.what);
@@ -129,7 +116,7 @@ fn demand_3_finds_what_it_should() {
     let fails = |error: Error| {
         (0..40).any(|number| {
             let lines = generate::script_of_kind("leaning", 3, number).unwrap().lines;
-            demand::check(&lines, &script::answers_of(Literal::new(error), &lines)).is_err()
+            demand::check(&lines, &script::answers_of(Faulty::new(error), &lines)).is_err()
         })
     };
     for error in sound {

@@ -4,13 +4,15 @@
 mod common;
 
 use common::{fast, lines, Inside};
-use trials::compare::{compare, Choice};
+use trials::compare::{compare, Choice, LOOPS};
 use trials::coverage::coverage;
 use trials::generate;
+use trials::protocol::LONGEST_LINE;
+use trials::script;
 use trials::shrink::shrink;
 
 fn choice(scripts: u64, seed: u64) -> Choice<'static> {
-    Choice { scripts, seed, kind: None }
+    Choice { scripts, seed, ..Choice::default() }
 }
 
 #[test]
@@ -25,7 +27,9 @@ fn the_same_seed_gives_the_same_scripts() {
 fn every_script_begins_with_an_opening() {
     for kind in &generate::KINDS {
         let script = generate::script_of_kind(kind.name, 1, 0).unwrap();
-        assert!(script.lines[0].starts_with(b"open "), "{}", kind.name);
+        let opens = script.lines.iter().position(|line| line.starts_with(b"open "));
+        let expected = (kind.name != generate::UNOPENED).then_some(0);
+        assert_eq!(opens, expected, "{}", kind.name);
     }
 }
 
@@ -71,10 +75,35 @@ fn every_answer_occurs() {
     }
 }
 
+/// Lists of every length that matters, in stations with as many waiting charges or
+/// fewer, right and wrong in their words.
+#[test]
+fn long_lists_occur() {
+    let mut seen = std::collections::BTreeSet::new();
+    for number in 0..80 {
+        let script = generate::script_of_kind("lists", 1, number).unwrap();
+        for (line, answer) in script::answered(&script.lines).zip(&script.answers) {
+            let numbers = line.split(|byte| *byte == b' ').count() - 1;
+            if line.starts_with(b"offer ") && numbers >= 179 {
+                let first = script::show(answer).split(' ').next().map(String::from);
+                seen.insert((numbers.min(501), line.len() == LONGEST_LINE, first));
+            }
+        }
+    }
+    let has = |numbers, full, word: &str| seen.contains(&(numbers, full, Some(word.to_string())));
+    assert!(has(180, false, "plan"), "{seen:?}");
+    for numbers in [179, 180, 181, 182, 500] {
+        assert!(has(numbers, false, "refused"), "{numbers}: {seen:?}");
+        assert!(has(numbers, false, "error"), "{numbers}: {seen:?}");
+    }
+    assert!(has(501, true, "refused"), "{seen:?}");
+}
+
 #[test]
 fn the_fast_program_agrees() {
-    let summary = compare(&Inside(fast), &choice(400, 11)).map_err(|failure| failure.what);
-    assert_eq!(summary.map(|summary| summary.scripts), Ok(400));
+    let scripts = Choice { without: Some(LOOPS), ..choice(400, 11) };
+    let summary = compare(&Inside(fast), &scripts).map_err(|failure| failure.what);
+    assert_eq!(summary.map(|summary| summary.scripts), Ok(410));
 }
 
 #[test]

@@ -1,23 +1,24 @@
 //! Programs under trial, with the trials' own binary in their place.
 
 use std::time::Duration;
-use trials::compare::{compare, Choice};
+use trials::compare::{compare, Choice, LOOPS};
 use trials::program::{Answering, Program};
 
 const BINARY: &str = env!("CARGO_BIN_EXE_trials");
 const PATIENCE: Duration = Duration::from_secs(60);
 
 fn choice(scripts: u64) -> Choice<'static> {
-    Choice { scripts, seed: 21, kind: None }
+    Choice { scripts, seed: 21, without: Some(LOOPS), ..Choice::default() }
 }
 
-/// More than two batches, so that one of them ends without a line feed.
+/// More than two batches, so that one of them ends without a line feed. Each has an
+/// unopened script in front.
 #[test]
 fn reference_and_fast_program_as_programs() {
     for word in ["answers", "fast"] {
         let program = Program::new(&format!("{BINARY} {word}"), PATIENCE);
         let summary = compare(&program, &choice(90)).map_err(|failure| failure.what);
-        assert_eq!(summary.map(|summary| summary.scripts), Ok(90), "{word}");
+        assert_eq!(summary.map(|summary| summary.scripts), Ok(93), "{word}");
     }
 }
 

@@ -67,14 +67,29 @@ fn the_first_fault_counts() {
     assert_eq!(fault(b"latest x"), Fault::ExtraNumber);
 }
 
+/// A list has as many starts as fit in a line; each is judged, wherever it stands.
 #[test]
-fn lists_of_180_starts() {
+fn lists_of_any_length() {
     let offer = |count: usize| [b"offer".to_vec(), b" 7".repeat(count)].concat();
-    assert_eq!(read_call(&offer(180)), Ok(Some(Call::Offer { starts: vec![7; 180] })));
-    assert_eq!(fault(&offer(181)), Fault::ExtraNumber);
-    assert_eq!(fault(&[offer(180), b" x".to_vec()].concat()), Fault::ExtraNumber);
-    assert_eq!(fault(&[offer(179), b" x 7".to_vec()].concat()), Fault::NotANumber);
-    assert_eq!(read_call(b"offer"), Ok(Some(Call::Offer { starts: vec![] })));
+    for count in [0, 1, 179, 180, 181, 182, 500, 2045] {
+        assert_eq!(read_call(&offer(count)), Ok(Some(Call::Offer { starts: vec![7; count] })));
+    }
+    assert_eq!(fault(&offer(2046)), Fault::LineTooLong);
+    for count in [179, 180, 181, 500] {
+        let with = |last: &[u8]| [offer(count), last.to_vec()].concat();
+        assert_eq!(fault(&with(b" x 4294967296")), Fault::NotANumber);
+        assert_eq!(fault(&with(b" 4294967296 x")), Fault::NumberTooLarge);
+        assert_eq!(fault(&with(b" ")), Fault::NotANumber);
+    }
+}
+
+/// More starts than the station has places are a list of the wrong length.
+#[test]
+fn lists_too_long_are_refused() {
+    let many = |count: usize| format!("offer{}", " 7".repeat(count));
+    let text = [many(0), many(180), many(181), many(182), many(500), many(2045)].join("\n");
+    let refused = "refused 10";
+    expect(&text, &["plan 7 0 0 0", refused, refused, refused, refused, refused]);
 }
 
 /// The length is judged first, even in a comment.

@@ -3,6 +3,10 @@ pub mod Walking
 pub mod Restarting
 pub mod Members
 pub mod Sorting
-pub mod Orders
+pub mod Splitting
+pub mod Keys
+pub mod Passing
+pub mod Latest
+pub mod LineByLine
 pub mod Reporting
 pub mod Holding

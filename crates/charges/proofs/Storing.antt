@@ -58,12 +58,12 @@ column-empty times = refl
 column-empty dues = refl
 column-empty starts = refl
 
+-- no place is used
+pub filled-none : Filled 0 (replicate 180 0)
+filled-none = record { full = refl; clear = λ i h. zeros 180 i }
+
 pub holds-none : Holds [] empty
-holds-none =
-    record {
-      charges = refl;
-      columns = record { few = omega arith; filled = λ k. rw (column-empty k) (record { full = refl; clear = λ i h. zeros 180 i }) };
-    }
+holds-none = record { charges = refl; columns = record { few = omega arith; filled = λ k. rw (column-empty k) filled-none } }
 
 -- One charge more
 
@@ -87,7 +87,7 @@ column-put c x times = refl
 column-put c x dues = refl
 column-put c x starts = refl
 
-filled-set : (n v : ℕ) (xs : List ℕ) → Filled n xs → Filled (n + 1) (set xs n v)
+pub filled-set : (n v : ℕ) (xs : List ℕ) → Filled n xs → Filled (n + 1) (set xs n v)
 filled-set n v xs f =
     record {
       full = rw length-set (f .full);

@@ -9,7 +9,7 @@ use Rattle.rules.specs.Basics.{Each, tabulate, keep}
 use Rattle.rules.specs.Charge.{Charge}
 use Rattle.rules.specs.Calls.{isPassed}
 use Rattle.charges.specs.declared.Charges.{Charges}
-use Rattle.charges.specs.declared.Places.{Places}
+use Rattle.charges.specs.declared.places.Places.{Places}
 use Rattle.charges.specs.Arrays.{chargeAt}
 
 abbrev pub placeAt : Places → ℕ → ℕ

@@ -1,15 +1,10 @@
-// Reads calls from standard input, one to a line, and writes one answer line to each on standard output.
-mod reply;
+// Reads requests from standard input, one to a line of text, and writes the answer to each on standard output.
 mod serve;
-
-use station::Station;
 
 fn main() {
     let mut block = io::large_buffer();
-    let mut numbers = [0u32; 180];
+    let mut numbers = [0u32; 2048];
     let mut list = [0u32; 4096];
     let mut out = io::large_buffer();
-    let opening = Station::open(1, 100);
-    let station = opening.station;
-    serve::serve(station, &mut block, &mut numbers, &mut list, &mut out);
+    serve::serve(&mut block, &mut numbers, &mut list, &mut out);
 }

@@ -6,19 +6,19 @@ use mathlib.Core.Bool.{Bool, true, false, _||_, true≢false}
 use mathlib.Core.List.{List, [], _∷_}
 use native.Mathlib.Omega.{arith}
 use lib.Dec.{eqb}
-use borrow.Author.Tests.{not-false}
 use Rattle.rules.specs.Basics.{some, firstOf}
 use Rattle.rules.specs.Charge.{Charge, endOf, isBegun}
 use Rattle.rules.specs.Replan.{Proposal, starts, none, latest, Replanned, byLines}
 use Rattle.rules.specs.Judgement.{judged}
-use Rattle.rules.specs.Calls.{State, limitsOf, Answer, refused, opened, planned, Result, answering, boundOf, fresh, openRefusals, opening, Call, order, move, offer, replanLatest, replanLines, enquire, lent, refusals, ordering, moving, decided, tested, offering, replanningLatest, replanningLines, told, enquiring, granted, step}
+use Rattle.rules.specs.Calls.{Settings, settings, State, limitsOf, Answer, refused, opened, planned, Result, answering, boundOf, fresh, openRefusals, opening, Call, order, move, offer, replanLatest, replanLines, enquire, lent, refusals, ordering, moving, decided, tested, offering, replanningLatest, replanningLines, told, enquiring, granted, step}
 use Rattle.rules.specs.Valid.{ValidState}
-use Rattle.rules.proofs.Tables.{firstOf-none, none-firstOf}
+use Rattle.rules.proofs.Tables.{Numbered, firstOf-none, none-firstOf}
+use Rattle.rules.proofs.Granted.{refusals-numbered, openRefusals-numbered, enquire-granted}
 use Rattle.rules.proofs.Validity.{opening-valid, step-valid, order-found}
 use Rattle.guarantee.specs.Past.{isRefused, Past, beginning, extended, after}
 use Rattle.guarantee.specs.Demands.{reached}
-use Rattle.guarantee.specs.DemandOne.{Lowest, NoneApplies, RefusedBy, AnswerTo, DemandOne, DemandOneOpening}
-use Rattle.guarantee.proofs.Tables.{Ascending, ascending-numbered, firstOf-lowest, applies-from, lowest-firstOf, refusals-ascend, openRefusals-ascend}
+use Rattle.guarantee.specs.DemandOne.{FirstIs, NoneApplies, RefusedBy, AnswerTo, DemandOne, DemandOneOpening}
+use Rattle.guarantee.proofs.Tables.{firstOf-is, is-firstOf, is-numbered}
 
 -- What a table makes of a call
 
@@ -28,32 +28,32 @@ not-refused a k e p = true≢false (sym (ap isRefused p) ∙ e)
 
 refused-by :
     (rows : List (Bool × ℕ)) (kept : State) (list : List ℕ) (r : Result)
-    → Ascending 1 rows
+    → Numbered rows
     → (NoneApplies rows → isRefused (r .answer) ≡ false)
     → RefusedBy rows kept list (answering (firstOf rows) kept list r)
-refused-by rows kept list r up plain = go (firstOf rows) refl
+refused-by rows kept list r numbered plain = go (firstOf rows) refl
   where
     go : (i : ℕ) → firstOf rows ≡ i → RefusedBy rows kept list (answering i kept list r)
     go zero e =
-        let free : isRefused (r .answer) ≡ false = plain (firstOf-none rows (ascending-numbered 0 rows up) e) in
+        let free : isRefused (r .answer) ≡ false = plain (firstOf-none rows numbered e) in
         record {
           number =
               λ k. (
                 (λ p. absurd (not-refused (r .answer) k free p)),
-                (λ l. absurd (positive k l (sym (lowest-firstOf 1 k rows up l) ∙ e))),
+                (λ h. absurd (positive k h (sym (is-firstOf k rows h) ∙ e))),
               );
           same-station = λ p. absurd (true≢false (sym p ∙ free));
           same-list = λ p. absurd (true≢false (sym p ∙ free));
         }
       where
-        positive : (k : ℕ) → Lowest rows k → k ≡ 0 → ⊥
-        positive k l z = omega (arith, applies-from 1 k rows up (l .applies))
+        positive : (k : ℕ) → FirstIs rows k → k ≡ 0 → ⊥
+        positive k h z = omega (arith, is-numbered k rows numbered h)
     go (suc i) e =
         record {
           number =
               λ k. (
-                (λ p. let same : suc i ≡ k = cc in rw (← same) (firstOf-lowest 1 i rows up e)),
-                (λ l. ap refused (sym e ∙ lowest-firstOf 1 k rows up l)),
+                (λ p. let same : suc i ≡ k = cc in rw (← same) (firstOf-is i rows e)),
+                (λ h. ap refused (sym e ∙ is-firstOf k rows h)),
               );
           same-station = λ p. refl;
           same-list = λ p. refl;
@@ -115,8 +115,7 @@ granted-answer s (replanLines allowance) v q =
     let r : Replanned = byLines (limitsOf s) (s .clock) allowance (s .charges) in
     tested-planned s (r .rounds) (r .proposal) []
 granted-answer s (enquire ticket) v q =
-    told-held (s .clock) ticket (s .charges)
-    (not-false (some (λ c. eqb (c .ticket) ticket) (s .charges)) (q .0))
+    told-held (s .clock) ticket (s .charges) (enquire-granted s ticket q)
 
 -- The demand
 
@@ -124,7 +123,7 @@ valid-demand-one : (s : State) → ValidState s → (call : Call) → DemandOne 
 valid-demand-one s v call =
     record {
       refused-by =
-          refused-by (refusals s call) s (lent call) (granted s call) (refusals-ascend s call)
+          refused-by (refusals s call) s (lent call) (granted s call) (refusals-numbered s call)
           (λ q. answer-not-refused call (granted s call .answer) (granted-answer s call v q));
       answered =
           λ q.
@@ -134,24 +133,24 @@ valid-demand-one s v call =
     }
 
 -- every station that an opening and calls lead to is valid
-pub reached-valid : (n c : ℕ) (calls : List Call) → ValidState (reached n c calls)
-reached-valid n c calls = after-valid calls (beginning (opening n c .state)) (opening-valid n c)
+pub reached-valid : (x : Settings) (calls : List Call) → ValidState (reached x calls)
+reached-valid x calls = after-valid calls (beginning (opening x .state)) (opening-valid x)
   where
     after-valid : (calls : List Call) (h : Past) → ValidState (h .station) → ValidState (after step h calls .station)
     after-valid [] h v = v
     after-valid (x ∷ calls) h v = after-valid calls (extended h x (step (h .station) x)) (step-valid (h .station) x v)
 
-pub demand-one : (n c : ℕ) (calls : List Call) (call : Call) → DemandOne step (reached n c calls) call
-demand-one n c calls call = valid-demand-one (reached n c calls) (reached-valid n c calls) call
+pub demand-one : (x : Settings) (calls : List Call) (call : Call) → DemandOne step (reached x calls) call
+demand-one x calls call = valid-demand-one (reached x calls) (reached-valid x calls) call
 
-pub demand-one-opening : (n c : ℕ) → DemandOneOpening n c
+pub demand-one-opening : (x : Settings) → DemandOneOpening opening x
 unfolding opening
-demand-one-opening n c =
+demand-one-opening x =
     record {
       refused-by =
-          refused-by (openRefusals n c) (fresh 1 100) []
-          (record { answer = opened (boundOf n c); state = fresh n c; list = [] })
-          (openRefusals-ascend n c)
+          refused-by (openRefusals x) (fresh (settings 1 100)) []
+          (record { answer = opened (fresh x .bound); state = fresh x; list = [] })
+          (openRefusals-numbered x)
           (λ q. refl);
-      answered = λ q. rw (none-firstOf (openRefusals n c) q) (refl, refl);
+      answered = λ q. rw (none-firstOf (openRefusals x) q) (refl, refl);
     }

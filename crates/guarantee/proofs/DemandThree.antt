@@ -9,7 +9,7 @@ use borrow.Author.Tests.{ltb-false, lt-ltb, le-ltb, eq-eqb, ne-eqb}
 use Rattle.rules.specs.Basics.{Each, firstOf, some}
 use Rattle.rules.specs.Load.{count}
 use Rattle.rules.specs.Charge.{Charge, endOf, loadsOf, isBegun, unfinishedCharges}
-use Rattle.rules.specs.Calls.{State, told, opened, answering, boundOf, fresh, openRefusals, opening, Call, step}
+use Rattle.rules.specs.Calls.{Settings, settings, State, told, opened, answering, boundOf, fresh, openRefusals, opening, Call, step}
 use Rattle.guarantee.specs.Past.{Order, Past, beginning, past, timesReported, enquiry, startIn, startOf, loadOf, countIn, totalTime, lastMinute}
 use Rattle.guarantee.specs.DemandThree.{Kept, Unmoved, DemandThree}
 use Rattle.rules.proofs.Lists.{each-map}
@@ -21,12 +21,12 @@ use Rattle.guarantee.proofs.Steps.{Grown, more, on, Known, Reach, reach
 
 -- what calls and answers say of one charge of the history
 record Said (h : Past) (held : List Charge) (c : Charge) : Type 0 where
-  start : startOf h (orderOf c) ≡ c .start
+  start : startOf step h (orderOf c) ≡ c .start
   times : timesReported (h .reports) (c .ticket) ≡ cond (isBegun (h .clock) c) 1 0
   answers : Told (h .clock) held c
 
 module _ (s : State) (h : Past) (hs : List Charge) (known : Known s h hs) where
-  enquiry-held : (t : ℕ) → enquiry h t ≡ told (h .clock) (unfinishedCharges (h .clock) hs) t
+  enquiry-held : (t : ℕ) → enquiry step h t ≡ told (h .clock) (unfinishedCharges (h .clock) hs) t
   enquiry-held t =
       enquiry-told (h .station) t ∙ ap (λ (x : State). told (x .clock) (x .charges) t) (known .station)
 
@@ -55,12 +55,12 @@ module _ (s : State) (h : Past) (hs : List Charge) (known : Known s h hs) where
       times : timesReported (h .reports) (c .ticket) ≡ cond (isBegun (h .clock) c) 1 0
       times = times-sum (h .reports) (c .ticket) ∙ e
 
-      go : (b : Bool) → isBegun (h .clock) c ≡ b → startOf h (orderOf c) ≡ c .start
+      go : (b : Bool) → isBegun (h .clock) c ≡ b → startOf step h (orderOf c) ≡ c .start
       go true p =
-          once-reported-start (c .ticket) (c .start) (startIn (enquiry h (c .ticket))) (h .reports) (rw p at times)
+          once-reported-start (c .ticket) (c .start) (startIn (enquiry step h (c .ticket))) (h .reports) (rw p at times)
           (let g = rw p at f in omega arith)
       go false p =
-          not-reported-start (c .ticket) (startIn (enquiry h (c .ticket))) (h .reports) (rw p at times)
+          not-reported-start (c .ticket) (startIn (enquiry step h (c .ticket))) (h .reports) (rw p at times)
           ∙ ap startIn (enquiry-held (c .ticket) ∙ a .waits (ltb-false (c .start) (h .clock) p))
 
   said : Each (Said h (unfinishedCharges (h .clock) hs)) hs
@@ -92,7 +92,7 @@ module _ (s : State) (h : Past) (hs : List Charge) (known : Known s h hs) where
       → Said h (unfinishedCharges (h .clock) hs) c
       → Fit (h .clock) c
       → endOf c ≤ lastMinute 0 (h .orders) + totalTime (h .orders)
-      → Kept h (orderOf c)
+      → Kept step h (orderOf c)
   keeps c e f g =
       record {
         not-early = rw (e .start) (f .not-early);
@@ -104,14 +104,14 @@ module _ (s : State) (h : Past) (hs : List Charge) (known : Known s h hs) where
         finished = rw (e .start) (λ j. enquiry-held (c .ticket) ∙ e .answers .finished j);
       }
 
-  orders-kept : Each (Kept h) (h .orders)
+  orders-kept : Each (Kept step h) (h .orders)
   orders-kept =
-      subst (λ (os : List Order). Each (Kept h) os) (known .invariant .orders)
-      (each-image (Kept h) orderOf hs
+      subst (λ (os : List Order). Each (Kept step h) os) (known .invariant .orders)
+      (each-image (Kept step h) orderOf hs
       (each-two
       (Said h (unfinishedCharges (h .clock) hs))
       (λ c. Fit (h .clock) c × (endOf c ≤ lastMinute 0 (h .orders) + totalTime (h .orders)))
-      (λ c. Kept h (orderOf c))
+      (λ c. Kept step h (orderOf c))
       (λ c e p. keeps c e (p .0) (p .1))
       hs
       said
@@ -127,13 +127,13 @@ module _ (s : State) (h : Past) (hs : List Charge) (known : Known s h hs) where
   count-said :
       (cs : List Charge) (l t : ℕ)
       → Each (Said h (unfinishedCharges (h .clock) hs)) cs
-      → count (map (loadOf h) (ordersOf cs)) l t ≡ count (loadsOf cs) l t
+      → count (map (loadOf step h) (ordersOf cs)) l t ≡ count (loadsOf cs) l t
   count-said [] l t e = refl
   count-said (c ∷ cs) l t e = rw (e .0 .start, count-said cs l t (e .1))
 
-  count-history : (l t : ℕ) → countIn h l t ≡ count (loadsOf hs) l t
+  count-history : (l t : ℕ) → countIn step h l t ≡ count (loadsOf hs) l t
   count-history l t =
-      subst (λ (os : List Order). count (map (loadOf h) os) l t ≡ count (loadsOf hs) l t) (known .invariant .orders)
+      subst (λ (os : List Order). count (map (loadOf step h) os) l t ≡ count (loadsOf hs) l t) (known .invariant .orders)
       (count-said hs l t said)
 
   only-ours :
@@ -154,12 +154,12 @@ unmoved-each :
     → Grown k cs ds
     → Each (Said here a) cs
     → Each (Said there b) ds
-    → Each (λ c. Unmoved here there (orderOf c)) cs
+    → Each (λ c. Unmoved step here there (orderOf c)) cs
 unmoved-each here there a b e more p q = tt
 unmoved-each here there a b e (on {c = c} {d = d} t u r) p q = (
   (λ j.
-      let i : startOf here (orderOf c) ≡ c .start = p .0 .start in
-      ap (startOf there) (sym t) ∙ q .0 .start ∙ u (omega arith) ∙ sym i),
+      let i : startOf step here (orderOf c) ≡ c .start = p .0 .start in
+      ap (startOf step there) (sym t) ∙ q .0 .start ∙ u (omega arith) ∙ sym i),
   unmoved-each here there a b e r (p .1) (q .1),
 )
 
@@ -168,10 +168,10 @@ unmoved-orders :
     → Known s here cs
     → Known s there ds
     → Grown (here .clock) cs ds
-    → Each (Unmoved here there) (here .orders)
+    → Each (Unmoved step here there) (here .orders)
 unmoved-orders s here there cs ds p q r =
-    subst (λ (os : List Order). Each (Unmoved here there) os) (p .invariant .orders)
-    (each-image (Unmoved here there) orderOf cs
+    subst (λ (os : List Order). Each (Unmoved step here there) os) (p .invariant .orders)
+    (each-image (Unmoved step here there) orderOf cs
     (unmoved-each here there
     (unfinishedCharges (here .clock) cs)
     (unfinishedCharges (there .clock) ds)
@@ -183,8 +183,8 @@ unmoved-orders s here there cs ds p q r =
 -- From the opening
 
 -- a station that no call has been made to
-fresh-known : (n c : ℕ) → Known (fresh n c) (beginning (fresh n c)) []
-fresh-known n c =
+fresh-known : (x : Settings) → Known (fresh x) (beginning (fresh x)) []
+fresh-known x =
     record {
       station = refl;
       invariant =
@@ -201,17 +201,17 @@ fresh-known n c =
           };
     }
 
-opening-known : (n c : ℕ) → Known (opening n c .state) (beginning (opening n c .state)) []
+opening-known : (x : Settings) → Known (opening x .state) (beginning (opening x .state)) []
 unfolding opening
-opening-known n c = go (firstOf (openRefusals n c))
+opening-known x = go (firstOf (openRefusals x))
   where
     given : ℕ → State
     given i =
-        answering i (fresh 1 100) [] (record { answer = opened (boundOf n c); state = fresh n c; list = [] }) .state
+        answering i (fresh (settings 1 100)) [] (record { answer = opened (fresh x .bound); state = fresh x; list = [] }) .state
 
     go : (i : ℕ) → Known (given i) (beginning (given i)) []
-    go zero = fresh-known n c
-    go (suc i) = fresh-known 1 100
+    go zero = fresh-known x
+    go (suc i) = fresh-known (settings 1 100)
 
 -- what is known after calls to a station on which nothing was known
 module _ (s : State) (calls : List Call) (known : Known s (beginning s) []) where
@@ -219,12 +219,12 @@ module _ (s : State) (calls : List Call) (known : Known s (beginning s) []) wher
   reached = reach s calls (beginning s) [] known
 
   unmoved-part :
-      (part rest : List Call) → calls ≡ part ++ rest → Each (Unmoved (past step s part) (past step s calls)) (past step s part .orders)
+      (part rest : List Call) → calls ≡ part ++ rest → Each (Unmoved step (past step s part) (past step s calls)) (past step s part .orders)
   unmoved-part part rest e =
       let p : Reach s (beginning s) [] (past step s part) = reach s part (beginning s) [] known in
       let q = reach s rest (past step s part) (p .now) (p .known) in
-      subst (λ (z : List Call). Each (Unmoved (past step s part) (past step s z)) (past step s part .orders)) (sym e)
-      (subst (λ (g : Past). Each (Unmoved (past step s part) g) (past step s part .orders))
+      subst (λ (z : List Call). Each (Unmoved step (past step s part) (past step s z)) (past step s part .orders)) (sym e)
+      (subst (λ (g : Past). Each (Unmoved step (past step s part) g) (past step s part .orders))
       (sym (after-append part rest (beginning s)))
       (unmoved-orders s (past step s part) _ (p .now) (q .now) (p .known) (q .known) (q .grown)))
 
@@ -249,5 +249,5 @@ module _ (s : State) (calls : List Call) (known : Known s (beginning s) []) wher
       }
 
 -- for every opening, refused ones too, and every list of calls
-pub demand-three : (n c : ℕ) (calls : List Call) → DemandThree step (opening n c .state) calls
-demand-three n c calls = all-kept (opening n c .state) calls (opening-known n c)
+pub demand-three : (x : Settings) (calls : List Call) → DemandThree step (opening x .state) calls
+demand-three x calls = all-kept (opening x .state) calls (opening-known x)

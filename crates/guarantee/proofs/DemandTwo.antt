@@ -7,26 +7,27 @@ use mathlib.Core.List.{List, [], _∷_}
 use native.Mathlib.Omega.{arith}
 use lib.Dec.{ltb, leb}
 use lib.ListN.{length}
-use borrow.Author.Tests.{leb-true, ltb-true, le-leb, lt-ltb, not-false, eqb-true}
+use borrow.Author.Tests.{leb-true, ltb-true, le-leb, lt-ltb}
 use Rattle.rules.specs.Basics.{Each, firstOf}
-use Rattle.rules.specs.Load.{Load, sound}
+use Rattle.rules.specs.Load.{draw, Load, sound}
 use Rattle.rules.specs.Charge.{Charge, endOf, loadsOf, waitingCharges, lateness}
 use Rattle.rules.specs.Search.{added}
 use Rattle.rules.specs.Replan.{Proposal, starts, none, latest, Replanned, byLines}
 use Rattle.rules.specs.Judgement.{restarted, judged}
-use Rattle.rules.specs.Calls.{State, limitsOf, refused, ordered, planned, Result, answering, Call, order, offer, replanLatest, replanLines, lent, refusals, ordering, decided, tested, offering, replanningLatest, replanningLines, granted, step}
+use Rattle.rules.specs.Calls.{Settings, State, limitsOf, refused, ordered, planned, Result, answering, Call, order, offer, replanLatest, replanLines, lent, refusals, ordering, decided, tested, offering, replanningLatest, replanningLines, granted, step}
 use Rattle.rules.specs.Valid.{ValidCharge, ValidState}
 use Rattle.rules.proofs.Ranges.{and-left, and-right, and-both, below-or-not}
 use Rattle.rules.proofs.Lists.{each-map}
 use Rattle.rules.proofs.Counts.{sound-from, sound-true}
-use Rattle.rules.proofs.Tables.{firstOf-none, none-firstOf}
+use Rattle.rules.proofs.Tables.{none-firstOf}
+use Rattle.rules.proofs.Granted.{refusals-none, offer-granted}
 use Rattle.rules.proofs.Searches.{earliest-first}
 use Rattle.rules.proofs.Judgements.{Meets, judged-meets, meets-judged}
-use Rattle.rules.proofs.Validity.{Restarted, restarted-is, restarted-each, order-found}
+use Rattle.rules.proofs.Restarts.{Restarted, restarted-is, restarted-each}
+use Rattle.rules.proofs.Validity.{order-found}
 use Rattle.guarantee.specs.DemandOne.{NoneApplies}
 use Rattle.guarantee.specs.DemandTwo.{SoundPlan, Unbroken, Better, Taken, GivenStarts, causeOf, Tested, OrderStart, DemandTwo}
 use Rattle.guarantee.specs.Demands.{reached}
-use Rattle.guarantee.proofs.Tables.{ascending-numbered, refusals-ascend}
 use Rattle.guarantee.proofs.Proposals.{Proper, latest-proper, lines-proper, restarted-starts, restarted-begun, restarted-otherwise}
 use Rattle.guarantee.proofs.DemandOne.{reached-valid}
 
@@ -39,7 +40,7 @@ plan-sound s xs e =
       balance = λ l m t j i h. sound-from (limitsOf s) (s .clock) xs e t h .balance l m j i;
     }
 
-sound-plan : (s : State) (xs : List Load) → SoundPlan s xs → sound (limitsOf s) (s .clock) xs ≡ true
+pub sound-plan : (s : State) (xs : List Load) → SoundPlan s xs → sound (limitsOf s) (s .clock) xs ≡ true
 sound-plan s xs p =
     sound-true (limitsOf s) (s .clock) xs
     (λ t h. record { limit = λ l j. p .limit l t j h; balance = λ l m j i. p .balance l m t j i h })
@@ -53,7 +54,7 @@ unbroken c t = (
   (λ p. and-both (leb (c .start) t) (ltb t (endOf c)) (le-leb (c .start) t (p .0)) (lt-ltb t (endOf c) (p .1))),
 )
 
-each-unbroken : (cs : List Charge) → Each Unbroken cs
+pub each-unbroken : (cs : List Charge) → Each Unbroken cs
 each-unbroken [] = tt
 each-unbroken (c ∷ cs) = (unbroken c, each-unbroken cs)
 
@@ -81,7 +82,7 @@ module _ (s : State) (valid : ValidState s) (ss : List ℕ) where
         sound =
             record { limit = λ l t j h. m .limit t h l j; balance = λ l n t j i h. m .balance t h l n j i };
         no-later = m .not-later;
-        less-late = m .less-late;
+        less-late = omega (arith, m .less-late);
       }
 
   better-meets :
@@ -93,12 +94,12 @@ module _ (s : State) (valid : ValidState s) (ss : List ℕ) where
         not-later = b .no-later;
         limit = λ t h l j. b .sound .limit l t j h;
         balance = λ t h l m j i. b .sound .balance l m t j i h;
-        less-late = b .less-late;
+        less-late = omega (arith, b .less-late);
       }
 
 -- The test of a plan
 
-not-taken : (j b a n : ℕ) → Taken (planned (suc j) b a n) → ⊥
+pub not-taken : (j b a n : ℕ) → Taken (planned (suc j) b a n) → ⊥
 not-taken j b a n (x, y, z, e) = let q : suc j ≡ 0 = cc in omega arith
 
 refused-not-taken : (k : ℕ) → Taken (refused k) → ⊥
@@ -196,8 +197,7 @@ call-tested s call p rounds j same = go (firstOf (refusals s call)) refl
         → firstOf (refusals s call) ≡ i
         → Tested s call p rounds (answering i s (lent call) (granted s call))
     go zero e =
-        let free : NoneApplies (refusals s call)
-        = firstOf-none (refusals s call) (ascending-numbered 0 (refusals s call) (refusals-ascend s call)) e in
+        let free : NoneApplies (refusals s call) = refusals-none s call e in
         record {
           taken = ((λ t. (free, j free .taken .0 t)), (λ b. j free .taken .1 (b .1)));
           given = j free .given;
@@ -230,21 +230,21 @@ order-start :
 unfolding ordering
 order-start s line p d v q =
     let f = order-found s line p v in
-    let r = earliest-first (limitsOf s) (s .clock) (loadsOf (s .charges)) line p (f .0) (f .1) in
+    let r = earliest-first (limitsOf s) (s .clock) (loadsOf (s .charges)) (draw line p) (f .0) (f .1) in
     rw (none-firstOf (refusals s (order line p d)) q, f .1)
     (record {
       start = f .0;
       answer = refl;
       not-early = r .low;
-      sound = plan-sound s (added (loadsOf (s .charges)) line p (f .0)) (r .here);
-      earliest = λ u h w. least (f .0) u (r .least u h) (sound-plan s (added (loadsOf (s .charges)) line p u) w);
+      sound = plan-sound s (added (loadsOf (s .charges)) (draw line p) (f .0)) (r .here);
+      earliest = λ u h w. least (f .0) u (r .least u h) (sound-plan s (added (loadsOf (s .charges)) (draw line p) u) w);
       others-same = refl;
     })
   where
     least :
         (start u : ℕ)
-        → (u < start → sound (limitsOf s) (s .clock) (added (loadsOf (s .charges)) line p u) ≡ false)
-        → sound (limitsOf s) (s .clock) (added (loadsOf (s .charges)) line p u) ≡ true
+        → (u < start → sound (limitsOf s) (s .clock) (added (loadsOf (s .charges)) (draw line p) u) ≡ false)
+        → sound (limitsOf s) (s .clock) (added (loadsOf (s .charges)) (draw line p) u) ≡ true
         → start ≤ u
     least start u before here = go (below-or-not u start)
       where
@@ -262,9 +262,7 @@ valid-demand-two s v =
       offers =
           λ ss.
           call-tested s (offer ss) (starts ss) 0
-          (λ q.
-          tested-judged s 0 (starts ss) ss v
-          (eqb-true (length ss) (length (waitingCharges (s .clock) (s .charges))) (not-false _ (q .0))))
+          (λ q. tested-judged s 0 (starts ss) ss v (offer-granted s ss q))
           (tested-list s 0 (starts ss) ss);
       replans-latest =
           let p : Proposal = latest (limitsOf s) (s .clock) (s .charges) in
@@ -279,5 +277,5 @@ valid-demand-two s v =
           (tested-list s (r .rounds) (r .proposal) []);
     }
 
-pub demand-two : (n c : ℕ) (calls : List Call) → DemandTwo step (reached n c calls)
-demand-two n c calls = valid-demand-two (reached n c calls) (reached-valid n c calls)
+pub demand-two : (x : Settings) (calls : List Call) → DemandTwo step (reached x calls)
+demand-two x calls = valid-demand-two (reached x calls) (reached-valid x calls)

@@ -1,11 +1,19 @@
 -- Two facts that hold for each member of a list, and a fact of the images of the members.
 use mathlib.Core.List.{List, [], _∷_, map}
 use Rattle.rules.specs.Basics.{Each}
+use Rattle.rules.proofs.Lists.{each-map}
 
 pub each-two :
     {A : Type 0} (P Q R : A → Type 0) → ((a : A) → P a → Q a → R a) → (l : List A) → Each P l → Each Q l → Each R l
 each-two P Q R f [] d e = tt
 each-two P Q R f (a ∷ l) d e = (f a (d .0) (e .0), each-two P Q R f l (d .1) (e .1))
+
+pub each-both : {A : Type 0} (P Q : A → Type 0) (l : List A) → Each P l → Each Q l → Each (λ a. P a × Q a) l
+each-both P Q l d e = each-two P Q (λ a. P a × Q a) (λ a p q. (p, q)) l d e
+
+-- `each-map`, where the facts can be told from the function
+pub each-in : {A : Type 0} {P Q : A → Type 0} → ((a : A) → P a → Q a) → (l : List A) → Each P l → Each Q l
+each-in {P = P} {Q = Q} f l e = each-map P Q f l e
 
 pub each-image :
     {A : Type 0} {B : Type 0} (P : B → Type 0) (f : A → B) (l : List A) → Each (λ a. P (f a)) l → Each P (map f l)

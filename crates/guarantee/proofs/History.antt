@@ -11,7 +11,8 @@ use Rattle.rules.specs.Charge.{Charge, starting, endOf, loadOf, loadsOf, isBegu
 use Rattle.rules.specs.Judgement.{restarted}
 use Rattle.rules.proofs.Lists.{each-map, each-keep}
 use Rattle.rules.proofs.Counts.{draws-before}
-use Rattle.rules.proofs.Validity.{lastEnd-each, Restarted, empty, same, other}
+use Rattle.rules.proofs.Ends.{lastEnd-each}
+use Rattle.rules.proofs.Restarts.{Restarted, empty, same, other}
 use Rattle.guarantee.specs.Past.{Order}
 
 -- the order that a charge stands for

@@ -9,7 +9,7 @@ use lib.ListN.{length, length-append}
 use borrow.Author.Tests.{le-ltb}
 use Rattle.rules.specs.Basics.{Each, keep}
 use Rattle.rules.specs.Load.{Limits, counts, lastUntil, sound}
-use Rattle.rules.specs.Charge.{Charge, endOf, loadOf, loadsOf, isFinished, unfinishedCharges, lastEnd}
+use Rattle.rules.specs.Charge.{drawOf, Charge, endOf, loadOf, loadsOf, isFinished, unfinishedCharges, lastEnd}
 use Rattle.rules.specs.Search.{added}
 use Rattle.rules.specs.Judgement.{restarted}
 use Rattle.rules.specs.Calls.{isPassed, startBefore, reported, pairs}
@@ -18,7 +18,9 @@ use Rattle.rules.proofs.Ranges.{below-or-not}
 use Rattle.rules.proofs.Lists.{map-append, each-map, each-append}
 use Rattle.rules.proofs.Counts.{Sound, sound-same, sound-from, count-append, draws-before}
 use Rattle.rules.proofs.Judgements.{Meets}
-use Rattle.rules.proofs.Validity.{last-until, rising-append, restarted-rising, Restarted, restarted-is, restarted-each, count-unfinished}
+use Rattle.rules.proofs.Tickets.{rising-append}
+use Rattle.rules.proofs.Ends.{last-until, count-unfinished}
+use Rattle.rules.proofs.Restarts.{restarted-rising, Restarted, restarted-is, restarted-each}
 use Rattle.guarantee.specs.Past.{Order, Report, firstPairs, Numbered, totalTime, lastMinute}
 use Rattle.guarantee.proofs.Each.{each-two}
 use Rattle.guarantee.proofs.History.{orderOf, ordersOf, Fit, lastEnd-keep, unfinished-lastEnd, restarted-unfinished, restarted-orders, restarted-count}
@@ -67,7 +69,7 @@ module _ (y : Limits) (k : ℕ) (os : List Order) (hs : List Charge) (rs : List 
       (lasts : 1 ≤ c .time)
       (low : k ≤ c .start)
       (high : c .start < k + suc (lastUntil (loadsOf (unfinishedCharges k hs)) - k))
-      (ok : sound y k (added (loadsOf (unfinishedCharges k hs)) (c .line) (c .time) (c .start)) ≡ true)
+      (ok : sound y k (added (loadsOf (unfinishedCharges k hs)) (drawOf c) (c .start)) ≡ true)
     where
       order-always : (t : ℕ) → Sound y (counts (loadsOf (hs ++ (c ∷ []))) t)
       order-always t = rw (map-append loadOf hs (c ∷ [])) (go (below-or-not t k))
@@ -88,7 +90,7 @@ module _ (y : Limits) (k : ℕ) (os : List Order) (hs : List Charge) (rs : List 
                 count-append (loadsOf (unfinishedCharges k hs)) (loadOf c ∷ []) l t,
                 count-unfinished k hs l t h,
               ))
-              (sound-from y k (added (loadsOf (unfinishedCharges k hs)) (c .line) (c .time) (c .start)) ok t h)
+              (sound-from y k (added (loadsOf (unfinishedCharges k hs)) (drawOf c) (c .start)) ok t h)
 
       order-last : lastMinute 0 (os ++ (orderOf c ∷ [])) ≡ k
       order-last = lastMinute-append 0 os (orderOf c) ∙ minute

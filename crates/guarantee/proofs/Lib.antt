@@ -1,5 +1,6 @@
 pub mod Each
 pub mod Tables
+pub mod Lowest
 pub mod History
 pub mod Reports
 pub mod Tickets
@@ -10,4 +11,3 @@ pub mod DemandOne
 pub mod Proposals
 pub mod DemandTwo
 pub mod Demands
-pub mod Refuted

@@ -12,7 +12,7 @@ use Rattle.rules.specs.Charge.{Charge, starting, loadsOf, isBegun, begunCharges
 use Rattle.rules.specs.Search.{Caps, firstUnbalanced}
 use Rattle.rules.specs.Replan.{Proposal, starts, none, Placed, all, stuck, placeAll, proposed, soundStart, byLatestStart, latest, cappedStart, lineByLine, largestLine, smallestLine, lowered, placedActive, Outcome, ends, lowers, unbalancedIn, afterRound, round, goOn, roundsFrom, byLines}
 use Rattle.rules.specs.Judgement.{restarted}
-use Rattle.rules.proofs.Validity.{Restarted, empty, same, other}
+use Rattle.rules.proofs.Restarts.{Restarted, empty, same, other}
 
 -- Proposals
 

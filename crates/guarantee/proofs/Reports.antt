@@ -10,7 +10,7 @@ use borrow.Author.Tests.{ltb-true, ltb-false, leb-true, le-ltb, le-leb, lt-leb}
 use Rattle.rules.specs.Basics.{Each, keep, insertBy, sortedBy}
 use Rattle.rules.specs.Charge.{Charge, endOf, isBegun, isFinished, unfinishedCharges}
 use Rattle.rules.specs.Calls.{isPassed, pairs}
-use Rattle.rules.proofs.Validity.{Restarted, empty, same, other}
+use Rattle.rules.proofs.Restarts.{Restarted, empty, same, other}
 use Rattle.guarantee.specs.Past.{Report, firstPairs}
 use Rattle.guarantee.proofs.History.{Fit}
 

@@ -6,24 +6,23 @@ use mathlib.Core.List.{List, [], _∷_, _++_, append-nil}
 use native.Mathlib.Omega.{arith}
 use native.Mathlib.Nat.{le-trans}
 use native.Mathlib.Numerals.{add-one}
-use lib.Dec.{ltb}
 use lib.ListN.{length, length-append}
-use borrow.Author.Tests.{ltb-false, lt-leb}
+use borrow.Author.Tests.{lt-leb}
 use Rattle.rules.specs.Basics.{Found, at, nothing, firstOf}
-use Rattle.rules.specs.Load.{lastUntil, sound}
+use Rattle.rules.specs.Load.{draw, lastUntil, sound}
 use Rattle.rules.specs.Charge.{Charge, starting, loadsOf, isFinished, unfinishedCharges}
 use Rattle.rules.specs.Search.{added, earliest}
 use Rattle.rules.specs.Replan.{Proposal, starts, none, latest, byLines}
 use Rattle.rules.specs.Judgement.{restarted, judged}
 use Rattle.rules.specs.Calls.{State, limitsOf, Answer, refused, Result, answering, Call, order, move, offer, replanLatest, replanLines, enquire, lent, refusals, newCharge, orderedAt, ordering, moving, decided, tested, offering, replanningLatest, replanningLines, enquiring, granted, step}
-use Rattle.rules.proofs.Ranges.{or-left, IsFirst}
+use Rattle.rules.proofs.Ranges.{IsFirst}
 use Rattle.rules.proofs.Lists.{keep-append}
 use Rattle.rules.proofs.Searches.{earliest-first}
-use Rattle.rules.proofs.Tables.{NoneHolds, firstOf-none}
+use Rattle.rules.proofs.Tables.{NoneHolds}
+use Rattle.rules.proofs.Granted.{refusals-none, order-granted, move-granted}
 use Rattle.rules.proofs.Judgements.{judged-meets}
-use Rattle.rules.proofs.Validity.{Restarted, empty, same, other}
+use Rattle.rules.proofs.Restarts.{Restarted, empty, same, other}
 use Rattle.guarantee.specs.Past.{Order, Report, nothingNew, learnt, Past, extended, after}
-use Rattle.guarantee.proofs.Tables.{ascending-numbered, refusals-ascend}
 use Rattle.guarantee.proofs.History.{orderOf, unfinished-later}
 use Rattle.guarantee.proofs.Invariant.{Invariant, after-order, after-move, after-plan, plan-restarted, plan-held}
 
@@ -147,13 +146,13 @@ module _
         (line p d : ℕ)
         → 1 ≤ p
         → (f : Found)
-        → earliest (limitsOf s) k (loadsOf (unfinishedCharges k hs)) line p ≡ f
+        → earliest (limitsOf s) k (loadsOf (unfinishedCharges k hs)) (draw line p) ≡ f
         → Next s k os hs rs (order line p d) (orderedAt (stationOf s k os hs) (newCharge (stationOf s k os hs) line p d) f)
     order-next line p d lasts (at start) e =
         let new : Charge = newCharge (stationOf s k os hs) line p d start in
-        let r : IsFirst (λ u. sound (limitsOf s) k (added (loadsOf (unfinishedCharges k hs)) line p u))
+        let r : IsFirst (λ u. sound (limitsOf s) k (added (loadsOf (unfinishedCharges k hs)) (draw line p) u))
         (suc (lastUntil (loadsOf (unfinishedCharges k hs)) - k)) k start
-        = earliest-first (limitsOf s) k (loadsOf (unfinishedCharges k hs)) line p start e in
+        = earliest-first (limitsOf s) k (loadsOf (unfinishedCharges k hs)) (draw line p) start e in
         record {
           now = hs ++ (new ∷ []);
           later = omega arith;
@@ -178,9 +177,9 @@ module _
         → Next s k os hs rs c (granted (stationOf s k os hs) c)
     unfolding ordering moving offering replanningLatest replanningLines enquiring
     granted-next (order line p d) q =
-        order-next line p d (ltb-false p 1 (or-left (ltb p 1) (ltb 1440 p) (q .1 .0))) _ refl
+        order-next line p d (order-granted (stationOf s k os hs) line p d q .time-low) _ refl
     granted-next (move target list) q =
-        let h : k ≤ target = ltb-false target k (q .1 .1 .0) in
+        let h : k ≤ target = move-granted (stationOf s k os hs) target list q .not-back in
         record {
           now = hs;
           later = h;
@@ -204,11 +203,7 @@ module _
     step-next : (c : Call) → Next s k os hs rs c (step (stationOf s k os hs) c)
     step-next c =
         go (firstOf (refusals (stationOf s k os hs) c))
-        (λ e.
-        granted-next c
-        (firstOf-none (refusals (stationOf s k os hs) c)
-        (ascending-numbered 0 (refusals (stationOf s k os hs) c) (refusals-ascend (stationOf s k os hs) c))
-        e))
+        (λ e. granted-next c (refusals-none (stationOf s k os hs) c e))
       where
         go :
             (j : ℕ)

@@ -1,26 +1,26 @@
 -- Demand 1: what is refused, with which number, and that nothing else is.
 use mathlib.Core.Logic.{_⊎_, _↔_}
 use mathlib.Core.Path.{_≡_}
-use Prim.Native.Nat.{ℕ, _≤_}
-use mathlib.Core.Bool.{Bool, true, false, _&&_}
-use mathlib.Core.List.{List, []}
-use lib.Dec.{eqb}
-use Rattle.rules.specs.Basics.{Each, some}
-use Rattle.rules.specs.Calls.{State, Answer, refused, opened, ordered, moved, planned, waiting, charging, Result, boundOf, fresh, openRefusals, opening, Call, order, move, offer, replanLatest, replanLines, enquire, lent, refusals}
-use Rattle.guarantee.specs.Past.{isRefused}
+use Prim.Native.Nat.{ℕ}
+use mathlib.Core.Bool.{Bool, true, false}
+use mathlib.Core.List.{List, [], _∷_}
+use Rattle.rules.specs.Basics.{Each}
+use Rattle.rules.specs.Calls.{Settings, settings, State, Answer, refused, opened, ordered, moved, planned, waiting, charging, Result, boundOf, fresh, openRefusals, Call, order, move, offer, replanLatest, replanLines, enquire, lent, refusals}
+use Rattle.guarantee.specs.Past.{Gives, isRefused}
 
--- "Where several apply, the lowest number": the condition with number k holds, and none with a lower number
-pub record Lowest (rows : List (Bool × ℕ)) (k : ℕ) : Type 0 where
-  pub applies : some (λ row. row .0 && eqb (row .1) k) rows ≡ true
-  pub lowest : Each (λ row. row .0 ≡ true → k ≤ row .1) rows
+-- k is the number of the first condition that applies: it applies, and none listed before it does.
+-- "Where several apply, the lowest number": proofs/Lowest.antt shows that the first is the one with the lowest.
+abbrev pub FirstIs : List (Bool × ℕ) → ℕ → Type 0
+FirstIs [] k = ⊥
+FirstIs (row ∷ rows) k = ((row .0 ≡ true) × (row .1 ≡ k)) ⊎ ((row .0 ≡ false) × FirstIs rows k)
 
 abbrev pub NoneApplies : List (Bool × ℕ) → Type 0
 NoneApplies rows = Each (λ row. row .0 ≡ false) rows
 
 -- What the listed conditions make of a call; `kept` and `list` are the station and the lent list before it.
 pub record RefusedBy (rows : List (Bool × ℕ)) (kept : State) (list : List ℕ) (r : Result) : Type 0 where
-  -- "Each gets its number": refused with a number exactly when it is the lowest of those that apply
-  pub number : (k : ℕ) → (r .answer ≡ refused k) ↔ Lowest rows k
+  -- "Each gets its number": refused with a number exactly when it is that of the first condition that applies
+  pub number : (k : ℕ) → (r .answer ≡ refused k) ↔ FirstIs rows k
   -- "and changes neither the station nor any lent list."
   pub same-station : isRefused (r .answer) ≡ true → r .state ≡ kept
   pub same-list : isRefused (r .answer) ≡ true → r .list ≡ list
@@ -35,13 +35,14 @@ AnswerTo (replanLines allowance) a = (i : ℕ) × (b : ℕ) × (c : ℕ) × (n :
 AnswerTo (enquire ticket) a = ((s : ℕ) × (a ≡ waiting s)) ⊎ ((s : ℕ) × (e : ℕ) × (a ≡ charging s e))
 
 -- a call to a station that stands: refusals 4 to 15; `gives` is what a call to a station gives
-pub record DemandOne (gives : State → Call → Result) (s : State) (call : Call) : Type 0 where
+pub record DemandOne (gives : Gives) (s : State) (call : Call) : Type 0 where
   pub refused-by : RefusedBy (refusals s call) s (lent call) (gives s call)
   -- "No other call is refused, and every call returns."
   pub answered : NoneApplies (refusals s call) → AnswerTo call (gives s call .answer)
 
--- an opening: refusals 1 to 3, "beside a refused opening stands the fresh station of 1, 100"
-pub record DemandOneOpening (n c : ℕ) : Type 0 where
-  pub refused-by : RefusedBy (openRefusals n c) (fresh 1 100) [] (opening n c)
+-- an opening: refusals 1 to 3, "beside a refused opening stands the fresh station of 1, 100";
+-- `opens` is what an opening gives
+pub record DemandOneOpening (opens : Settings → Result) (x : Settings) : Type 0 where
+  pub refused-by : RefusedBy (openRefusals x) (fresh (settings 1 100)) [] (opens x)
   pub answered :
-      NoneApplies (openRefusals n c) → (opening n c .answer ≡ opened (boundOf n c)) × (opening n c .state ≡ fresh n c)
+      NoneApplies (openRefusals x) → (opens x .answer ≡ opened (fresh x .bound)) × (opens x .state ≡ fresh x)

@@ -1,4 +1,4 @@
--- Demand 3 as one claim about the list of calls (document 01, "Demand 3 is a single claim about the list of calls").
+-- Demand 3 as one claim about the list of calls (docs/RULES.md, section 6).
 use mathlib.Core.Path.{_≡_}
 use Prim.Native.Nat.{ℕ, _+_, _≤_, _<_}
 use mathlib.Core.Bool.{true}
@@ -6,52 +6,53 @@ use mathlib.Core.List.{List, _++_}
 use lib.Dec.{eqb}
 use Rattle.rules.specs.Basics.{Each, some}
 use Rattle.rules.specs.Load.{IsLine}
-use Rattle.rules.specs.Calls.{State, refused, waiting, charging, Result, Call}
-use Rattle.guarantee.specs.Past.{Order, Past, past, timesReported, enquiry, startOf, endOf, countIn, Numbered, totalTime, lastMinute}
+use Rattle.rules.specs.Calls.{State, refused, waiting, charging, Call}
+use Rattle.guarantee.specs.Past.{Gives, Order, Past, past, timesReported, enquiry, startOf, endOf, countIn, Numbered, totalTime, lastMinute}
 
 -- What is claimed of one accepted order.
-pub record Kept (h : Past) (o : Order) : Type 0 where
+pub record Kept (gives : Gives) (h : Past) (o : Order) : Type 0 where
   -- "not before its order minute"
-  pub not-early : o .minute ≤ startOf h o
+  pub not-early : o .minute ≤ startOf gives h o
   -- "No charge ends later than the last minute in which an order was accepted plus the charging times of all accepted orders."
-  pub in-time : endOf h o ≤ lastMinute 0 (h .orders) + totalTime (h .orders)
+  pub in-time : endOf gives h o ≤ lastMinute 0 (h .orders) + totalTime (h .orders)
   -- "An order whose start is below the clock has been reported once."
-  pub reported : startOf h o < h .clock → timesReported (h .reports) (o .ticket) ≡ 1
+  pub reported : startOf gives h o < h .clock → timesReported (h .reports) (o .ticket) ≡ 1
   -- "Any other order has never been reported,"
-  pub not-reported : h .clock ≤ startOf h o → timesReported (h .reports) (o .ticket) ≡ 0
+  pub not-reported : h .clock ≤ startOf gives h o → timesReported (h .reports) (o .ticket) ≡ 0
   -- "and an enquiry finds it waiting."
-  pub waits : h .clock ≤ startOf h o → enquiry h (o .ticket) ≡ waiting (startOf h o)
+  pub waits : h .clock ≤ startOf gives h o → enquiry gives h (o .ticket) ≡ waiting (startOf gives h o)
   -- "An enquiry finds a begun order charging until it is finished, with its reported start, and that start + p as the end;"
   pub charges :
-      startOf h o < h .clock → h .clock < endOf h o → enquiry h (o .ticket) ≡ charging (startOf h o) (endOf h o)
+      startOf gives h o < h .clock → h .clock < endOf gives h o → enquiry gives h (o .ticket) ≡ charging (startOf gives h o) (endOf gives h o)
   -- "for a finished one the answer is refusal 15."
-  pub finished : endOf h o ≤ h .clock → enquiry h (o .ticket) ≡ refused 15
+  pub finished : endOf gives h o ≤ h .clock → enquiry gives h (o .ticket) ≡ refused 15
 
 -- "if an order's start is below the clock after some first part of the list, the order has the same start after the whole list":
 -- here is what is known after the first part, there what is known after the whole list
-abbrev pub Unmoved : Past → Past → Order → Type 0
-Unmoved here there o = startOf here o < here .clock → startOf there o ≡ startOf here o
+abbrev pub Unmoved : Gives → Past → Past → Order → Type 0
+Unmoved gives here there o = startOf gives here o < here .clock → startOf gives there o ≡ startOf gives here o
 
 -- The whole claim, for a station, the list of calls made from it, and what a call gives.
-pub record DemandThree (gives : State → Call → Result) (s : State) (calls : List Call) : Type 0 where
+pub record DemandThree (gives : Gives) (s : State) (calls : List Call) : Type 0 where
   -- "in every minute, gone or to come under the plan held, no line has more than its limit charging"
-  pub limit : (l t : ℕ) → IsLine l → countIn (past gives s calls) l t ≤ s .limit
+  pub limit : (l t : ℕ) → IsLine l → countIn gives (past gives s calls) l t ≤ s .limit
   -- "and no two lines differ by more than the bound"
   pub balance :
       (l m t : ℕ)
       → IsLine l
       → IsLine m
-      → countIn (past gives s calls) l t ≤ countIn (past gives s calls) m t + s .bound
+      → countIn gives (past gives s calls) l t ≤ countIn gives (past gives s calls) m t + s .bound
   -- "Each accepted order has exactly one charge": "tickets are 1, 2, 3 and so on in the order of acceptance"
   pub tickets : Numbered 1 (past gives s calls .orders)
-  pub orders : Each (Kept (past gives s calls)) (past gives s calls .orders)
+  pub orders : Each (Kept gives (past gives s calls)) (past gives s calls .orders)
   -- "No ticket but theirs has been reported."
   pub no-other :
       (t : ℕ)
       → 1 ≤ timesReported (past gives s calls .reports) t
       → some (λ (o : Order). eqb (o .ticket) t) (past gives s calls .orders) ≡ true
-  -- "No start before the clock has ever changed."
+  -- "No start before the clock has ever changed." Claimed of every list this follows from `reported` after each first
+  -- part, since reports are only added; of one list it says more.
   pub unmoved :
       (part rest : List Call)
       → calls ≡ part ++ rest
-      → Each (Unmoved (past gives s part) (past gives s calls)) (past gives s part .orders)
+      → Each (Unmoved gives (past gives s part) (past gives s calls)) (past gives s part .orders)

@@ -5,12 +5,13 @@ use Prim.Native.Nat.{ℕ, _+_, _≤_, _<_}
 use mathlib.Core.Bool.{true}
 use mathlib.Core.List.{List, map}
 use Rattle.rules.specs.Basics.{Each}
-use Rattle.rules.specs.Load.{Load, active, count, IsLine}
+use Rattle.rules.specs.Load.{draw, Load, active, count, IsLine}
 use Rattle.rules.specs.Charge.{Charge, starting, endOf, loadOf, loadsOf, begunCharges, waitingCharges, lastEnd, lateness}
 use Rattle.rules.specs.Search.{added}
 use Rattle.rules.specs.Replan.{Proposal, starts, none, latest, byLines}
 use Rattle.rules.specs.Judgement.{restarted, judged}
 use Rattle.rules.specs.Calls.{State, limitsOf, holding, Answer, ordered, planned, Result, Call, order, offer, replanLatest, replanLines, lent, refusals, newCharge, taking}
+use Rattle.guarantee.specs.Past.{Gives}
 use Rattle.guarantee.specs.DemandOne.{NoneApplies}
 
 -- Constraints III and IV in every minute from the clock on, with the lines as parameters.
@@ -20,7 +21,10 @@ pub record SoundPlan (s : State) (xs : List Load) : Type 0 where
   -- IV: "each two counts differ by at most D"
   pub balance : (l m t : ℕ) → IsLine l → IsLine m → s .clock ≤ t → count xs l t ≤ count xs m t + s .bound
 
--- constraint II: a charge is active from its start to its end, and in no other minute
+-- constraint II: a charge is active from its start to its end, and in no other minute. It holds of every charge, since a
+-- charge has one start and one time: a list of starts cannot ask for a break. It says that the minutes which `count` takes
+-- are these. That answers show no break is `charges` of demand 3: an enquiry gives one start and one end at every clock
+-- between them.
 abbrev pub Unbroken : Charge → Type 0
 Unbroken c = (t : ℕ) → (active (loadOf c) t ≡ true) ↔ ((c .start ≤ t) × (t < endOf c))
 
@@ -29,8 +33,11 @@ pub record Better (s : State) (ss : List ℕ) (new : List Charge) : Type 0 where
   -- "it starts nothing before the clock,"
   pub not-before-clock : Each (λ u. s .clock ≤ u) ss
   -- "meets constraints I to IV of the published paper,"
+  -- I: follows from the field above, since order minutes are not above the clock and begun charges keep their starts
   pub not-before-order : Each (λ c. c .orderMinute ≤ c .start) new
+  -- II
   pub unbroken : Each Unbroken new
+  -- III and IV
   pub sound : SoundPlan s (loadsOf new)
   -- "ends no later than the held plan"
   pub no-later : lastEnd new ≤ lastEnd (s .charges)
@@ -56,7 +63,8 @@ causeOf s (none cause) = cause
 
 -- "All three end with the same test." The result of a call that comes with a list of starts, or with none, after some rounds.
 pub record Tested (s : State) (call : Call) (proposal : Proposal) (rounds : ℕ) (r : Result) : Type 0 where
-  -- "taken exactly when": not refused, and its list is better
+  -- "taken exactly when": not refused, and its list is better. It follows from demand 1 and `answer`, and says when the
+  -- cause is 0 in the demand's own words.
   pub taken :
       Taken (r .answer)
       ↔ (NoneApplies (refusals s call)
@@ -76,13 +84,13 @@ pub record OrderStart (s : State) (line p d : ℕ) (r : Result) : Type 0 where
   pub answer : r .answer ≡ ordered (s .next) start
   -- constraint I: the order minute is the clock
   pub not-early : s .clock ≤ start
-  pub sound : SoundPlan s (added (loadsOf (s .charges)) line p start)
-  pub earliest : (u : ℕ) → s .clock ≤ u → SoundPlan s (added (loadsOf (s .charges)) line p u) → start ≤ u
+  pub sound : SoundPlan s (added (loadsOf (s .charges)) (draw line p) start)
+  pub earliest : (u : ℕ) → s .clock ≤ u → SoundPlan s (added (loadsOf (s .charges)) (draw line p) u) → start ≤ u
   -- `taking` puts the new charge behind the held ones, which stay as they are
   pub others-same : r .state ≡ taking s (newCharge s line p d start)
 
 -- `gives` is what a call to a station gives
-pub record DemandTwo (gives : State → Call → Result) (s : State) : Type 0 where
+pub record DemandTwo (gives : Gives) (s : State) : Type 0 where
   pub orders :
       (line p d : ℕ)
       → NoneApplies (refusals s (order line p d))

@@ -2,18 +2,18 @@
 -- arguments and any lent lists.
 use Prim.Native.Nat.{ℕ}
 use mathlib.Core.List.{List}
-use Rattle.rules.specs.Calls.{State, opening, Call, step}
+use Rattle.rules.specs.Calls.{Settings, State, opening, Call, step}
 use Rattle.guarantee.specs.Past.{past}
 use Rattle.guarantee.specs.DemandOne.{DemandOne, DemandOneOpening}
 use Rattle.guarantee.specs.DemandTwo.{DemandTwo}
 use Rattle.guarantee.specs.DemandThree.{DemandThree}
 
 -- the station that the calls leave
-abbrev pub reached : ℕ → ℕ → List Call → State
-reached n c calls = past step (opening n c .state) calls .station
+abbrev pub reached : Settings → List Call → State
+reached x calls = past step (opening x .state) calls .station
 
 pub record Demands : Type 0 where
-  pub one-opening : (n c : ℕ) → DemandOneOpening n c
-  pub one : (n c : ℕ) (calls : List Call) (call : Call) → DemandOne step (reached n c calls) call
-  pub two : (n c : ℕ) (calls : List Call) → DemandTwo step (reached n c calls)
-  pub three : (n c : ℕ) (calls : List Call) → DemandThree step (opening n c .state) calls
+  pub one-opening : (x : Settings) → DemandOneOpening opening x
+  pub one : (x : Settings) (calls : List Call) (call : Call) → DemandOne step (reached x calls) call
+  pub two : (x : Settings) (calls : List Call) → DemandTwo step (reached x calls)
+  pub three : (x : Settings) (calls : List Call) → DemandThree step (opening x .state) calls

@@ -7,7 +7,7 @@ use Rattle.rules.specs.Load.{limited, balanced, sound}
 use Rattle.rules.specs.Search.{earliest}
 use Rattle.rules.specs.Replan.{placeAll, latest}
 use Rattle.rules.specs.Judgement.{judged}
-use Rattle.rules.specs.Calls.{refused, waiting, charging, order, move, offer, replanLatest, enquire, opening, ordering, moving, offering, replanningLatest, enquiring, step}
+use Rattle.rules.specs.Calls.{settings, refused, waiting, charging, order, move, offer, replanLatest, enquire, opening, ordering, moving, offering, replanningLatest, enquiring, step}
 use Rattle.guarantee.specs.Past.{Order, Past, past, timesReported, enquiry, startOf, countIn, totalTime, lastMinute}
 
 -- N = D = 1. The orders of case h, replanned: ticket 2
@@ -16,7 +16,7 @@ use Rattle.guarantee.specs.Past.{Order, Past, past, timesReported, enqui
 -- tickets 2 and 3 are dropped.
 abbrev example : Past
 example =
-    past step (opening 1 100 .state)
+    past step (opening (settings 1 100) .state)
     (order 1 10 60
     ∷ order 1 10 15
     ∷ replanLatest
@@ -42,16 +42,16 @@ unfolding limited balanced sound earliest placeAll latest judged opening orderin
 example-known = (refl, refl, refl)
 
 example-starts :
-    (map (startOf example) (example .orders) ≡ 10 ∷ 0 ∷ 1 ∷ 1 ∷ [])
-    × (map (enquiry example) (1 ∷ 2 ∷ 3 ∷ 4 ∷ 5 ∷ []) ≡ waiting 10 ∷ refused 15 ∷ refused 15 ∷ charging 1 13 ∷ refused 15 ∷ [])
+    (map (startOf step example) (example .orders) ≡ 10 ∷ 0 ∷ 1 ∷ 1 ∷ [])
+    × (map (enquiry step example) (1 ∷ 2 ∷ 3 ∷ 4 ∷ 5 ∷ []) ≡ waiting 10 ∷ refused 15 ∷ refused 15 ∷ charging 1 13 ∷ refused 15 ∷ [])
     × (map (timesReported (example .reports)) (1 ∷ 2 ∷ 3 ∷ 4 ∷ 5 ∷ []) ≡ 0 ∷ 1 ∷ 1 ∷ 1 ∷ 0 ∷ [])
 unfolding limited balanced sound earliest placeAll latest judged opening ordering moving offering replanningLatest enquiring
 example-starts = (refl, refl, refl)
 
 example-counts :
-    (map (countIn example 1) (0 ∷ 9 ∷ 10 ∷ 19 ∷ 20 ∷ []) ≡ 1 ∷ 1 ∷ 1 ∷ 1 ∷ 0 ∷ [])
-    × (map (countIn example 2) (0 ∷ 1 ∷ 4 ∷ 5 ∷ []) ≡ 0 ∷ 1 ∷ 1 ∷ 0 ∷ [])
-    × (map (countIn example 3) (0 ∷ 1 ∷ 12 ∷ 13 ∷ []) ≡ 0 ∷ 1 ∷ 1 ∷ 0 ∷ [])
+    (map (countIn step example 1) (0 ∷ 9 ∷ 10 ∷ 19 ∷ 20 ∷ []) ≡ 1 ∷ 1 ∷ 1 ∷ 1 ∷ 0 ∷ [])
+    × (map (countIn step example 2) (0 ∷ 1 ∷ 4 ∷ 5 ∷ []) ≡ 0 ∷ 1 ∷ 1 ∷ 0 ∷ [])
+    × (map (countIn step example 3) (0 ∷ 1 ∷ 12 ∷ 13 ∷ []) ≡ 0 ∷ 1 ∷ 1 ∷ 0 ∷ [])
     × (lastMinute 0 (example .orders) ≡ 1)
     × (totalTime (example .orders) ≡ 36)
 unfolding limited balanced sound earliest placeAll latest judged opening ordering moving offering replanningLatest enquiring

@@ -4,4 +4,3 @@ pub mod DemandTwo
 pub mod DemandThree
 pub mod Demands
 pub mod Example
-pub mod Wrong

@@ -1,12 +1,12 @@
 -- What is known after a list of calls, read off the calls, their answers and the lists afterwards
--- (document 01, "The words of demand 3 go by the calls").
+-- (docs/RULES.md, section 6).
 use mathlib.Core.Path.{_≡_}
 use Prim.Native.Nat.{ℕ, zero, suc, _+_}
 use mathlib.Core.Bool.{Bool, true, false, cond}
 use mathlib.Core.List.{List, [], _∷_, _++_, map}
 use lib.Dec.{eqb}
-use Rattle.rules.specs.Load.{Load, loadFrom, count}
-use Rattle.rules.specs.Calls.{State, Answer, refused, opened, ordered, moved, planned, waiting, charging, Result, Call, order, move, offer, replanLatest, replanLines, enquire, step}
+use Rattle.rules.specs.Load.{draw, Load, loadFrom, count}
+use Rattle.rules.specs.Calls.{State, Answer, refused, opened, ordered, moved, planned, waiting, charging, Result, Call, order, move, offer, replanLatest, replanLines, enquire}
 
 -- An accepted order: its ticket is that of the answer. "Its order minute is the clock at that moment; its line and p are
 -- those passed in."
@@ -23,44 +23,38 @@ pub record Report : Type 0 where
 
 -- What an answer says
 
+-- whether it refuses, the ticket where it gives one, how many were reported, the start where an enquiry gives one
+-- (0 where it does not)
+pub record Said : Type 0 where
+  pub refuses : Bool
+  pub tickets : List ℕ
+  pub reported : ℕ
+  pub start : ℕ
+
+abbrev says : Bool → List ℕ → ℕ → ℕ → Said
+says refuses tickets reported start =
+    record { refuses = refuses; tickets = tickets; reported = reported; start = start }
+
+abbrev pub said : Answer → Said
+said (refused k) = says true [] 0 0
+said (opened d) = says false [] 0 0
+said (ordered t s) = says false (t ∷ []) 0 0
+said (moved n m) = says false [] n 0
+said (planned c b a n) = says false [] 0 0
+said (waiting s) = says false [] 0 s
+said (charging s e) = says false [] 0 s
+
 abbrev pub isRefused : Answer → Bool
-isRefused (refused k) = true
-isRefused (opened d) = false
-isRefused (ordered t s) = false
-isRefused (moved n m) = false
-isRefused (planned c b a n) = false
-isRefused (waiting s) = false
-isRefused (charging s e) = false
+isRefused a = said a .refuses
 
--- the ticket, where it gives one
 abbrev pub ticketIn : Answer → List ℕ
-ticketIn (refused k) = []
-ticketIn (opened d) = []
-ticketIn (ordered t s) = t ∷ []
-ticketIn (moved n m) = []
-ticketIn (planned c b a n) = []
-ticketIn (waiting s) = []
-ticketIn (charging s e) = []
+ticketIn a = said a .tickets
 
--- how many were reported
 abbrev pub reportedIn : Answer → ℕ
-reportedIn (refused k) = 0
-reportedIn (opened d) = 0
-reportedIn (ordered t s) = 0
-reportedIn (moved n m) = n
-reportedIn (planned c b a n) = 0
-reportedIn (waiting s) = 0
-reportedIn (charging s e) = 0
+reportedIn a = said a .reported
 
--- the start, where an enquiry gives one; 0 where it does not
 abbrev pub startIn : Answer → ℕ
-startIn (refused k) = 0
-startIn (opened d) = 0
-startIn (ordered t s) = 0
-startIn (moved n m) = 0
-startIn (planned c b a n) = 0
-startIn (waiting s) = s
-startIn (charging s e) = s
+startIn a = said a .start
 
 -- What one call adds
 
@@ -98,6 +92,10 @@ learnt clock (enquire ticket) a list = nothingNew clock
 
 -- What is known after a list of calls
 
+-- what a call to a station gives: `step` of the rules, and something else in the wrong stations of specs/
+abbrev pub Gives : Type 0
+Gives = State → Call → Result
+
 -- the clock, all accepted orders and all reports, in the order of the calls;
 -- the station left serves for the next call and for enquiries only
 pub record Past : Type 0 where
@@ -120,13 +118,12 @@ extended h c r =
       station = r .state;
     }
 
--- "Each call gets the station that the last one left"; `gives` is what a call to a station gives: `step` of the rules, and
--- in specs/Wrong.antt something else.
-abbrev pub after : (State → Call → Result) → Past → List Call → Past
+-- "Each call gets the station that the last one left"
+abbrev pub after : Gives → Past → List Call → Past
 after gives h [] = h
 after gives h (c ∷ calls) = after gives (extended h c (gives (h .station) c)) calls
 
-abbrev pub past : (State → Call → Result) → State → List Call → Past
+abbrev pub past : Gives → State → List Call → Past
 past gives s calls = after gives (beginning s) calls
 
 -- Reports, starts and counts
@@ -141,25 +138,25 @@ reportedStart [] t s = s
 reportedStart (r ∷ rs) t s = cond (eqb (r .ticket) t) (r .start) (reportedStart rs t s)
 
 -- what an enquiry would answer
-abbrev pub enquiry : Past → ℕ → Answer
-enquiry h t = step (h .station) (enquire t) .answer
+abbrev pub enquiry : Gives → Past → ℕ → Answer
+enquiry gives h t = gives (h .station) (enquire t) .answer
 
 -- "the start of an order is the one reported by the clock move that passed it, and until then the one that an enquiry would give"
 -- (0 where neither gives one; the fields `reported` and `waits` of demand 3 leave no accepted order so)
-abbrev pub startOf : Past → Order → ℕ
-startOf h o = reportedStart (h .reports) (o .ticket) (startIn (enquiry h (o .ticket)))
+abbrev pub startOf : Gives → Past → Order → ℕ
+startOf gives h o = reportedStart (h .reports) (o .ticket) (startIn (enquiry gives h (o .ticket)))
 
 -- "Its end is this start + p."
-abbrev pub endOf : Past → Order → ℕ
-endOf h o = startOf h o + o .time
+abbrev pub endOf : Gives → Past → Order → ℕ
+endOf gives h o = startOf gives h o + o .time
 
 -- "each active from its start as above", unbroken for its full time
-abbrev pub loadOf : Past → Order → Load
-loadOf h o = loadFrom (o .line) (o .time) (startOf h o)
+abbrev pub loadOf : Gives → Past → Order → Load
+loadOf gives h o = loadFrom (draw (o .line) (o .time)) (startOf gives h o)
 
 -- "A line's count in a minute takes all accepted orders of the list, dropped ones too."
-abbrev pub countIn : Past → ℕ → ℕ → ℕ
-countIn h l t = count (map (loadOf h) (h .orders)) l t
+abbrev pub countIn : Gives → Past → ℕ → ℕ → ℕ
+countIn gives h l t = count (map (loadOf gives h) (h .orders)) l t
 
 -- "tickets are 1, 2, 3 and so on in the order of acceptance": here from i on
 abbrev pub Numbered : ℕ → List Order → Type 0

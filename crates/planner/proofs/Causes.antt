@@ -1,13 +1,13 @@
--- The test of a plan: one law for each cause, and for the plan that is taken.
+-- The test of a plan: the last end, balance, and the first cause that applies.
 use mathlib.Core.Logic.{_⊎_, inl, inr}
-use mathlib.Core.Path.{_≡_, refl, sym, _∙_}
+use mathlib.Core.Path.{_≡_, sym, _∙_}
 use Prim.Native.Nat.{ℕ, zero, suc, _+_, _-_, max, _≤_, _<_}
-use mathlib.Core.Bool.{true, false, not, true≢false}
+use mathlib.Core.Bool.{Bool, true, false, not, true≢false}
 use mathlib.Core.List.{List, [], _∷_}
 use native.Mathlib.Omega.{arith}
 use lib.Dec.{ltb}
-use borrow.Author.Tests.{lt-ltb, le-ltb, not-true, not-false}
-use Rattle.rules.specs.Basics.{tabulate, at, nothing, some}
+use borrow.Author.Tests.{not-true, not-false}
+use Rattle.rules.specs.Basics.{tabulate, at, nothing, some, firstOf}
 use Rattle.rules.specs.Load.{Load, lastUntil, Limits, limitAt, balanceAt, fromOn}
 use Rattle.rules.specs.Charge.{Charge, endOf, loadsOf, lastEnd, lateness}
 use Rattle.rules.specs.Search.{firstUnbalanced}
@@ -63,33 +63,22 @@ some-unbalanced y clock xs t e =
 
 -- Causes
 
-module _ (y : Limits) (clock : ℕ) (held : List Charge) (ss : List ℕ) (new : List Charge) (is : new ≡ restarted clock held ss) where
-  pub cause-three : some (λ s. ltb s clock) ss ≡ true → judged y clock held ss ≡ 3
-  unfolding judged
-  cause-three a = rw a
-
-  module _ (a : some (λ s. ltb s clock) ss ≡ false) where
-    pub cause-four : lastEnd held < lastEnd new → judged y clock held ss ≡ 4
-    unfolding judged
-    cause-four b = rw (a, ← is, lt-ltb (lastEnd held) (lastEnd new) b)
-
-    module _ (b : lastEnd new ≤ lastEnd held) where
-      pub cause-five : fromOn clock (loadsOf new) (limitAt y (loadsOf new)) ≡ false → judged y clock held ss ≡ 5
-      unfolding judged
-      cause-five d = rw (a, ← is, le-ltb (lastEnd held) (lastEnd new) b, d)
-
-      module _ (d : fromOn clock (loadsOf new) (limitAt y (loadsOf new)) ≡ true) where
-        pub cause-six : fromOn clock (loadsOf new) (balanceAt y (loadsOf new)) ≡ false → judged y clock held ss ≡ 6
-        unfolding judged
-        cause-six e = rw (a, ← is, le-ltb (lastEnd held) (lastEnd new) b, d, e)
-
-        module _ (e : fromOn clock (loadsOf new) (balanceAt y (loadsOf new)) ≡ true) where
-          pub cause-seven : lateness held ≤ lateness new → judged y clock held ss ≡ 7
-          unfolding judged
-          cause-seven f =
-              rw (a, ← is, le-ltb (lastEnd held) (lastEnd new) b, d, e, le-ltb (lateness new) (lateness held) f)
-
-          pub cause-none : lateness new < lateness held → judged y clock held ss ≡ 0
-          unfolding judged
-          cause-none f =
-              rw (a, ← is, le-ltb (lastEnd held) (lastEnd new) b, d, e, lt-ltb (lateness new) (lateness held) f)
+-- the first that applies, from what the tests say; those behind it need not be known
+pub judged-by :
+    (y : Limits) (clock : ℕ) (held : List Charge) (ss : List ℕ) (new : List Charge)
+    → new ≡ restarted clock held ss
+    → (early later within balanced : Bool)
+    → some (λ s. ltb s clock) ss ≡ early
+    → ltb (lastEnd held) (lastEnd new) ≡ later
+    → fromOn clock (loadsOf new) (limitAt y (loadsOf new)) ≡ within
+    → fromOn clock (loadsOf new) (balanceAt y (loadsOf new)) ≡ balanced
+    → judged y clock held ss
+    ≡ firstOf
+    ((early, 3)
+    ∷ (later, 4)
+    ∷ (not within, 5)
+    ∷ (not balanced, 6)
+    ∷ (not (ltb (lateness (restarted clock held ss)) (lateness held)), 7)
+    ∷ [])
+unfolding judged
+judged-by y clock held ss new is early later within balanced a b d e = rw (← is, a, b, d, e)

@@ -4,15 +4,15 @@ use Prim.Native.Nat.{ℕ, _+_, _≤_, _<_}
 use mathlib.Core.List.{List, [], _∷_}
 use native.Mathlib.Omega.{arith}
 use native.Mathlib.Numerals.{add-one}
-use lib.ListN.{length, getD, set, take, replicate, length-set}
-use lib.Seq.{getD-set-other, take-suc-set}
+use lib.ListN.{length, getD, set, take, replicate}
+use lib.Seq.{take-suc-set}
 use Rattle.rules.specs.Basics.{tabulate}
 use Rattle.rules.specs.Charge.{Charge, isWaiting, waitingCharges}
 use Rattle.rules.specs.Replan.{startIn, startsIn}
 use Rattle.rules.proofs.Lists.{map-append}
 use Rattle.charges.specs.declared.Charges.{Charges}
 use Rattle.charges.specs.Arrays.{chargeAt, chargesOf, Filled}
-use Rattle.charges.proofs.Storing.{zeros}
+use Rattle.charges.proofs.Storing.{filled-none, filled-set}
 use Rattle.charges.proofs.Walking.{keep-hit, keep-miss, count-hit, is-waiting, is-begun}
 use Rattle.planner.specs.Starts.{Stored, WaitingStarts}
 
@@ -33,7 +33,7 @@ collecting-start clock c starts =
     record {
       few = omega arith;
       many = refl;
-      filled = record { full = refl; clear = λ i h. zeros 180 i };
+      filled = filled-none;
       gives = λ placed s h. refl;
     }
 
@@ -68,14 +68,7 @@ module _ {clock : ℕ} {c : Charges} {starts : List ℕ} {i : ℕ} {listed : Lis
       (record {
         few = omega (arith, v .few);
         many = count-hit (isWaiting clock) (chargeAt c) i waits ∙ ap (λ (n : ℕ). n + 1) (v .many);
-        filled =
-            record {
-              full = length-set listed k (getD starts i 0) ∙ v .filled .full;
-              clear =
-                  λ j l.
-                  getD-set-other listed k j (getD starts i 0) 0 (λ e. omega arith)
-                  ∙ v .filled .clear j (omega arith);
-            };
+        filled = filled-set k (getD starts i 0) listed (v .filled);
         gives =
             λ placed s l.
             ap (startsIn placed) (keep-hit (isWaiting clock) (chargeAt c) i waits)

@@ -9,15 +9,16 @@ use Rattle.rules.specs.Replan.{Proposal, none, Outcome, ends, lowers, lowered, 
 use Rattle.rules.proofs.Rounds.{lowered-at-least-one}
 use Rattle.charges.specs.declared.Charges.{Charges}
 use Rattle.charges.specs.Arrays.{chargesOf, Filled}
-use Rattle.profile.specs.declared.caps.LineCaps.{LineCaps}
-use Rattle.profile.specs.Caps.{CapsShown, LoweredAt}
-use Rattle.planner.specs.declared.Outcome.the-variants.{Ends, Lowers}
+use Rattle.search.specs.declared.caps.LineCaps.{LineCaps}
+use Rattle.search.specs.Caps.{CapsShown, LoweredAt}
+use Rattle.planner.specs.declared.rounds.Outcome.the-variants.{Ends, Lowers}
 use Rattle.planner.specs.declared.Proposed.{Proposed}
-use Rattle.planner.specs.declared.Round.{Round}
+use Rattle.planner.specs.declared.rounds.Round.{Round}
 use Rattle.planner.specs.Starts.{waitingCount}
 use Rattle.planner.specs.Ready.{Ready}
-use Rattle.planner.specs.Placed.{Capped}
-use Rattle.planner.specs.Answers.{proposalOf, Plays, Replans}
+use Rattle.planner.specs.Lines.{Capped}
+use Rattle.planner.specs.Answers.{proposalOf}
+use Rattle.planner.specs.Rounds.{Plays, Replans}
 
 abbrev pub replanned : Proposal → ℕ → Replanned
 replanned p made = record { proposal = p; rounds = made }

@@ -2,9 +2,12 @@ pub mod Placing
 pub mod Counting
 pub mod Collecting
 pub mod Causes
+pub mod Profiles
 pub mod Showing
 pub mod Queueing
 pub mod Plans
+pub mod Finding
 pub mod Proposing
+pub mod Asking
 pub mod Playing
 pub mod Judging

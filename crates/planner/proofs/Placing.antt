@@ -36,10 +36,6 @@ module _ (find : List Charge → Charge → Found) (placed : List Charge) where
 abbrev pub Missing : ℕ → List Charge → Type 0
 Missing t placed = Each (λ c. c .ticket ≡ t → ⊥) placed
 
-pub start-missing : (placed : List Charge) (t : ℕ) → Missing t placed → startIn placed t ≡ 0
-start-missing [] t m = refl
-start-missing (c ∷ cs) t m = rw (ne-eqb (c .ticket) t (m .0)) (start-missing cs t (m .1))
-
 -- the last of the placed charges has the start that it was given
 pub start-last :
     (placed : List Charge) (c : Charge) (s : ℕ)

@@ -9,19 +9,34 @@ use native.Mathlib.Nat.{sub-zero}
 use lib.Dec.{eqb}
 use lib.ListN.{length, length-append}
 use borrow.Author.Tests.{eqb-true}
+use Rattle.rules.specs.Basics.{tabulate}
 use Rattle.rules.specs.Charge.{Charge, waitingCharges}
 use Rattle.rules.specs.Replan.{latestStartBefore, byLatestStart, onLine, lineByLine}
 use Rattle.rules.proofs.Ranges.{below-or-not}
 use Rattle.rules.proofs.Lists.{length-tabulate, map-tabulate}
-use Rattle.rules.proofs.Sorting.{Inserted, here, later, Rearranged, none, more, sorted-rearranged}
 use Rattle.charges.specs.declared.Charges.{Charges}
 use Rattle.charges.specs.Arrays.{chargeAt, chargesOf}
 use Rattle.charges.specs.Held.{Listed}
-use Rattle.charges.specs.declared.Places.{Places}
-use Rattle.charges.specs.Places.{placeAt, Ordered}
-use Rattle.charges.proofs.Orders.{rising-all}
-use Rattle.planner.specs.Ready.{chargeIn, queueFrom, Queue}
+use Rattle.charges.specs.declared.places.Places.{Places}
+use Rattle.charges.specs.Places.{placeAt, PlacesIn, Ordered}
+use Rattle.charges.proofs.Passing.{rising-all}
+use Rattle.charges.proofs.Sorting.{length-sorted}
+use Rattle.planner.specs.Ready.{begunOf}
+use Rattle.planner.specs.Lines.{InLines}
 use Rattle.planner.proofs.Showing.{begun-and-waiting}
+
+-- the charge at the k-th place
+abbrev pub chargeIn : Charges → Places → ℕ → Charge
+chargeIn c q k = chargeAt c (placeAt q k)
+
+-- the charges to be taken after the first k
+abbrev pub queueFrom : Charges → Places → ℕ → List Charge
+queueFrom c q k = tabulate (chargeIn c q) (q .count - k) k
+
+-- held charges, none of them twice, that leave room for the begun ones
+pub record Queue (clock : ℕ) (c : Charges) (q : Places) : Type 0 where
+  pub places : PlacesIn c q
+  pub room : length (begunOf clock c) + q .count ≤ 180
 
 -- charges at different places have different tickets
 pub places-apart :
@@ -35,16 +50,8 @@ places-apart {c} r i j h l ne e = go (below-or-not i j) (below-or-not j i)
 
 -- How many
 
-inserted-length : {A : Type 0} {a : A} {l m : List A} → Inserted a l m → length m ≡ suc (length l)
-inserted-length here = refl
-inserted-length (later r) = ap suc (inserted-length r)
-
-rearranged-length : {A : Type 0} {l m : List A} → Rearranged l m → length m ≡ length l
-rearranged-length none = refl
-rearranged-length (more r i) = inserted-length i ∙ ap suc (rearranged-length r)
-
 sorted-length : (cs : List Charge) → length (byLatestStart cs) ≡ length cs
-sorted-length cs = rearranged-length (sorted-rearranged latestStartBefore cs)
+sorted-length cs = length-sorted latestStartBefore cs
 
 -- a charge is on one line at most
 lines-length : (cs : List Charge) → length (onLine 1 cs) + (length (onLine 2 cs) + length (onLine 3 cs)) ≤ length cs
@@ -109,5 +116,5 @@ module _ {clock : ℕ} {c : Charges} {q : Places} (h : Listed c) where
   pub queue-latest-start : Ordered c (byLatestStart (waitingCharges clock (chargesOf c))) q → Queue clock c q
   queue-latest-start o = queue-of h o (omega (arith, sorted-length (waitingCharges clock (chargesOf c))))
 
-  pub queue-line-by-line : Ordered c (lineByLine (waitingCharges clock (chargesOf c))) q → Queue clock c q
+  pub queue-line-by-line : InLines clock c q → Queue clock c q
   queue-line-by-line o = queue-of h o (line-by-line-length (waitingCharges clock (chargesOf c)))

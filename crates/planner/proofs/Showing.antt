@@ -1,4 +1,4 @@
--- The profile of the begun charges, and the last end of a plan.
+-- The begun charges: their profile, and the last end of a plan.
 use mathlib.Core.Path.{_≡_, refl, ap}
 use Prim.Native.Nat.{ℕ, suc, _+_, max, _≤_, _<_}
 use mathlib.Core.Bool.{Bool, true, false, cond, not}
@@ -6,19 +6,21 @@ use mathlib.Core.List.{List, [], _∷_, _++_}
 use native.Mathlib.Omega.{arith}
 use lib.ListN.{length}
 use borrow.Author.Tests.{lt-ltb, le-ltb}
-use Rattle.rules.specs.Basics.{tabulate, keep}
+use Rattle.rules.specs.Basics.{Each, tabulate, keep}
 use Rattle.rules.specs.Load.{lastUntil}
 use Rattle.rules.specs.Charge.{Charge, endOf, loadOf, loadsOf, lastEnd, isBegun, begunCharges, waitingCharges}
-use Rattle.rules.proofs.Lists.{map-append, length-tabulate}
+use Rattle.rules.proofs.Lists.{map-append, length-tabulate, each-tabulate}
 use Rattle.charges.specs.declared.Charges.{Charges}
 use Rattle.charges.specs.Arrays.{chargeAt, chargesOf}
 use Rattle.charges.specs.Held.{Listed}
 use Rattle.charges.proofs.Walking.{keep-hit, keep-miss, keep-length}
 use Rattle.profile.specs.declared.Profile.{Profile}
-use Rattle.profile.specs.Shows.{profileOf, Shows, Added, CanAdd}
-use Rattle.profile.proofs.Adds.{can-add}
-use Rattle.rules.proofs.Validity.{last-until}
+use Rattle.profile.specs.Shows.{Shows, LoadAdded, CanAdd}
+use Rattle.profile.proofs.Shown.{added-shows}
+use Rattle.rules.proofs.Ends.{last-until}
+use Rattle.planner.specs.Ready.{EndsFit}
 use Rattle.planner.proofs.Causes.{last-below}
+use Rattle.planner.proofs.Profiles.{shown-can-add}
 
 pub length-loads-of : (cs : List Charge) → length (loadsOf cs) ≡ length cs
 length-loads-of [] = refl
@@ -68,51 +70,54 @@ begun-end-most {c} h clock =
       last-end-most h,
     )
 
--- Profiles with the same parts are the same
+-- every end is a number of 32 bits
+pub listed-ends : {c : Charges} → Listed c → EndsFit c
+listed-ends h i low = let s = h .small i low in omega (arith, s .start-most, s .time-most)
 
-pub same-parts :
-    {n n′ : ℕ} {ats ats′ one one′ two two′ three three′ : List ℕ}
-    → n ≡ n′
-    → ats ≡ ats′
-    → one ≡ one′
-    → two ≡ two′
-    → three ≡ three′
-    → profileOf n ats one two three ≡ profileOf n′ ats′ one′ two′ three′
-same-parts e f g h i = rw (e, f, g, h, i)
+keep-every : {A : Type 0} (f : A → Bool) (xs : List A) → Each (λ x. f x ≡ true) xs → keep f xs ≡ xs
+keep-every f [] e = refl
+keep-every f (x ∷ xs) e = rw (e .0, keep-every f xs (e .1))
 
--- The begun ones among the first i charges
+-- where every start is below `before`, all charges are
+pub all-before :
+    (c : Charges) (before : ℕ)
+    → ((i : ℕ) → i < c .held → chargeAt c i .start < before)
+    → begunCharges before (chargesOf c) ≡ chargesOf c
+all-before c before h =
+    keep-every (isBegun before) (chargesOf c)
+    (each-tabulate (λ x. isBegun before x ≡ true) (chargeAt c) (c .held) 0
+    (λ i p q. lt-ltb (chargeAt c i .start) before (h i (omega arith))))
+
+-- Those with a start below `before` among the first i charges
 
 abbrev pub begunBelow : ℕ → Charges → ℕ → List Charge
-begunBelow clock c i = begunCharges clock (tabulate (chargeAt c) i 0)
+begunBelow before c i = begunCharges before (tabulate (chargeAt c) i 0)
 
-module _ {clock : ℕ} {c : Charges} {i : ℕ} {p : Profile} (h : Listed c) (s : Shows p clock (loadsOf (begunBelow clock c i)))
-    (low : i < c .held) where
-  pub begun-can-add : CanAdd p (chargeAt c i .time) (chargeAt c i .start)
-  begun-can-add =
-      let fair = h .small i low in
-      can-add p clock (loadsOf (begunBelow clock c i)) (chargeAt c i .time) (chargeAt c i .start) s
+module _ (before : ℕ) (c : Charges) (i : ℕ) {clock : ℕ} {p : Profile} (s : Shows p clock (loadsOf (begunBelow before c i))) where
+  pub begun-can-add : c .held ≤ 180 → EndsFit c → i < c .held → CanAdd p (chargeAt c i .time) (chargeAt c i .start)
+  begun-can-add few ends low =
+      shown-can-add s (chargeAt c i .time) (chargeAt c i .start)
       (omega (
         arith,
-        length-loads-of (begunBelow clock c i),
-        keep-length (isBegun clock) (tabulate (chargeAt c) i 0),
+        length-loads-of (begunBelow before c i),
+        keep-length (isBegun before) (tabulate (chargeAt c) i 0),
         length-tabulate (chargeAt c) i 0,
-        h .columns .few,
       ))
-      (omega (arith, fair .time-most, fair .start-most))
+      (ends i low)
 
   pub begun-on :
       {q r : Profile}
-      → chargeAt c i .start < clock
-      → Added p q (chargeAt c i .line) (chargeAt c i .time) (chargeAt c i .start)
+      → chargeAt c i .start < before
+      → LoadAdded p q (chargeAt c i .line) (chargeAt c i .time) (chargeAt c i .start)
       → r ≡ q
-      → Shows r clock (loadsOf (begunBelow clock c (i + 1)))
+      → Shows r clock (loadsOf (begunBelow before c (i + 1)))
   begun-on j a e =
       rw (
         e,
-        keep-hit (isBegun clock) (chargeAt c) i (lt-ltb (chargeAt c i .start) clock j),
-        loads-append (begunBelow clock c i) (chargeAt c i ∷ []),
+        keep-hit (isBegun before) (chargeAt c) i (lt-ltb (chargeAt c i .start) before j),
+        loads-append (begunBelow before c i) (chargeAt c i ∷ []),
       )
-      (a clock (loadsOf (begunBelow clock c i)) s)
+      (added-shows a clock (loadsOf (begunBelow before c i)) s)
 
-  pub begun-past : {r : Profile} → clock ≤ chargeAt c i .start → r ≡ p → Shows r clock (loadsOf (begunBelow clock c (i + 1)))
-  begun-past j e = rw (e, keep-miss (isBegun clock) (chargeAt c) i (le-ltb (chargeAt c i .start) clock j)) s
+  pub begun-past : {r : Profile} → before ≤ chargeAt c i .start → r ≡ p → Shows r clock (loadsOf (begunBelow before c (i + 1)))
+  begun-past j e = rw (e, keep-miss (isBegun before) (chargeAt c) i (le-ltb (chargeAt c i .start) before j)) s

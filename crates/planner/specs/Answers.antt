@@ -1,26 +1,13 @@
--- The answers of the replans and of one round, as the rules have them.
+-- What a replan proposes, as the rules have it.
 use mathlib.Core.Path.{_≡_}
-use Prim.Native.Nat.{ℕ, zero, suc, _+_, _≤_, _<_}
-use mathlib.Core.Bool.{cond}
-use lib.Dec.{eqb}
+use Prim.Native.Nat.{ℕ, zero, suc}
 use mathlib.Core.List.{List}
-use lib.ListN.{take, getD}
-use Rattle.rules.specs.Replan as rules
-use Rattle.rules.specs.Replan.{Proposal, starts, none, largestLine, smallestLine, ends, lowers, round}
-use Rattle.rules.specs.Load.{IsLine, limits}
-use Rattle.rules.specs.Search.{Caps}
+use lib.ListN.{take}
+use Rattle.rules.specs.Replan.{Proposal, starts, none}
 use Rattle.charges.specs.declared.Charges.{Charges}
-use Rattle.charges.specs.Arrays.{chargesOf, Filled}
-use Rattle.profile.specs.declared.Profile.{Profile}
-use Rattle.profile.specs.Shows.{levelOf, levels, Formed}
-use Rattle.profile.specs.declared.caps.LineCaps.{LineCaps}
-use Rattle.profile.specs.Caps.{CapsShown}
+use Rattle.charges.specs.Arrays.{Filled}
 use Rattle.planner.specs.Starts.{waitingCount}
 use Rattle.planner.specs.declared.Proposed.{Proposed}
-use Rattle.planner.specs.declared.Replanned.{Replanned}
-use Rattle.planner.specs.declared.Outcome.{Outcome}
-use Rattle.planner.specs.declared.Outcome.the-variants.{Ends, Lowers}
-use Rattle.planner.specs.declared.Round.{Round}
 
 -- cause 0 has a start for each of n waiting charges, any other cause has none
 abbrev pub proposal : ℕ → ℕ → List ℕ → Proposal
@@ -43,44 +30,3 @@ FilledBy n r = Filled (used n (r .cause)) (r .starts)
 pub record Proposes (clock : ℕ) (c : Charges) (p : Proposal) (r : Proposed) : Type 0 where
   pub same : p ≡ proposalOf (waitingCount clock c) r
   pub filled : FilledBy (waitingCount clock c) r
-
--- what came of a round that proposes p if it ends the replan
-abbrev pub outcome : Proposal → Outcome → rules.Outcome
-outcome p Ends = ends p
-outcome p (Lowers i t v) = lowers i t v
-
--- what minute t asks for, seen from the profile of a plan and that of its begun charges alone
-abbrev pub askedIn : Profile → Profile → ℕ → ℕ → Outcome
-askedIn p begun t bound =
-    cond (eqb (levelOf p (largestLine (levels p t)) t) (levelOf begun (largestLine (levels p t)) t))
-    Ends
-    (Lowers (largestLine (levels p t)) t (levelOf p (smallestLine (levels p t)) t + bound))
-
--- both profiles have the minute, and the counts are small
-pub record Comparable (p begun : Profile) (t bound : ℕ) : Type 0 where
-  pub formed : Formed p
-  pub low : getD (p .at) 0 0 ≤ t
-  pub begun-formed : Formed begun
-  pub begun-low : getD (begun .at) 0 0 ≤ t
-  pub small : (l : ℕ) → IsLine l → levelOf p l t ≤ 180
-  pub bound-most : bound ≤ 60
-
--- the minute is a number of 32 bits, and the cap is not below 1
-abbrev pub Fits : Outcome → Type 0
-Fits Ends = Unit {0}
-Fits (Lowers i t v) = (t < 4294967295) × (1 ≤ v)
-
--- the answer is what came of the round under the caps, whatever they are
-pub record Plays (limit bound clock : ℕ) (c : Charges) (caps : LineCaps) (r : Round) : Type 0 where
-  pub same :
-      (cap : Caps)
-      → CapsShown caps cap
-      → round (limits limit bound) clock (chargesOf c) cap
-      ≡ outcome (proposalOf (waitingCount clock c) (r .proposed)) (r .outcome)
-  pub filled : FilledBy (waitingCount clock c) (r .proposed)
-  pub fits : Fits (r .outcome)
-
--- the answer is this proposal, with the rounds made for it
-pub record Replans (clock : ℕ) (c : Charges) (p : rules.Replanned) (r : Replanned) : Type 0 where
-  pub same : p ≡ record { proposal = proposalOf (waitingCount clock c) (r .proposed); rounds = r .rounds }
-  pub filled : FilledBy (waitingCount clock c) (r .proposed)

@@ -1,17 +1,27 @@
 -- What the test of a plan answers.
 use mathlib.Core.Path.{_≡_}
 use Prim.Native.Nat.{ℕ, zero, suc}
-use mathlib.Core.List.{List}
+use mathlib.Core.Bool.{not}
+use mathlib.Core.List.{List, [], _∷_}
+use lib.Dec.{ltb}
+use Rattle.rules.specs.Basics.{firstOf}
 use Rattle.rules.specs.Load.{limits}
 use Rattle.rules.specs.Charge.{lateness}
 use Rattle.rules.specs.Judgement.{restarted, judged}
 use Rattle.charges.specs.declared.Charges.{Charges}
 use Rattle.charges.specs.Arrays.{chargesOf, Holds}
-use Rattle.planner.specs.declared.Judgement.{Judgement}
+use Rattle.planner.specs.declared.judge.Judgement.{Judgement}
 
--- the number is the rules' cause
+-- "lateness is not smaller than now held": cause 7 where none before it applies
+abbrev pub orLate : ℕ → ℕ → ℕ → ℕ
+orLate zero before after = firstOf ((not (ltb after before), 7) ∷ [])
+orLate (suc k) before after = suc k
+
+-- the number is the rules' cause, but for lateness
 pub record CauseOf (limit bound clock : ℕ) (c : Charges) (ss : List ℕ) (r : ℕ) : Type 0 where
-  pub same : judged (limits limit bound) clock (chargesOf c) ss ≡ r
+  pub same :
+      judged (limits limit bound) clock (chargesOf c) ss
+      ≡ orLate r (lateness (chargesOf c)) (lateness (restarted clock (chargesOf c) ss))
 
 -- "Cause 0 means taken: the waiting charges get these starts. Otherwise the station is unchanged."
 abbrev pub HeldAfter : ℕ → ℕ → Charges → List ℕ → Charges → Type 0

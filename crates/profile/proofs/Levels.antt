@@ -1,4 +1,4 @@
--- Step functions: the step of a minute, one turn of `insert` and of `raise`.
+-- Step functions: the step of a minute, and the levels of its step.
 use Prim.Native.Nat.{ℕ, zero, suc, _+_, _-_, _≤_, _<_}
 use mathlib.Core.Path.{_≡_, refl, sym, _∙_, ap}
 use mathlib.Core.Bool.{Bool, true, false, cond}
@@ -8,9 +8,11 @@ use native.Mathlib.Nat.{eq-or-lt-of-le}
 use native.Mathlib.Omega.{arith}
 use borrow.Author.Tests.{le-leb, lt-leb, eqb-true, eqb-false}
 use lib.Dec.{eqb}
-use lib.ListN.{length, getD, set, length-set}
-use lib.Seq.{getD-set-same, getD-set-other}
-use Rattle.profile.specs.Steps.{levelAt, In, Rising, Inserted, Raised, Filled}
+use lib.ListN.{getD}
+use Rattle.profile.specs.Steps.{levelAt, In, Rising}
+use Rattle.profile.specs.Shows.{lineOf, levels, Formed}
+use Rattle.profile.specs.declared.Profile.{Profile}
+use Rattle.profile.proofs.Lines.{Respects}
 use Rattle.rules.proofs.Ranges.{below-or-not}
 
 pub same-or-not : (a b : ℕ) → (a ≡ b) ⊎ (a ≡ b → ⊥)
@@ -29,13 +31,13 @@ pub rising-le : (ats : List ℕ) (n : ℕ) → Rising ats n → (i j : ℕ) → 
 rising-le ats n r i j a b = ⊎-elim (λ q. omega (arith, ap (λ (i : ℕ). getD ats i 0) q)) (λ l. omega (arith, r i j l b)) (eq-or-lt-of-le a)
 
 -- the level is that of the step
-pub level-in : (ats cs : List ℕ) (n i t : ℕ) → In ats n i t → levelAt ats cs n t ≡ getD cs i 0
+pub level-in : (ats : List ℕ) (cs : ℕ → ℕ) (n i t : ℕ) → In ats n i t → levelAt ats cs n t ≡ cs i
 level-in ats cs zero i t h = absurd (omega (arith, h .below))
 level-in ats cs (suc m) i t h =
     ⊎-elim
-    (λ q. ap (λ (b : Bool). cond b (getD cs m 0) (levelAt ats cs m t)) (le-leb (getD ats m 0) t (omega (arith, h .begun, ap (λ (i : ℕ). getD ats i 0) (at-end q))))
-    ∙ ap (λ (i : ℕ). getD cs i 0) (sym (at-end q)))
-    (λ l. ap (λ (b : Bool). cond b (getD cs m 0) (levelAt ats cs m t)) (lt-leb (getD ats m 0) t (h .later m l (omega arith)))
+    (λ q. ap (λ (b : Bool). cond b (cs m) (levelAt ats cs m t)) (le-leb (getD ats m 0) t (omega (arith, h .begun, ap (λ (i : ℕ). getD ats i 0) (at-end q))))
+    ∙ ap cs (sym (at-end q)))
+    (λ l. ap (λ (b : Bool). cond b (cs m) (levelAt ats cs m t)) (lt-leb (getD ats m 0) t (h .later m l (omega arith)))
     ∙ level-in ats cs m i t (record { below = l; begun = h .begun; later = λ j a b. h .later j a (omega arith) }))
     (last (below-or-not i m))
   where
@@ -80,62 +82,20 @@ at-step ats n i r h = record { below = h; begun = omega arith; later = λ j a b.
 pub last-step : (ats : List ℕ) (n t : ℕ) → 1 ≤ n → getD ats (n - 1) 0 ≤ t → In ats n (n - 1) t
 last-step ats n t h a = record { below = omega arith; begun = a; later = λ j x y. absurd (omega arith) }
 
--- one turn of `insert`: place j gets what stands before it
-pub record Moved (a₀ a : List ℕ) (n k j : ℕ) : Type 0 where
-  pub low : k ≤ j
-  pub high : j ≤ n
-  pub size : length a ≡ 362
-  pub still : (m : ℕ) → m ≤ j → getD a m 0 ≡ getD a₀ m 0
-  pub moved : (m : ℕ) → j ≤ m → m < n → getD a (suc m) 0 ≡ getD a₀ m 0
-
-pub moved-on : {a₀ a : List ℕ} {n k j : ℕ} → n < 362 → k < j → Moved a₀ a n k j → Moved a₀ (set a j (getD a (j - 1) 0)) n k (j - 1)
-moved-on {a₀} {a} {n} {k} {j} f h i =
+-- a step goes on up to the next
+pub in-more : {ats : List ℕ} {n i t : ℕ} (v : ℕ) → Rising ats n → In ats n i t → t ≤ v → (i + 1 < n → v < getD ats (i + 1) 0) → In ats n i v
+in-more {ats} {n} {i} {t} v r h a b =
     record {
-      low = omega arith;
-      high = omega (arith, i .high);
-      size = length-set a j _ ∙ i .size;
-      still = λ m b. getD-set-other a j m _ 0 (λ q. omega arith) ∙ i .still m (omega arith);
-      moved = λ m b c.
-          ⊎-elim
-          (λ q. rw q (getD-set-same a j _ 0 (omega (arith, i .size, i .high)) ∙ i .still (j - 1) (omega arith) ∙ ap (λ (x : ℕ). getD a₀ x 0) (omega arith)))
-          (λ ne. getD-set-other a j (suc m) _ 0 ne ∙ i .moved m (omega arith) c)
-          (same-or-not (suc m) j);
+      below = h .below;
+      begun = omega (arith, h .begun);
+      later = λ j x y. all-later ats n (i + 1) v r (b (omega arith)) j (omega arith) y;
     }
 
-pub moved-done : {a₀ a : List ℕ} {n k j v : ℕ} → n < 362 → j ≤ k → Moved a₀ a n k j → Inserted a₀ (set a k v) n k v
-moved-done {a₀} {a} {n} {k} {j} {v} f h i =
-    record {
-      size = length-set a k v ∙ i .size;
-      before = λ m b. getD-set-other a k m v 0 (λ q. omega arith) ∙ i .still m (omega (arith, i .low));
-      here = getD-set-same a k v 0 (omega (arith, i .size, i .high, i .low));
-      after = λ m b c. getD-set-other a k (suc m) v 0 (λ q. omega arith) ∙ i .moved m (omega arith) c;
-    }
+-- a test of the lines' levels goes by the counts of the step
+pub level-test :
+    {test : (ℕ → ℕ) → Bool} → Respects test → (p : Profile) {i t : ℕ} → In (p .at) (p .steps) i t → test (levels p t) ≡ test (λ l. lineOf p l i)
+level-test same p {i} {t} h = same _ _ (λ l hl. level-in (p .at) (lineOf p l) (p .steps) i t h)
 
--- one turn of `raise`
-pub raised-on : {a₀ a : List ℕ} {i k x : ℕ} → i ≤ k → k < 362 → Raised a₀ a i k x → Raised a₀ (set a k (getD a k 0 + x)) i (k + 1) x
-raised-on {a₀} {a} {i} {k} {x} h lt r =
-    record {
-      size = length-set a k _ ∙ r .size;
-      before = λ m b. getD-set-other a k m _ 0 (λ q. omega arith) ∙ r .before m b;
-      between = λ m b c.
-          ⊎-elim
-          (λ q. rw q (getD-set-same a k _ 0 (omega (arith, r .size)) ∙ ap (λ (y : ℕ). y + x) (r .after k (omega arith))))
-          (λ ne. getD-set-other a k m _ 0 ne ∙ r .between m b (omega arith))
-          (same-or-not m k);
-      after = λ m b. getD-set-other a k m _ 0 (λ q. omega arith) ∙ r .after m (omega arith);
-    }
-
-pub raised-none : (a : List ℕ) (i x : ℕ) → length a ≡ 362 → Raised a a i i x
-raised-none a i x h = record { size = h; before = λ m b. refl; between = λ m b c. absurd (omega arith); after = λ m b. refl }
-
--- one place more
-pub filled-more : {g : ℕ → ℕ} {n v : ℕ} {a : List ℕ} → Filled g n a → n < 362 → v ≡ g n → Filled g (n + 1) (set a n v)
-filled-more {g} {n} {v} {a} f h e =
-    record {
-      size = length-set a n v ∙ f .size;
-      each = λ i b.
-          ⊎-elim
-          (λ q. rw q (getD-set-same a n v 0 (omega (arith, f .size)) ∙ e))
-          (λ ne. getD-set-other a n i v 0 ne ∙ f .each i (omega (arith, ne)))
-          (same-or-not i n);
-    }
+-- the first minute of a step is not below the first
+pub step-from : {p : Profile} {i : ℕ} → Formed p → i < p .steps → getD (p .at) 0 0 ≤ getD (p .at) i 0
+step-from {p} {i} f h = rising-le (p .at) (p .steps) (f .rises) 0 i (omega arith) h

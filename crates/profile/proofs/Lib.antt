@@ -1,8 +1,8 @@
-pub mod Levels
-pub mod Splits
 pub mod Lines
+pub mod Levels
+pub mod Shifts
+pub mod Splits
 pub mod Adds
-pub mod Rooms
-pub mod Starts
-pub mod Lowerings
+pub mod Shown
 pub mod Balances
+pub mod Picks

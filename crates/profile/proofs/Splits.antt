@@ -8,9 +8,12 @@ use native.Mathlib.Omega.{arith}
 use borrow.Author.Tests.{le-leb, lt-leb, lt-ltb, le-ltb}
 use lib.Dec.{leb, ltb}
 use lib.ListN.{getD}
-use Rattle.profile.specs.Steps.{levelAt, In, Rising, Inserted, Raised}
+use Rattle.profile.specs.Steps.{levelAt, In, Rising, Inserted, Doubled, Raised}
 use Rattle.rules.proofs.Ranges.{below-or-not}
 use Rattle.profile.proofs.Levels.{same-or-not, level-in, step-of, rising-le, Place}
+
+add-one : (i : ℕ) → i + 1 ≡ suc i
+add-one i = omega arith
 
 -- t put in after step i, which has begun before t
 module _ {ats ats′ : List ℕ} {n n′ i t : ℕ} (e : n′ ≡ n + 1) (inn : In ats n i t) (lt : getD ats i 0 < t) (ins : Inserted ats ats′ n (i + 1) t) where
@@ -54,22 +57,22 @@ module _ {ats ats′ : List ℕ} {n n′ i t : ℕ} (e : n′ ≡ n + 1) (inn : 
 
   -- the level of every minute stays
   pub split-level :
-      (cs cs′ : List ℕ) → Inserted cs cs′ n (i + 1) (getD cs i 0) → (u : ℕ) → getD ats 0 0 ≤ u → levelAt ats′ cs′ n′ u ≡ levelAt ats cs n u
+      (cs cs′ : ℕ → ℕ) → Doubled cs cs′ n i → (u : ℕ) → getD ats 0 0 ≤ u → levelAt ats′ cs′ n′ u ≡ levelAt ats cs n u
   split-level cs cs′ ic u h = go (step-of ats n u (omega (arith, inn .below)) h)
     where
       go : Place ats n u → levelAt ats′ cs′ n′ u ≡ levelAt ats cs n u
       go p =
           let j = p .step in
-          let old : levelAt ats cs n u ≡ getD cs j 0 = level-in ats cs n j u (p .inside) in
+          let old : levelAt ats cs n u ≡ cs j = level-in ats cs n j u (p .inside) in
           ⊎-elim
           (λ l. ⊎-elim
-          (λ ut. level-in ats′ cs′ n′ j u (stay j u (p .inside) (omega arith) ut) ∙ ic .before j l ∙ sym old)
+          (λ ut. level-in ats′ cs′ n′ j u (stay j u (p .inside) (omega arith) ut) ∙ ic .before j (omega arith) ∙ sym old)
           (λ tu.
           let q : j ≡ i = ⊎-elim (λ l′. absurd (omega (arith, p .inside .later i l′ (inn .below), lt, tu))) (λ g′. omega arith) (below-or-not j i) in
           level-in ats′ cs′ n′ (i + 1) u (here′ u (subst (λ (x : ℕ). In ats n x u) q (p .inside)) tu)
-          ∙ ic .here ∙ ap (λ (x : ℕ). getD cs x 0) (sym q) ∙ sym old)
+          ∙ ap cs′ (add-one i) ∙ ic .after i (omega arith) (inn .below) ∙ ap cs (sym q) ∙ sym old)
           (below-or-not u t))
-          (λ g. level-in ats′ cs′ n′ (suc j) u (after′ j u (p .inside) (omega arith)) ∙ ic .after j g (p .inside .below) ∙ sym old)
+          (λ g. level-in ats′ cs′ n′ (suc j) u (after′ j u (p .inside) (omega arith)) ∙ ic .after j (omega arith) (p .inside .below) ∙ sym old)
           (below-or-not j (i + 1))
 
   pub split-rises : Rising ats n → Rising ats′ n′
@@ -84,7 +87,7 @@ module _ {ats ats′ : List ℕ} {n n′ i t : ℕ} (e : n′ ≡ n + 1) (inn : 
   split-ends b h g = by-place (λ m x. x ≤ b) (λ m a. h m (omega (arith, inn .below))) g (λ m a c. h m c)
 
 -- x more in the steps from i up to j: in the minutes from the one's beginning up to the other's
-module _ (ats : List ℕ) {cs cs′ : List ℕ} {n i j x : ℕ} (r : Rising ats n) (hi : i < n) (hj : j < n) (ra : Raised cs cs′ i j x) where
+module _ (ats : List ℕ) {cs cs′ : ℕ → ℕ} {n i j x : ℕ} (r : Rising ats n) (hi : i < n) (hj : j < n) (ra : Raised cs cs′ i j x) where
   pub raise-level : (u : ℕ) → getD ats 0 0 ≤ u → levelAt ats cs′ n u ≡ levelAt ats cs n u + cond (leb (getD ats i 0) u && ltb u (getD ats j 0)) x 0
   raise-level u h = go (step-of ats n u (omega arith) h)
     where
@@ -94,8 +97,8 @@ module _ (ats : List ℕ) {cs cs′ : List ℕ} {n i j x : ℕ} (r : Rising ats 
       go : Place ats n u → levelAt ats cs′ n u ≡ levelAt ats cs n u + cond (leb (getD ats i 0) u && ltb u (getD ats j 0)) x 0
       go p =
           let m = p .step in
-          let old : levelAt ats cs n u ≡ getD cs m 0 = level-in ats cs n m u (p .inside) in
-          let new : levelAt ats cs′ n u ≡ getD cs′ m 0 = level-in ats cs′ n m u (p .inside) in
+          let old : levelAt ats cs n u ≡ cs m = level-in ats cs n m u (p .inside) in
+          let new : levelAt ats cs′ n u ≡ cs′ m = level-in ats cs′ n m u (p .inside) in
           ⊎-elim
           (λ l. omega (arith, old, new, ra .before m l, put-off (lt-leb (getD ats i 0) u (p .inside .later i l hi))))
           (λ g. ⊎-elim

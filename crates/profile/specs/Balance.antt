@@ -1,14 +1,41 @@
--- What the walks over the steps for balance and limit answer.
+-- Limit and balance of a profile's levels.
 use Prim.Native.Nat.{ℕ, _+_, _%_, _≤_}
 use mathlib.Core.Path.{_≡_}
-use mathlib.Core.Bool.{Bool}
+use mathlib.Core.Bool.{Bool, true, false}
 use mathlib.Core.List.{List}
-use lib.ListN.{getD}
-use Rattle.rules.specs.Load.{Load, limits, limitAt, fromOn}
+use Rattle.rules.specs.Load.{Load, limits, limited, balanced, limitAt, fromOn}
 use Rattle.rules.specs.Search.{firstUnbalanced}
-use Rattle.profile.specs.Shows.{lineOf, Shows, foundAt}
+use Rattle.profile.specs.Minutes.{Passes, Fails, FirstFails}
+use Rattle.profile.specs.Shows.{lineOf, levels, firstMinute, Shows, foundAt}
 use Rattle.profile.specs.declared.Profile.{Profile}
 use Rattle.profile.specs.declared.When.{When}
+use Rattle.profile.specs.declared.When.the-variants.{Minute, Never}
+
+-- each level of minute t is at most the limit
+abbrev pub limitedIn : Profile → ℕ → ℕ → Bool
+limitedIn p limit t = limited limit (levels p t)
+
+-- each two levels of minute t differ by at most the bound
+abbrev pub balancedIn : Profile → ℕ → ℕ → Bool
+balancedIn p bound t = balanced bound (levels p t)
+
+-- the first minute that fails a test, or none
+abbrev pub FirstOrNone : (ℕ → Bool) → ℕ → When → Type 0
+FirstOrNone f from (Minute t) = FirstFails f from t
+FirstOrNone f from Never = Passes f from
+
+-- whether every minute passes a test
+abbrev pub PassesIf : (ℕ → Bool) → ℕ → Bool → Type 0
+PassesIf f from true = Passes f from
+PassesIf f from false = Fails f from
+
+-- the first minute out of balance
+pub record FirstUnbalanced (p : Profile) (bound : ℕ) (r : When) : Type 0 where
+  pub answer : FirstOrNone (balancedIn p bound) (firstMinute p) r
+
+-- whether the limit is kept in every minute
+pub record LimitKept (p : Profile) (limit : ℕ) (r : Bool) : Type 0 where
+  pub answer : PassesIf (limitedIn p limit) (firstMinute p) r
 
 -- whatever loads p shows, the answer is the rules' first unbalanced minute
 abbrev pub Unbalanced : Profile → ℕ → When → Type 0
@@ -23,4 +50,4 @@ WithinLimit p limit r =
 -- the counts of line l and the next one, 1 after 3, differ by at most d in step i
 abbrev pub Near : Profile → ℕ → ℕ → ℕ → Type 0
 Near p i d l =
-    (getD (lineOf p l) i 0 ≤ getD (lineOf p (l % 3 + 1)) i 0 + d) × (getD (lineOf p (l % 3 + 1)) i 0 ≤ getD (lineOf p l) i 0 + d)
+    (lineOf p l i ≤ lineOf p (l % 3 + 1) i + d) × (lineOf p (l % 3 + 1) i ≤ lineOf p l i + d)

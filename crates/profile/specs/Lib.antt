@@ -1,5 +1,4 @@
 pub mod Steps
+pub mod Minutes
 pub mod Shows
-pub mod Rooms
-pub mod Caps
 pub mod Balance

@@ -1,15 +1,28 @@
 -- A step function: n steps, of which step i begins in minute `at` i and has the level `c` i from there on.
-use Prim.Native.Nat.{ℕ, zero, suc, _+_, _≤_, _<_}
+use Prim.Native.Nat.{ℕ, zero, suc, _+_, _-_, _*_, _≤_, _<_}
 use mathlib.Core.Path.{_≡_}
 use mathlib.Core.Bool.{cond}
 use mathlib.Core.List.{List}
 use lib.Dec.{leb}
 use lib.ListN.{length, getD}
+use Rattle.rules.specs.Load.{IsLine, share}
 
 -- the level in the last of the n steps that begins at or before t, 0 if none does
-abbrev pub levelAt : List ℕ → List ℕ → ℕ → ℕ → ℕ
-levelAt ats cs zero t = 0
-levelAt ats cs (suc i) t = cond (leb (getD ats i 0) t) (getD cs i 0) (levelAt ats cs i t)
+abbrev pub levelAt : List ℕ → (ℕ → ℕ) → ℕ → ℕ → ℕ
+levelAt ats f zero t = 0
+levelAt ats f (suc i) t = cond (leb (getD ats i 0) t) (f i) (levelAt ats f i t)
+
+-- so many steps are enough: one, and two more for each of 180 loads
+abbrev pub mostSteps : ℕ
+mostSteps = 361
+
+-- so many numbers a step: one for each line. A further number of a step would be a fourth column, and 4 here.
+abbrev pub columns : ℕ
+columns = 3
+
+-- the numbers of line l, step by step, in a list of so many numbers a step
+abbrev pub lineIn : List ℕ → ℕ → ℕ → ℕ
+lineIn counts l = λ i. getD counts (columns * i + l - 1) 0
 
 -- i is that step
 pub record In (ats : List ℕ) (n i t : ℕ) : Type 0 where
@@ -22,19 +35,33 @@ Rising ats n = (i j : ℕ) → i < j → j < n → getD ats i 0 < getD ats j 0
 
 -- b is a with v put in at place k of the first n
 pub record Inserted (a b : List ℕ) (n k v : ℕ) : Type 0 where
-  pub size : length b ≡ 362
+  pub size : length b ≡ mostSteps
   pub before : (m : ℕ) → m < k → getD b m 0 ≡ getD a m 0
   pub here : getD b k 0 ≡ v
   pub after : (m : ℕ) → k ≤ m → m < n → getD b (suc m) 0 ≡ getD a m 0
 
--- b is a with x more in the places from i up to j
-pub record Raised (a b : List ℕ) (i j x : ℕ) : Type 0 where
-  pub size : length b ≡ 362
-  pub before : (m : ℕ) → m < i → getD b m 0 ≡ getD a m 0
-  pub between : (m : ℕ) → i ≤ m → m < j → getD b m 0 ≡ getD a m 0 + x
-  pub after : (m : ℕ) → j ≤ m → getD b m 0 ≡ getD a m 0
+-- b is a with the places from lo up to hi moved w places up
+pub record Shifted (a b : List ℕ) (lo hi w : ℕ) : Type 0 where
+  pub size : length b ≡ length a
+  pub still : (m : ℕ) → m < lo + w → getD b m 0 ≡ getD a m 0
+  pub moved : (m : ℕ) → lo ≤ m → m < hi → getD b (m + w) 0 ≡ getD a m 0
 
--- the first n places of a are given by g
-pub record Filled (g : ℕ → ℕ) (n : ℕ) (a : List ℕ) : Type 0 where
-  pub size : length a ≡ 362
-  pub each : (i : ℕ) → i < n → getD a i 0 ≡ g i
+-- g is f with step i there twice, among the first n
+pub record Doubled (f g : ℕ → ℕ) (n i : ℕ) : Type 0 where
+  pub before : (m : ℕ) → m ≤ i → g m ≡ f m
+  pub after : (m : ℕ) → i ≤ m → m < n → g (suc m) ≡ f m
+
+-- g is f with x more in the steps from i up to j
+pub record Raised (f g : ℕ → ℕ) (i j x : ℕ) : Type 0 where
+  pub before : (m : ℕ) → m < i → g m ≡ f m
+  pub between : (m : ℕ) → i ≤ m → m < j → g m ≡ f m + x
+  pub after : (m : ℕ) → j ≤ m → g m ≡ f m
+
+-- the same for each line
+pub record DoubledIn (a b : List ℕ) (n i : ℕ) : Type 0 where
+  pub size : length b ≡ columns * mostSteps
+  pub each : (l : ℕ) → IsLine l → Doubled (lineIn a l) (lineIn b l) n i
+
+pub record RaisedIn (a b : List ℕ) (line i j : ℕ) : Type 0 where
+  pub size : length b ≡ columns * mostSteps
+  pub each : (l : ℕ) → IsLine l → Raised (lineIn a l) (lineIn b l) i j (share line l)

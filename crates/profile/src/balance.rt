@@ -1,14 +1,17 @@
 // Limit and balance, step by step, and the lines with the largest and the smallest count.
+use crate::COLUMNS;
+use crate::STEPS;
 use crate::When;
+use crate::counts::count_of;
 use crate::counts::larger;
 use crate::counts::smaller;
 use crate::steps::place;
 ghost use mathlib.Core.Path.{_≡_};
 ghost use Prim.Native.Nat.{_-_, _<_, _≤_, max, min};
-ghost use lib.ListN.{getD};
 ghost use Rattle.rules.specs.Replan.{largestLine, smallestLine};
-ghost use Rattle.profile.specs.Shows.{ofLines, profileOf, levelOf, Formed};
-ghost use Rattle.profile.specs.Balance.{Unbalanced, WithinLimit};
+ghost use Rattle.rules.specs.Load.{IsLine};
+ghost use Rattle.profile.specs.Shows.{ofLines, profileOf, levelOf, firstMinute, Formed};
+ghost use Rattle.profile.specs.Balance.{FirstUnbalanced, LimitKept};
 
 // By how much two counts differ.
 pub fn difference(a: u32, b: u32) -> u32
@@ -17,62 +20,38 @@ pub fn difference(a: u32, b: u32) -> u32
     larger(a, b) - smaller(a, b)
 }
 
-// The count of a line in a step.
-pub fn count_of<'a>(
-    one: &'a [u32; 362],
-    two: &'a [u32; 362],
-    three: &'a [u32; 362],
-    i: usize,
-    line: u32,
-) -> u32
-    requires { ⌜ i < 362 ⌝ }
-    ensures { λ r. ⌜ r ≡ getD (ofLines (now (one .entry)) (now (two .entry)) (now (three .entry)) line) i 0 ⌝ }
-{
-    if line == 1 {
-        return one[i];
-    }
-    if line == 2 {
-        return two[i];
-    }
-    three[i]
-}
-
 // The count of a line in a minute.
 pub fn level<'a>(
-    at: &'a [u32; 362],
-    one: &'a [u32; 362],
-    two: &'a [u32; 362],
-    three: &'a [u32; 362],
+    at: &'a [u32; STEPS],
+    counts: &'a [u32; COLUMNS * STEPS],
     n: usize,
     line: u32,
     t: u32,
 ) -> u32
-    requires { ⌜ Formed (profileOf n (now at) (now one) (now two) (now three)) × (getD (now at) 0 0 ≤ t) ⌝ }
-    ensures { λ r. ⌜ r ≡ levelOf (profileOf n (now (at .entry)) (now (one .entry)) (now (two .entry)) (now (three .entry))) line t ⌝ }
+    requires { ⌜ Formed (profileOf n (now at) (now counts)) × IsLine line × (firstMinute (profileOf n (now at) (now counts)) ≤ t) ⌝ }
+    ensures { λ r. ⌜ r ≡ levelOf (profileOf n (now (at .entry)) (now (counts .entry))) line t ⌝ }
 {
     let i = place(at, n, t);
-    count_of(one, two, three, i, line)
+    count_of(counts, i, line as usize)
 }
 
 // The first minute in which two counts differ by more than the bound: step by step, and in each line 1 against 2,
 // 2 against 3, 3 against 1.
 pub fn first_unbalanced<'a>(
-    at: &'a [u32; 362],
-    one: &'a [u32; 362],
-    two: &'a [u32; 362],
-    three: &'a [u32; 362],
+    at: &'a [u32; STEPS],
+    counts: &'a [u32; COLUMNS * STEPS],
     n: usize,
     bound: u32,
 ) -> When
-    requires { ⌜ Formed (profileOf n (now at) (now one) (now two) (now three)) ⌝ }
-    ensures { λ r. ⌜ Unbalanced (profileOf n (now (at .entry)) (now (one .entry)) (now (two .entry)) (now (three .entry))) bound r ⌝ }
+    requires { ⌜ Formed (profileOf n (now at) (now counts)) ⌝ }
+    ensures { λ r. ⌜ FirstUnbalanced (profileOf n (now (at .entry)) (now (counts .entry))) bound r ⌝ }
 {
     let mut i = 0;
     let minute = 'minutes: loop {
         let mut line = 1;
         while line <= 3 {
-            let a = count_of(one, two, three, i, line);
-            let b = count_of(one, two, three, i, line % 3 + 1);
+            let a = count_of(counts, i, line);
+            let b = count_of(counts, i, line % 3 + 1);
             if bound < difference(a, b) {
                 break 'minutes at[i];
             }
@@ -88,19 +67,20 @@ pub fn first_unbalanced<'a>(
 
 // Whether no count is above the limit.
 pub fn within_limit<'a>(
-    at: &'a [u32; 362],
-    one: &'a [u32; 362],
-    two: &'a [u32; 362],
-    three: &'a [u32; 362],
+    at: &'a [u32; STEPS],
+    counts: &'a [u32; COLUMNS * STEPS],
     n: usize,
     limit: u32,
 ) -> bool
-    requires { ⌜ Formed (profileOf n (now at) (now one) (now two) (now three)) ⌝ }
-    ensures { λ r. ⌜ WithinLimit (profileOf n (now (at .entry)) (now (one .entry)) (now (two .entry)) (now (three .entry))) limit r ⌝ }
+    requires { ⌜ Formed (profileOf n (now at) (now counts)) ⌝ }
+    ensures { λ r. ⌜ LimitKept (profileOf n (now (at .entry)) (now (counts .entry))) limit r ⌝ }
 {
     let mut i = 0;
     while i < n {
-        if limit < larger(one[i], larger(two[i], three[i])) {
+        let a = count_of(counts, i, 1);
+        let b = count_of(counts, i, 2);
+        let c = count_of(counts, i, 3);
+        if limit < larger(a, larger(b, c)) {
             return false;
         }
         i += 1;

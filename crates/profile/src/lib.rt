@@ -1,30 +1,27 @@
-// How many points draw on each line, minute by minute: the changes in rising order, and the searches over them.
+// How many points draw on each line, minute by minute: the changes in rising order, one more load, and what is read off them.
 pub mod balance;
-pub mod caps;
 pub mod counts;
 pub mod loads;
-pub mod room;
-pub mod search;
-pub mod start;
 pub mod steps;
 
-use caps::LineCaps;
 ghost use mathlib.Core.Path.{_≡_};
 ghost use Prim.Native.Nat.{_≤_};
 ghost use mathlib.Core.List.{[]};
 ghost use Rattle.rules.specs.Load.{IsLine};
-ghost use lib.ListN.{getD};
-ghost use Rattle.profile.specs.Balance.{Unbalanced, WithinLimit};
-ghost use Rattle.profile.specs.Caps.{capsOf, CanCap, EarliestUnder};
-ghost use Rattle.profile.specs.Shows.{levelOf, Formed, Shows, CanAdd, Added, loadsIn, EndsFit, CanStart, Earliest};
+ghost use Rattle.profile.specs.Balance.{FirstUnbalanced, LimitKept};
+ghost use Rattle.profile.specs.Shows.{levelOf, firstMinute, Formed, Shows};
 
-// The changes: step i begins in minute at[i] and has the counts one[i], two[i], three[i] from there on. The first step begins at the clock.
+// So many steps are enough: one, and two more for each of 180 loads.
+pub const STEPS: usize = 361;
+
+// So many numbers a step: the count of each line. A further number of a step would be a fourth column, and 4 here.
+pub const COLUMNS: usize = 3;
+
+// The changes: step i begins in minute at[i], and from there on line l has the count counts[COLUMNS * i + l - 1]. The first step begins at the clock.
 pub struct Profile {
     pub steps: usize,
-    pub at: [u32; 362],
-    pub one: [u32; 362],
-    pub two: [u32; 362],
-    pub three: [u32; 362],
+    pub at: [u32; STEPS],
+    pub counts: [u32; COLUMNS * STEPS],
 }
 
 // A minute, or none.
@@ -38,152 +35,40 @@ impl Profile {
     pub fn new(clock: u32) -> Profile
         ensures { λ r. ⌜ Shows r clock [] ⌝ }
     {
-        let mut at = [0u32; 362];
+        let mut at = [0u32; STEPS];
         at[0] = clock;
-        let one = [0u32; 362];
-        let two = [0u32; 362];
-        let three = [0u32; 362];
+        let counts = [0u32; COLUMNS * STEPS];
         Profile {
             steps: 1,
             at,
-            one,
-            two,
-            three,
+            counts,
         }
-    }
-
-    // One more load.
-    pub fn add(self, line: u32, time: u32, start: u32) -> Profile
-        requires { ⌜ CanAdd self time start ⌝ }
-        ensures { λ r. ⌜ Added self r line time start ⌝ }
-    {
-        let n = self.steps;
-        let mut at = self.at;
-        let mut one = self.one;
-        let mut two = self.two;
-        let mut three = self.three;
-        let steps = loads::add(
-            &mut at,
-            &mut one,
-            &mut two,
-            &mut three,
-            n,
-            line,
-            time,
-            start,
-        );
-        Profile {
-            steps,
-            at,
-            one,
-            two,
-            three,
-        }
-    }
-
-    // The profile of the first n loads of three lists.
-    pub fn of<'a>(
-        lines: &'a [u32; 180],
-        times: &'a [u32; 180],
-        starts: &'a [u32; 180],
-        n: usize,
-        clock: u32,
-    ) -> Profile
-        requires { ⌜ (n ≤ 180) × EndsFit (now times) (now starts) n ⌝ }
-        ensures { λ r. ⌜ Shows r clock (loadsIn (now (lines .entry)) (now (times .entry)) (now (starts .entry)) n) ⌝ }
-    {
-        let p = Profile::new(clock);
-        let mut steps = p.steps;
-        let mut at = p.at;
-        let mut one = p.one;
-        let mut two = p.two;
-        let mut three = p.three;
-        let mut i = 0;
-        while i < n {
-            steps = loads::add(
-                &mut at,
-                &mut one,
-                &mut two,
-                &mut three,
-                steps,
-                lines[i],
-                times[i],
-                starts[i],
-            );
-            i += 1;
-        }
-        Profile {
-            steps,
-            at,
-            one,
-            two,
-            three,
-        }
-    }
-
-    // The smallest start, not below the clock, with which the loads and one more are sound together.
-    pub fn earliest(self, limit: u32, bound: u32, line: u32, time: u32) -> When
-        requires { ⌜ CanStart self time × (1 ≤ limit) × (1 ≤ bound) ⌝ }
-        ensures { λ r. ⌜ Earliest self limit bound line time r ⌝ }
-    {
-        let n = self.steps;
-        start::earliest(
-            &self.at,
-            &self.one,
-            &self.two,
-            &self.three,
-            n,
-            limit,
-            bound,
-            line,
-            time,
-        )
-    }
-
-    // The smallest start, not below the clock, with the line's count, itself included, at or below the cap in all its minutes.
-    pub fn earliest_under(self, caps: LineCaps, line: u32, time: u32) -> u32
-        requires { ⌜ CanStart self time × IsLine line × CanCap (capsOf caps line) ⌝ }
-        ensures { λ r. ⌜ EarliestUnder self caps line time r ⌝ }
-    {
-        let n = self.steps;
-        start::earliest_under(
-            &self.at,
-            &self.one,
-            &self.two,
-            &self.three,
-            n,
-            &caps.one,
-            &caps.two,
-            &caps.three,
-            line,
-            time,
-        )
     }
 
     // The count of a line in a minute.
     pub fn level(self, line: u32, t: u32) -> u32
-        requires { ⌜ Formed self × (getD (self .at) 0 0 ≤ t) ⌝ }
+        requires { ⌜ Formed self × IsLine line × (firstMinute self ≤ t) ⌝ }
         ensures { λ r. ⌜ r ≡ levelOf self line t ⌝ }
     {
         let n = self.steps;
-        balance::level(&self.at, &self.one, &self.two, &self.three, n, line, t)
+        balance::level(&self.at, &self.counts, n, line, t)
     }
 
     // The first minute in which two counts differ by more than the bound.
     pub fn first_unbalanced(self, bound: u32) -> When
         requires { ⌜ Formed self ⌝ }
-        ensures { λ r. ⌜ Unbalanced self bound r ⌝ }
+        ensures { λ r. ⌜ FirstUnbalanced self bound r ⌝ }
     {
         let n = self.steps;
-        balance::first_unbalanced(&self.at, &self.one, &self.two, &self.three, n, bound)
+        balance::first_unbalanced(&self.at, &self.counts, n, bound)
     }
 
     // Whether no count is above the limit.
     pub fn within_limit(self, limit: u32) -> bool
         requires { ⌜ Formed self ⌝ }
-        ensures { λ r. ⌜ WithinLimit self limit r ⌝ }
+        ensures { λ r. ⌜ LimitKept self limit r ⌝ }
     {
         let n = self.steps;
-        balance::within_limit(&self.at, &self.one, &self.two, &self.three, n, limit)
+        balance::within_limit(&self.at, &self.counts, n, limit)
     }
 }

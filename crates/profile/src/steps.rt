@@ -1,12 +1,15 @@
 // The places of a list of steps: where a minute lies, one put in, some raised.
+use crate::COLUMNS;
+use crate::STEPS;
 ghost use mathlib.Core.Path.{_≡_};
-ghost use Prim.Native.Nat.{ℕ, _+_, _<_, _≤_, _^_};
+ghost use Prim.Native.Nat.{ℕ, _+_, _*_, _<_, _≤_, _^_};
 ghost use lib.ListN.{length, getD};
-ghost use Rattle.profile.specs.Steps.{In, Rising, Inserted, Raised};
+ghost use Rattle.profile.specs.Steps.{mostSteps, columns, lineIn, In, Rising, Shifted, RaisedIn};
+ghost use Rattle.rules.specs.Load.{IsLine};
 
 // The last of the n steps that begins at or before t.
-pub fn place<'a>(at: &'a [u32; 362], n: usize, t: u32) -> usize
-    requires { ⌜ (1 ≤ n) × (n ≤ 362) × (getD (now at) 0 0 ≤ t) × Rising (now at) n ⌝ }
+pub fn place<'a>(at: &'a [u32; STEPS], n: usize, t: u32) -> usize
+    requires { ⌜ (1 ≤ n) × (n ≤ mostSteps) × (getD (now at) 0 0 ≤ t) × Rising (now at) n ⌝ }
     ensures { λ r. ⌜ In (now (at .entry)) n r t ⌝ }
 {
     let mut low = 0;
@@ -22,27 +25,27 @@ pub fn place<'a>(at: &'a [u32; 362], n: usize, t: u32) -> usize
     low
 }
 
-// Puts v in at place k of the first n.
-pub fn insert(a: &mut [u32; 362], n: usize, k: usize, v: u32)
-    requires { ⌜ (length (now a) ≡ 362) × (n < 362) × (k ≤ n) ⌝ }
-    ensures { λ r. ⌜ Inserted (now (a .entry)) (now (a .exit)) n k v ⌝ }
+// Moves what stands in the places from `low` up to `high` w places up.
+pub fn shift(a: &mut [u32], low: usize, high: usize, w: usize)
+    requires { ⌜ (low ≤ high) × (high + w ≤ length (now a)) × (length (now a) ≤ columns * mostSteps) ⌝ }
+    ensures { λ r. ⌜ Shifted (now (a .entry)) (now (a .exit)) low high w ⌝ }
 {
-    let mut j = n;
-    while k < j {
-        a[j] = a[j - 1];
+    let mut j = high;
+    while low < j {
+        a[j + w - 1] = a[j - 1];
         j -= 1;
     }
-    a[k] = v;
 }
 
-// Adds x in the places from i up to j.
-pub fn raise(a: &mut [u32; 362], i: usize, j: usize, x: u32)
-    requires { ⌜ (length (now a) ≡ 362) × (i ≤ j) × (j ≤ 362) × ((m : ℕ) → m < j → getD (now a) m 0 + x < 2 ^ 32) ⌝ }
-    ensures { λ r. ⌜ Raised (now (a .entry)) (now (a .exit)) i j x ⌝ }
+// One more on the line in the steps from i up to j.
+pub fn raise(counts: &mut [u32; COLUMNS * STEPS], line: usize, i: usize, j: usize)
+    requires { ⌜ (length (now counts) ≡ columns * mostSteps) × IsLine line × (i ≤ j) × (j ≤ mostSteps) × ((m : ℕ) → m < j → lineIn (now counts) line m + 1 < 2 ^ 32) ⌝ }
+    ensures { λ r. ⌜ RaisedIn (now (counts .entry)) (now (counts .exit)) line i j ⌝ }
 {
     let mut k = i;
     while k < j {
-        a[k] = a[k] + x;
+        let p = COLUMNS * k + line - 1;
+        counts[p] = counts[p] + 1;
         k += 1;
     }
 }

@@ -1,4 +1,4 @@
--- The bytes of a line that is cut off, moved to the front of the buffer one by one.
+-- The bytes of a request that is cut off, moved to the front of the buffer one by one.
 use mathlib.Core.Path.{_≡_, refl, sym, ap, _∙_}
 use mathlib.Core.List.{List, [], _∷_, _++_}
 use Prim.Native.Nat.{ℕ, suc, _+_, _-_, _≤_, _<_}

@@ -1,6 +1,7 @@
 -- Texts that are put into a buffer one after another.
 use mathlib.Core.Path.{_≡_, refl, sym, ap, _∙_}
 use mathlib.Core.List.{List, [], _∷_, _++_, append-assoc, append-nil}
+use mathlib.Core.Logic.{_⊎_, ⊎-elim}
 use Prim.Native.Nat.{ℕ, zero, suc, _+_, _/_, _%_, _^_, _≤_, _<_}
 use native.Mathlib.Nat.{add-zero, add-suc, suc-add}
 use native.Mathlib.Numerals.{add-one}
@@ -9,9 +10,15 @@ use lib.ListN.{length, take, getD, set, length-append}
 use lib.Seq.{sets, length-sets, take-suc, take-length}
 use Rattle.protocol.specs.Numbers.{decimal}
 use Rattle.protocol.proofs.Values.{decimal-small, decimal-more}
-use Rattle.protocol.specs.Answers.{Printed, field, spaced, listed}
+use Rattle.protocol.specs.Answers.{Printed, field, spaced, listed, answerText}
+use Rattle.station.specs.Answers.{enquiryAnswer}
+use Rattle.station.specs.declared.enquiry.EnquiryAnswer.{EnquiryAnswer}
+use Rattle.station.proofs.enquiry.EnquiryAnswer.{the-type}
+use Rattle.station.specs.declared.enquiry.EnquiryAnswer.the-variants.{Waiting, Charging, Refused}
+use types.Run.{OneOf}
+use denote.Enum.Declared.{tagOf}
 
-sets-join : (l : List ℕ) (i : ℕ) (xs ys : List ℕ) → sets l i (xs ++ ys) ≡ sets (sets l i xs) (i + length xs) ys
+pub sets-join : (l : List ℕ) (i : ℕ) (xs ys : List ℕ) → sets l i (xs ++ ys) ≡ sets (sets l i xs) (i + length xs) ys
 sets-join l i [] ys = rw (add-zero i)
 sets-join l i (x ∷ xs) ys = rw (sets-join (set l i x) (suc i) xs ys, add-suc i (length xs), suc-add i (length xs))
 
@@ -68,3 +75,24 @@ pub listed-more :
     (list : List ℕ) (i : ℕ) → i < length list → listed (take (i + 1) list) ≡ listed (take i list) ++ spaced (getD list i 0)
 listed-more list i h =
     rw (add-one i, take-suc list i 0 h, listed-join (take i list) (getD list i 0 ∷ []), append-nil (spaced (getD list i 0)))
+
+-- An enquiry's answer
+
+neither : (x k l : ℕ) → (x ≡ k → ⊥) → (x ≡ l → ⊥) → (x ≡ k) ⊎ (x ≡ l) → ⊥
+neither x k l f g h = ⊎-elim f g h
+
+-- what is neither waiting nor charging is refused
+pub refused-left :
+    (a : EnquiryAnswer) → OneOf (1 ∷ 2 ∷ []) (tagOf the-type a) → OneOf (0 ∷ 2 ∷ []) (tagOf the-type a) → a ≡ Refused
+refused-left (Waiting start) p q = absurd (neither 0 1 2 (λ e. omega arith) (λ e. omega arith) p)
+refused-left (Charging start end) p q = absurd (neither 1 0 2 (λ e. omega arith) (λ e. omega arith) q)
+refused-left Refused p q = refl
+
+-- nothing of the lent list is printed
+pub enquiry-line :
+    (a : EnquiryAnswer) (list : List ℕ) {before : List ℕ} {at : ℕ} {after : List ℕ} {next : ℕ}
+    → Printed (answerText (enquiryAnswer a) []) before at after next → Printed (answerText (enquiryAnswer a) list) before at after next
+unfolding answerText
+enquiry-line (Waiting start) list p = p
+enquiry-line (Charging start end) list p = p
+enquiry-line Refused list p = p

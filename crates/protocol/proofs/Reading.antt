@@ -1,4 +1,4 @@
--- A line as it is read: its numbers, from the left, into the lent list; its call by name; the line as a whole.
+-- A request as it is read: its numbers, from the left, into the lent list; its call by name; the request as a whole.
 use mathlib.Core.Path.{_≡_, refl, sym, ap, _∙_}
 use mathlib.Core.Bool.{true, false}
 use mathlib.Core.List.{List, [], _∷_, _++_, append-assoc, append-nil}
@@ -7,41 +7,51 @@ use native.Mathlib.Numerals.{add-one}
 use native.Mathlib.Omega.{arith}
 use borrow.Author.Tests.{lt-ltb, le-ltb, eq-eqb, ne-eqb}
 use lib.Dec.{ltb}
-use lib.ListN.{length, take, getD, set}
-use lib.Seq.{slice, take-length, take-suc-set, getD-take}
+use lib.ListN.{length, take, getD, set, length-set}
+use lib.Seq.{slice, sets, take-length, take-take, length-take-le, take-suc-set}
 use Rattle.protocol.specs.Numbers.{numberOf}
 use Rattle.protocol.specs.Words.{split, partsAfter, PartEnd, named}
-use Rattle.protocol.specs.Lines.{
+use Rattle.protocol.specs.Requests.{
   nothing,
   error,
   Numbers,
   numbers,
   wrong,
-  known,
-  neededBy,
-  allowedBy,
+  taken,
   followed,
   readNumbers,
-  numbersRead,
-  Enough,
-  callOf,
-  lineOf,
+  before,
+  valuesRead,
   readCall,
-  readWords,
+  callValues,
   passedOver,
-  readLine,
+  byName,
+  byKind,
+  readRequest,
+  requestValues,
   meaning,
-  OfferFits,
+  Fits,
+  Calls,
+  TakesNumbers,
+  Asks,
 }
+use Rattle.protocol.proofs.Printing.{sets-join}
 use Rattle.protocol.proofs.Splitting.{first-part}
 use Rattle.protocol.specs.declared.number.Reason.{Reason}
 use Rattle.protocol.specs.declared.number.Reason.the-variants.{UnknownCall, MissingNumber, ExtraNumber, LineTooLong}
 use Rattle.protocol.specs.declared.number.Number.{Number}
 use Rattle.protocol.specs.declared.number.Number.the-variants.{Value, Wrong}
 use Rattle.protocol.specs.declared.word.CallName.{CallName}
-use Rattle.protocol.specs.declared.word.CallName.the-variants.{Open, Order, Move, Offer, Latest, Lines, Enquire, Unknown}
+use Rattle.protocol.specs.declared.request.Takes.the-variants.{Between, NoCall}
+use Rattle.protocol.specs.declared.request.Request as declared
+use Rattle.protocol.specs.declared.request.Request.the-variants as asked
 use Rattle.protocol.specs.declared.request.Numbers as code
-use Rattle.protocol.specs.declared.request.Numbers.the-variants as count
+use Rattle.protocol.specs.declared.request.Numbers.the-variants as told
+
+set-last :
+    (lent ns list : List ℕ) (count n : ℕ) → length ns ≡ count → list ≡ sets lent 0 ns
+    → set list count n ≡ sets lent 0 (ns ++ (n ∷ []))
+set-last lent ns list count n e w = let f : 0 + length ns ≡ count = omega arith in rw (sets-join lent 0 ns (n ∷ []), ← w, f)
 
 -- numbers in front of those that follow them
 abbrev pub after : List ℕ → Numbers → Numbers
@@ -52,155 +62,232 @@ one-more : (ns : List ℕ) (n : ℕ) (rest : Numbers) → after ns (followed (Va
 one-more ns n (numbers ms) = rw (append-assoc ns (n ∷ []) ms)
 one-more ns n (wrong reason) = refl
 
--- What is read of a line: the whole is the numbers in the list, and then those that follow the word that ends at `at`.
-pub record Reads (line : List ℕ) (from least most : ℕ) (list : List ℕ) (at count : ℕ) : Type 0 where
-  pub within : at ≤ length line
+-- What is read of a request: the whole is the numbers in the list, and then those that follow the word that ends at `at`.
+pub record Reads (text : List ℕ) (from least most : ℕ) (lent list : List ℕ) (at count : ℕ) : Type 0 where
+  pub within : at ≤ length text
   pub few : count ≤ most
+  pub long : length list ≡ length lent
+  pub written : list ≡ sets lent 0 (take count list)
+  pub values :
+      valuesRead most (partsAfter 32 text from (length text))
+      ≡ take count list ++ valuesRead (most - count) (partsAfter 32 text at (length text))
   pub whole :
-      readNumbers least most (partsAfter 32 line from (length line))
-      ≡ after (take count list) (readNumbers (least - count) (most - count) (partsAfter 32 line at (length line)))
+      readNumbers least most (partsAfter 32 text from (length text))
+      ≡ after (take count list) (readNumbers (least - count) (most - count) (partsAfter 32 text at (length text)))
 
-pub reads-none :
-    (line : List ℕ) (from least most : ℕ) (list : List ℕ) → from ≤ length line → Reads line from least most list from 0
-reads-none line from least most list h =
+pub reads-none : (text : List ℕ) (from least most : ℕ) (list : List ℕ) → from ≤ length text → Reads text from least most list list from 0
+reads-none text from least most list h =
     let p : least - 0 ≡ least = omega arith in
     let q : most - 0 ≡ most = omega arith in
     record {
       within = h;
       few = omega arith;
-      whole = rw (p, q) (sym (nothing (readNumbers least most (partsAfter 32 line from (length line)))));
+      long = refl;
+      written = refl;
+      values = rw q refl;
+      whole = rw (p, q) (sym (nothing (readNumbers least most (partsAfter 32 text from (length text)))));
     }
   where
     nothing : (r : Numbers) → after [] r ≡ r
     nothing (numbers ns) = refl
     nothing (wrong reason) = refl
 
-module _ {line : List ℕ} {from least most : ℕ} {list : List ℕ} {at count : ℕ} (r : Reads line from least most list at count) where
-  -- no word is left
-  pub reads-missing :
-      length line ≤ at → count < least
-      → readNumbers least most (partsAfter 32 line from (length line)) ≡ wrong MissingNumber
-  unfolding readNumbers
-  reads-missing h k = r .whole ∙ rw (le-ltb at (length line) h, lt-ltb 0 (least - count) (omega arith))
+module _ {text : List ℕ} {from least most : ℕ} {lent list : List ℕ} {at count : ℕ} (r : Reads text from least most lent list at count) where
+  abbrev words : List (List ℕ)
+  words = partsAfter 32 text from (length text)
 
-  pub reads-all :
-      length line ≤ at → least ≤ count
-      → readNumbers least most (partsAfter 32 line from (length line)) ≡ numbers (take count list)
+  -- no more numbers are read
+  list-done : valuesRead (most - count) (partsAfter 32 text at (length text)) ≡ [] → list ≡ sets lent 0 (valuesRead most words)
+  list-done e = r .written ∙ ap (sets lent 0) (sym (r .values ∙ ap (λ (x : List ℕ). take count list ++ x) e ∙ append-nil (take count list)))
+
+  -- no word is left
+  none-left : length text ≤ at → valuesRead (most - count) (partsAfter 32 text at (length text)) ≡ []
+  unfolding valuesRead
+  none-left h = rw (le-ltb at (length text) h)
+
+  pub reads-missing : length text ≤ at → count < least → TakesNumbers least most words lent list (told.Wrong MissingNumber)
   unfolding readNumbers
-  reads-all h k = r .whole ∙ rw (le-ltb at (length line) h, le-ltb 0 (least - count) (omega arith), append-nil (take count list))
+  reads-missing h k =
+      record {
+        numbers-are = sym (r .whole ∙ rw (le-ltb at (length text) h, lt-ltb 0 (least - count) (omega arith)));
+        few = tt;
+        list-is = list-done (none-left h);
+      }
+
+  pub reads-all : length text ≤ at → least ≤ count → TakesNumbers least most words lent list (told.Count count)
+  unfolding readNumbers
+  reads-all h k =
+      record {
+        numbers-are =
+            sym (r .whole ∙ rw (le-ltb at (length text) h, le-ltb 0 (least - count) (omega arith), append-nil (take count list)));
+        few = r .few;
+        list-is = list-done (none-left h);
+      }
 
   -- a word is left
-  module _ (h : at < length line) {end : ℕ} (p : PartEnd 32 line (at + 1) (length line) end) where
-    parts-left : partsAfter 32 line at (length line) ≡ slice (at + 1) end line ∷ partsAfter 32 line end (length line)
-    parts-left = rw (lt-ltb at (length line) h, ← add-one at) (p .parts)
+  module _ (h : at < length text) {end : ℕ} (p : PartEnd 32 text (at + 1) (length text) end) where
+    parts-left : partsAfter 32 text at (length text) ≡ slice (at + 1) end text ∷ partsAfter 32 text end (length text)
+    parts-left = rw (lt-ltb at (length text) h, ← add-one at) (p .parts)
 
-    reads-word :
-        count < most
-        → readNumbers least most (partsAfter 32 line from (length line))
-        ≡ after (take count list) (followed (numberOf (slice (at + 1) end line)) (readNumbers (least - count - 1) (most - (count + 1)) (partsAfter 32 line end (length line))))
-    unfolding readNumbers
-    reads-word k =
-        let e : most - count ≡ suc (most - (count + 1)) = omega arith in
-        r .whole ∙ rw (e, parts-left)
+    module _ (k : count < most) where
+      reads-word :
+          readNumbers least most words
+          ≡ after (take count list) (followed (numberOf (slice (at + 1) end text)) (readNumbers (least - count - 1) (most - (count + 1)) (partsAfter 32 text end (length text))))
+      unfolding readNumbers
+      reads-word =
+          let e : most - count ≡ suc (most - (count + 1)) = omega arith in
+          r .whole ∙ rw (e, parts-left)
 
-    pub reads-wrong :
-        (reason : Reason) → count < most → numberOf (slice (at + 1) end line) ≡ Wrong reason
-        → readNumbers least most (partsAfter 32 line from (length line)) ≡ wrong reason
-    reads-wrong reason k q = reads-word k ∙ rw q
+      value-word :
+          valuesRead (most - count) (partsAfter 32 text at (length text))
+          ≡ before (numberOf (slice (at + 1) end text)) (valuesRead (most - (count + 1)) (partsAfter 32 text end (length text)))
+      unfolding valuesRead
+      value-word =
+          let e : most - count ≡ suc (most - (count + 1)) = omega arith in
+          rw (e, parts-left)
 
-    pub reads-more :
-        (n : ℕ) → count < most → most ≤ length list → numberOf (slice (at + 1) end line) ≡ Value n
-        → Reads line from least most (set list count n) end (count + 1)
-    reads-more n k l q =
-        let e : least - count - 1 ≡ least - (count + 1) = omega arith in
-        let room : count < length list = omega arith in
-        record {
-          within = p .high;
-          few = omega arith;
-          whole = reads-word k ∙ rw (q, e, one-more, ← take-suc-set list count n room, ← add-one count);
-        }
+      pub reads-wrong :
+          (reason : Reason) → numberOf (slice (at + 1) end text) ≡ Wrong reason
+          → TakesNumbers least most words lent list (told.Wrong reason)
+      reads-wrong reason q =
+          record { numbers-are = sym (reads-word ∙ rw q); few = tt; list-is = list-done (value-word ∙ rw q) }
 
-  pub reads-extra :
-      at < length line → count ≡ most
-      → readNumbers least most (partsAfter 32 line from (length line)) ≡ wrong ExtraNumber
-  unfolding readNumbers
+      pub reads-more :
+          (n : ℕ) → most ≤ length list → numberOf (slice (at + 1) end text) ≡ Value n
+          → Reads text from least most lent (set list count n) end (count + 1)
+      reads-more n l q =
+          let e : least - count - 1 ≡ least - (count + 1) = omega arith in
+          let room : count < length list = omega arith in
+          let s : take (count + 1) (set list count n) ≡ take count list ++ (n ∷ []) =
+          rw (add-one count) (take-suc-set list count n room) in
+          record {
+            within = p .high;
+            few = omega arith;
+            long = simp length-set (r .long);
+            written = rw s (set-last lent (take count list) list count n (length-take-le count list (omega arith)) (r .written));
+            values = r .values ∙ rw (value-word, q, s, append-assoc (take count list) (n ∷ []));
+            whole = reads-word ∙ rw (q, e, one-more, s);
+          }
+
+  pub reads-extra : at < length text → count ≡ most → TakesNumbers least most words lent list (told.Wrong ExtraNumber)
+  unfolding readNumbers valuesRead
   reads-extra h e =
       let none : most - count ≡ 0 = omega arith in
-      r .whole ∙ rw (none, lt-ltb at (length line) h, first-part 32 (slice (suc at) (length line) line))
+      record {
+        numbers-are =
+            sym (r .whole ∙ rw (none, lt-ltb at (length text) h, first-part 32 (slice (suc at) (length text) text)));
+        few = tt;
+        list-is = list-done (rw (none, lt-ltb at (length text) h, first-part 32 (slice (suc at) (length text) text)));
+      }
 
 -- A call by its name
 
--- the numbers at the front of the list are those that were read
-call-told :
-    (name : CallName) (k : ℕ) (list : List ℕ) → neededBy name ≤ k
-    → meaning (lineOf name k list) list ≡ callOf name (take k list)
-call-told Open k list h = rw (getD-take k list 0 0 (omega arith), getD-take k list 1 0 (omega arith))
-call-told Order k list h =
-    rw (getD-take k list 0 0 (omega arith), getD-take k list 1 0 (omega arith), getD-take k list 2 0 (omega arith))
-call-told Move k list h = rw (getD-take k list 0 0 (omega arith), getD-take k list 1 0 (omega arith))
-call-told Offer k list h = refl
-call-told Latest k list h = refl
-call-told Lines k list h = rw (getD-take k list 0 0 (omega arith))
-call-told Enquire k list h = rw (getD-take k list 0 0 (omega arith))
-call-told Unknown k list h = refl
+-- a request means the same with the numbers that were read, and with the list at whose front they stand
+front-means :
+    (k : ℕ) (list : List ℕ) (r : declared.Request) → k ≤ length list → Fits (length (take k list)) r
+    → meaning r (take k list) ≡ meaning r list
+front-means k list asked.Nothing h f = refl
+front-means k list (asked.Open x) h f = refl
+front-means k list (asked.Call c starts places) h f =
+    rw (take-take starts k list (omega (arith, length-take-le k list h, f .0)))
+front-means k list (asked.Error reason) h f = refl
 
-pub call-unknown : (name : CallName) (words : List (List ℕ)) → known name ≡ false → readCall name words ≡ error UnknownCall
-unfolding readCall
-call-unknown name words e = rw e
+fits-more : (k : ℕ) (r : declared.Request) → k ≤ 2048 → Fits k r → Fits 2048 r
+fits-more k asked.Nothing h f = tt
+fits-more k (asked.Open x) h f = tt
+fits-more k (asked.Call c starts places) h f = (omega (arith, f .0), f .1)
+fits-more k (asked.Error reason) h f = tt
 
-module _ (name : CallName) (words : List (List ℕ)) {least most : ℕ} {read : code.Numbers} (list : List ℕ)
-    (k : known name ≡ true) (l : least ≡ neededBy name) (m : most ≡ allowedBy name)
-    (r : numbersRead read list ≡ readNumbers least most words) where
-  pub call-wrong : (reason : Reason) → read ≡ count.Wrong reason → error reason ≡ readCall name words
+-- a name that is none, numbers that are wrong, a call
+module _ (name : CallName) (words : List (List ℕ)) (list : List ℕ) where
+  pub call-unknown : taken name ≡ NoCall → Asks (readCall name words) (callValues name words) list list (asked.Error UnknownCall)
   unfolding readCall
-  call-wrong reason e = rw (k, ← l, ← m, ← r, e)
+  call-unknown e = record { request-is = rw e; fits = tt; list-is = rw e }
 
-  pub call-read : (n : ℕ) → read ≡ count.Count n → Enough least most read → meaning (lineOf name n list) list ≡ readCall name words
-  unfolding readCall
-  call-read n e enough =
-      let h : neededBy name ≤ n = rw (← l) ((rw e at enough) .0) in
-      rw (k, ← l, ← m, ← r, e) (call-told name n list h)
+  module _ {least most : ℕ} {read : code.Numbers} {after : List ℕ} (t : taken name ≡ Between least most)
+      (r : TakesNumbers least most words list after read) where
+    values-so : after ≡ sets list 0 (callValues name words)
+    values-so = rw t (r .list-is)
 
-offer-told : (name : CallName) (k : ℕ) (list : List ℕ) → k ≤ allowedBy name → OfferFits (lineOf name k list)
-offer-told Open k list h = tt
-offer-told Order k list h = tt
-offer-told Move k list h = tt
-offer-told Offer k list h = h
-offer-told Latest k list h = tt
-offer-told Lines k list h = tt
-offer-told Enquire k list h = tt
-offer-told Unknown k list h = tt
+    pub call-wrong : (reason : Reason) → read ≡ told.Wrong reason → Asks (readCall name words) (callValues name words) list after (asked.Error reason)
+    unfolding readCall
+    call-wrong reason e = record { request-is = rw (t, ← (r .numbers-are), e); fits = tt; list-is = values-so }
 
-pub offer-fits :
-    (name : CallName) (k : ℕ) (list : List ℕ) (least : ℕ) {most : ℕ} {read : code.Numbers}
-    → most ≡ allowedBy name → read ≡ count.Count k → Enough least most read → OfferFits (lineOf name k list)
-offer-fits name k list least m e enough = offer-told name k list (rw (← m) ((rw e at enough) .1))
+    pub call-read :
+        (k : ℕ) {q : declared.Request} → read ≡ told.Count k → k ≤ 2048 → k ≤ length after → Calls name (take k after) q
+        → Asks (readCall name words) (callValues name words) list after q
+    unfolding readCall
+    call-read k {q} e m h c =
+        record {
+          request-is = sym (front-means k after q h (c .call-fits)) ∙ c .call-is ∙ rw (t, ← (r .numbers-are), e);
+          fits = fits-more (length (take k after)) q (omega (arith, length-take-le k after h)) (c .call-fits);
+          list-is = values-so;
+        }
 
--- A line
+-- A request by its kind
 
-pub line-too-long : (line : List ℕ) → 4096 < length line → readLine line ≡ error LineTooLong
-unfolding readLine
-line-too-long line h = rw (lt-ltb 4096 (length line) h)
-
-pub line-empty : (line : List ℕ) → length line ≡ 0 → readLine line ≡ nothing
-unfolding readLine
-line-empty [] h = refl
-line-empty (b ∷ bs) h = absurd (omega arith)
-
-pub line-comment :
-    (line : List ℕ) → length line ≤ 4096 → (length line ≡ 0 → ⊥) → getD line 0 0 ≡ 35 → readLine line ≡ nothing
-unfolding readLine
-line-comment [] h some e = absurd (some refl)
-line-comment (b ∷ bs) h some e = rw (le-ltb 4096 (length (b ∷ bs)) h, eq-eqb b 35 e)
-
-not-passed : (line : List ℕ) → (length line ≡ 0 → ⊥) → (getD line 0 0 ≡ 35 → ⊥) → passedOver line ≡ false
+not-passed : (text : List ℕ) → (length text ≡ 0 → ⊥) → (getD text 0 0 ≡ 35 → ⊥) → passedOver text ≡ false
 not-passed [] some ne = absurd (some refl)
 not-passed (b ∷ bs) some ne = ne-eqb b 35 ne
 
-pub line-call :
-    (line : List ℕ) (end : ℕ) (name : CallName) → length line ≤ 4096 → (length line ≡ 0 → ⊥) → (getD line 0 0 ≡ 35 → ⊥)
-    → PartEnd 32 line 0 (length line) end → name ≡ named (take end line)
-    → readCall name (partsAfter 32 line end (length line)) ≡ readLine line
-unfolding readLine
-line-call line end name h some ne p e =
-    sym (rw (le-ltb 4096 (length line) h, not-passed line some ne) (ap readWords (ap (split 32) (sym (take-length line)) ∙ p .parts) ∙ rw e))
+module _ {A : Type 0} (long none : A) (of : CallName → List (List ℕ) → A) where
+  kind-long : (text : List ℕ) → 4096 < length text → byKind long none of text ≡ long
+  kind-long text h = rw (lt-ltb 4096 (length text) h)
+
+  kind-empty : (text : List ℕ) → length text ≡ 0 → byKind long none of text ≡ none
+  kind-empty [] h = refl
+  kind-empty (b ∷ bs) h = absurd (omega arith)
+
+  kind-comment :
+      (text : List ℕ) → length text ≤ 4096 → (length text ≡ 0 → ⊥) → getD text 0 0 ≡ 35 → byKind long none of text ≡ none
+  kind-comment [] h some e = absurd (some refl)
+  kind-comment (b ∷ bs) h some e = rw (le-ltb 4096 (length (b ∷ bs)) h, eq-eqb b 35 e)
+
+  kind-call :
+      (text : List ℕ) (end : ℕ) (name : CallName) → length text ≤ 4096 → (length text ≡ 0 → ⊥) → (getD text 0 0 ≡ 35 → ⊥)
+      → PartEnd 32 text 0 (length text) end → name ≡ named (take end text)
+      → of name (partsAfter 32 text end (length text)) ≡ byKind long none of text
+  kind-call text end name h some ne p e =
+      sym (rw (le-ltb 4096 (length text) h, not-passed text some ne) (ap (byName none of) (ap (split 32) (sym (take-length text)) ∙ p .parts) ∙ rw e))
+
+module _ (text list : List ℕ) where
+  pub text-too-long : 4096 < length text → Asks (readRequest text) (requestValues text) list list (asked.Error LineTooLong)
+  unfolding readRequest requestValues
+  text-too-long h =
+      record {
+        request-is = sym (kind-long (error LineTooLong) nothing readCall text h);
+        fits = tt;
+        list-is = rw (kind-long [] [] callValues text h);
+      }
+
+  pub text-empty : length text ≡ 0 → Asks (readRequest text) (requestValues text) list list asked.Nothing
+  unfolding readRequest requestValues
+  text-empty h =
+      record {
+        request-is = sym (kind-empty (error LineTooLong) nothing readCall text h);
+        fits = tt;
+        list-is = rw (kind-empty [] [] callValues text h);
+      }
+
+  module _ (h : length text ≤ 4096) (some : length text ≡ 0 → ⊥) where
+    pub text-comment : getD text 0 0 ≡ 35 → Asks (readRequest text) (requestValues text) list list asked.Nothing
+    unfolding readRequest requestValues
+    text-comment e =
+        record {
+          request-is = sym (kind-comment (error LineTooLong) nothing readCall text h some e);
+          fits = tt;
+          list-is = rw (kind-comment [] [] callValues text h some e);
+        }
+
+    pub text-call :
+        (end : ℕ) (name : CallName) {after : List ℕ} {l : declared.Request} → (getD text 0 0 ≡ 35 → ⊥)
+        → PartEnd 32 text 0 (length text) end → name ≡ named (take end text)
+        → Asks (readCall name (partsAfter 32 text end (length text))) (callValues name (partsAfter 32 text end (length text))) list after l
+        → Asks (readRequest text) (requestValues text) list after l
+    unfolding readRequest requestValues
+    text-call end name ne p e a =
+        record {
+          request-is = a .request-is ∙ kind-call (error LineTooLong) nothing readCall text end name h some ne p e;
+          fits = a .fits;
+          list-is = a .list-is ∙ ap (sets list 0) (kind-call [] [] callValues text end name h some ne p e);
+        }

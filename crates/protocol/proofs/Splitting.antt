@@ -35,7 +35,7 @@ first-part b (x ∷ bs) = by-test (eqb x b) refl (first-part b bs)
     by-test false e h = rw (e, h, leb·suc-suc (suc (indexOf b bs)) (length bs))
 
 -- a part of a part
-take-slice : (from k to : ℕ) (l : List ℕ) → from + k ≤ to → take k (slice from to l) ≡ slice from (from + k) l
+pub take-slice : (from k to : ℕ) (l : List ℕ) → from + k ≤ to → take k (slice from to l) ≡ slice from (from + k) l
 take-slice zero k to l h = let e : 0 + k ≡ k = omega arith in rw e (take-take k to l (omega arith))
 take-slice (suc from) k zero l h = absurd (omega arith)
 take-slice (suc from) k (suc to) [] h = rw (suc-add from k) (nothing k)

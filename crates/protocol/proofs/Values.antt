@@ -1,4 +1,4 @@
--- The value of a word, digit by digit, over a part of a line; and that the digits of a number are read back as that number.
+-- The value of a word, digit by digit, over a part of a text; and that the digits of a number are read back as that number.
 use mathlib.Core.Path.{_≡_, refl, sym, ap, _∙_}
 use mathlib.Core.Logic.{_⊎_, inl, inr, ⊎-elim}
 use mathlib.Core.Bool.{cond}
@@ -32,42 +32,42 @@ digit-kept n d bs =
     (λ h. rw (le-ltb n 4294967296 h) (too-large-stays (10 * n + d) n bs (omega arith) h))
     (below-or-not n 4294967296)
 
-pub no-word : (from to : ℕ) (line : List ℕ) → from ≡ to → numberOf (slice from to line) ≡ Wrong NotANumber
+pub no-word : (from to : ℕ) (text : List ℕ) → from ≡ to → numberOf (slice from to text) ≡ Wrong NotANumber
 unfolding numberOf
-no-word from to line e = rw (e, slice-empty to line)
+no-word from to text e = rw (e, slice-empty to text)
 
 pub some-word :
-    (from to : ℕ) (line : List ℕ) → from < to → to ≤ length line
-    → numberOf (slice from to line) ≡ valueFrom 0 (slice from to line)
+    (from to : ℕ) (text : List ℕ) → from < to → to ≤ length text
+    → numberOf (slice from to text) ≡ valueFrom 0 (slice from to text)
 unfolding numberOf
-some-word from to line h k = rw (slice-cons from to line 0 h k)
+some-word from to text h k = rw (slice-cons from to text 0 h k)
 
-module _ (n i to : ℕ) (line : List ℕ) (h : i < to) (k : to ≤ length line) where
+module _ (n i to : ℕ) (text : List ℕ) (h : i < to) (k : to ≤ length text) where
   pub a-digit :
-      48 ≤ getD line i 0 → getD line i 0 ≤ 57
-      → valueFrom n (slice i to line) ≡ valueFrom (10 * n + (getD line i 0 - 48)) (slice (i + 1) to line)
+      48 ≤ getD text i 0 → getD text i 0 ≤ 57
+      → valueFrom n (slice i to text) ≡ valueFrom (10 * n + (getD text i 0 - 48)) (slice (i + 1) to text)
   unfolding valueFrom
-  a-digit p q = rw (slice-cons i to line 0 h k, le-leb 48 (getD line i 0) p, le-leb (getD line i 0) 57 q, add-one i)
+  a-digit p q = rw (slice-cons i to text 0 h k, le-leb 48 (getD text i 0) p, le-leb (getD text i 0) 57 q, add-one i)
 
-  pub below-digits : getD line i 0 < 48 → valueFrom n (slice i to line) ≡ Wrong NotANumber
+  pub below-digits : getD text i 0 < 48 → valueFrom n (slice i to text) ≡ Wrong NotANumber
   unfolding valueFrom
-  below-digits p = rw (slice-cons i to line 0 h k, lt-leb 48 (getD line i 0) p)
+  below-digits p = rw (slice-cons i to text 0 h k, lt-leb 48 (getD text i 0) p)
 
-  pub above-digits : 57 < getD line i 0 → valueFrom n (slice i to line) ≡ Wrong NotANumber
+  pub above-digits : 57 < getD text i 0 → valueFrom n (slice i to text) ≡ Wrong NotANumber
   unfolding valueFrom
   above-digits p =
-      let q : 48 ≤ getD line i 0 = omega arith in
-      rw (slice-cons i to line 0 h k, le-leb 48 (getD line i 0) q, lt-leb (getD line i 0) 57 p)
+      let q : 48 ≤ getD text i 0 = omega arith in
+      rw (slice-cons i to text 0 h k, le-leb 48 (getD text i 0) q, lt-leb (getD text i 0) 57 p)
 
 -- no digit is left
-module _ (n i to : ℕ) (line : List ℕ) (h : i ≤ to) (k : to ≤ i) where
-  pub value-left : n ≤ 4294967295 → valueFrom n (slice i to line) ≡ Value n
+module _ (n i to : ℕ) (text : List ℕ) (h : i ≤ to) (k : to ≤ i) where
+  pub value-left : n ≤ 4294967295 → valueFrom n (slice i to text) ≡ Value n
   unfolding valueFrom
-  value-left l = rw (le-antisymm h k, slice-empty to line, lt-ltb n 4294967296 (omega arith))
+  value-left l = rw (le-antisymm h k, slice-empty to text, lt-ltb n 4294967296 (omega arith))
 
-  pub too-large-left : 4294967295 < n → valueFrom n (slice i to line) ≡ Wrong NumberTooLarge
+  pub too-large-left : 4294967295 < n → valueFrom n (slice i to text) ≡ Wrong NumberTooLarge
   unfolding valueFrom
-  too-large-left l = rw (le-antisymm h k, slice-empty to line, le-ltb n 4294967296 (omega arith))
+  too-large-left l = rw (le-antisymm h k, slice-empty to text, le-ltb n 4294967296 (omega arith))
 
 -- The digits of a number
 

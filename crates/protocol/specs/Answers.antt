@@ -1,4 +1,4 @@
--- The answer lines as bytes, and what it means that a text is printed into a buffer.
+-- The answers as text, and what it means that a text is printed into a buffer.
 use Prim.Native.Nat.{ℕ, _+_, _*_, _≤_}
 use mathlib.Core.Path.{_≡_}
 use mathlib.Core.List.{List, [], _∷_, _++_}
@@ -30,30 +30,47 @@ listed (n ∷ ns) = spaced n ++ listed ns
 abbrev pub lineFeed : List ℕ
 lineFeed = 10 ∷ []
 
+-- one, two and four numbers, each after a text, and the line feed
+abbrev pub one : List ℕ → ℕ → List ℕ
+one text n = field text n ++ lineFeed
+
+abbrev pub two : List ℕ → ℕ → List ℕ → ℕ → List ℕ
+two text n next m = field text n ++ one next m
+
+abbrev pub four : List ℕ → ℕ → ℕ → ℕ → ℕ → List ℕ
+four text a b c d = field text a ++ (spaced b ++ two (32 ∷ []) c (32 ∷ []) d)
+
 -- an answer, with the list that was lent to the call: a move's pairs stand at its front
-unfoldable pub answerLine : Answer → List ℕ → List ℕ
+unfoldable pub answerText : Answer → List ℕ → List ℕ
 -- "refused "
-answerLine (refused k) list = field (114 ∷ 101 ∷ 102 ∷ 117 ∷ 115 ∷ 101 ∷ 100 ∷ 32 ∷ []) k ++ lineFeed
+answerText (refused k) list = one (114 ∷ 101 ∷ 102 ∷ 117 ∷ 115 ∷ 101 ∷ 100 ∷ 32 ∷ []) k
 -- "open 0 "
-answerLine (opened bound) list = field (111 ∷ 112 ∷ 101 ∷ 110 ∷ 32 ∷ 48 ∷ 32 ∷ []) bound ++ lineFeed
+answerText (opened bound) list = one (111 ∷ 112 ∷ 101 ∷ 110 ∷ 32 ∷ 48 ∷ 32 ∷ []) bound
 -- "ticket ", " start "
-answerLine (ordered ticket start) list =
-    field (116 ∷ 105 ∷ 99 ∷ 107 ∷ 101 ∷ 116 ∷ 32 ∷ []) ticket
-    ++ (field (32 ∷ 115 ∷ 116 ∷ 97 ∷ 114 ∷ 116 ∷ 32 ∷ []) start ++ lineFeed)
+answerText (ordered ticket start) list =
+    two (116 ∷ 105 ∷ 99 ∷ 107 ∷ 101 ∷ 116 ∷ 32 ∷ []) ticket (32 ∷ 115 ∷ 116 ∷ 97 ∷ 114 ∷ 116 ∷ 32 ∷ []) start
 -- "moved ", " dropped "
-answerLine (moved reported dropped) list =
+answerText (moved reported dropped) list =
     field (109 ∷ 111 ∷ 118 ∷ 101 ∷ 100 ∷ 32 ∷ []) reported
     ++ (field (32 ∷ 100 ∷ 114 ∷ 111 ∷ 112 ∷ 112 ∷ 101 ∷ 100 ∷ 32 ∷ []) dropped
     ++ (listed (take (2 * reported) list) ++ lineFeed))
 -- "plan "
-answerLine (planned cause before after rounds) list =
-    field (112 ∷ 108 ∷ 97 ∷ 110 ∷ 32 ∷ []) cause
-    ++ (spaced before ++ (spaced after ++ (spaced rounds ++ lineFeed)))
+answerText (planned cause before after rounds) list = four (112 ∷ 108 ∷ 97 ∷ 110 ∷ 32 ∷ []) cause before after rounds
 -- "waiting "
-answerLine (waiting start) list = field (119 ∷ 97 ∷ 105 ∷ 116 ∷ 105 ∷ 110 ∷ 103 ∷ 32 ∷ []) start ++ lineFeed
+answerText (waiting start) list = one (119 ∷ 97 ∷ 105 ∷ 116 ∷ 105 ∷ 110 ∷ 103 ∷ 32 ∷ []) start
 -- "charging "
-answerLine (charging start end) list =
-    field (99 ∷ 104 ∷ 97 ∷ 114 ∷ 103 ∷ 105 ∷ 110 ∷ 103 ∷ 32 ∷ []) start ++ (spaced end ++ lineFeed)
+answerText (charging start end) list =
+    two (99 ∷ 104 ∷ 97 ∷ 114 ∷ 103 ∷ 105 ∷ 110 ∷ 103 ∷ 32 ∷ []) start (32 ∷ []) end
+
+-- how many pairs an answer reports
+abbrev pub pairsOf : Answer → ℕ
+pairsOf (refused k) = 0
+pairsOf (opened d) = 0
+pairsOf (ordered t u) = 0
+pairsOf (moved k d) = k
+pairsOf (planned c b a k) = 0
+pairsOf (waiting u) = 0
+pairsOf (charging u v) = 0
 
 abbrev pub reasonText : Reason → List ℕ
 -- "unknown call"
@@ -72,5 +89,5 @@ reasonText ExtraNumber = 101 ∷ 120 ∷ 116 ∷ 114 ∷ 97 ∷ 32 ∷ 110 ∷ 1
 reasonText LineTooLong = 108 ∷ 105 ∷ 110 ∷ 101 ∷ 32 ∷ 116 ∷ 111 ∷ 111 ∷ 32 ∷ 108 ∷ 111 ∷ 110 ∷ 103 ∷ []
 
 -- "error ", and the reason
-abbrev pub errorLine : Reason → List ℕ
-errorLine reason = (101 ∷ 114 ∷ 114 ∷ 111 ∷ 114 ∷ 32 ∷ []) ++ (reasonText reason ++ lineFeed)
+abbrev pub errorText : Reason → List ℕ
+errorText reason = (101 ∷ 114 ∷ 114 ∷ 111 ∷ 114 ∷ 32 ∷ []) ++ (reasonText reason ++ lineFeed)

@@ -1,4 +1,4 @@
 pub mod Numbers
 pub mod Words
-pub mod Lines
+pub mod Requests
 pub mod Answers

@@ -1,4 +1,4 @@
--- The words of a line, and the calls that they name. Words stand between single spaces, so two spaces have an empty word between them.
+-- The words of a request, and the calls that they name. Words stand between single spaces, so two spaces have an empty word between them.
 use Prim.Native.Nat.{ℕ, suc, _≤_}
 use mathlib.Core.Path.{_≡_}
 use mathlib.Core.Bool.{Bool, true, false, cond}
@@ -13,7 +13,7 @@ abbrev pub joined : List ℕ → List (List ℕ) → List (List ℕ)
 joined text [] = text ∷ []
 joined text (part ∷ parts) = (text ++ part) ∷ parts
 
--- the parts between the separators: words at spaces, lines at line feeds
+-- the parts between the separators: words at spaces, requests at line feeds
 unfoldable pub split : ℕ → List ℕ → List (List ℕ)
 split separator [] = [] ∷ []
 split separator (b ∷ bs) = cond (eqb b separator) ([] ∷ split separator bs) (joined (b ∷ []) (split separator bs))

@@ -1,49 +1,70 @@
-// The answer lines, each with its line feed. A buffer has room for a line where 96 bytes are left, and 21 more for each number of a list.
+// The answers as text, each with its line feed. A buffer has room for an answer where 96 bytes are left, and 42 more for each pair
+// that a clock move reports.
 ghost use Prim.Native.Nat.{_+_, _*_, _≤_};
 ghost use mathlib.Core.List.{[]};
 ghost use lib.ListN.{length};
-ghost use Rattle.rules.specs.Calls.{refused, opened, ordered, moved, planned, waiting, charging};
-ghost use Rattle.protocol.specs.Answers.{Printed, answerLine, errorLine};
+ghost use Rattle.rules.specs.Calls.{refused, moved as movedAnswer};
+ghost use Rattle.station.specs.Answers.{openAnswer, enquiryAnswer};
+ghost use Rattle.station.specs.Applied.{answerOf};
+ghost use Rattle.protocol.specs.Answers.{Printed, one, two, four, answerText, pairsOf, errorText};
 use crate::number::Reason;
 use crate::printer::print_field;
 use crate::printer::print_list;
 use crate::printer::print_text;
+use station::calls::Answer;
+use station::clock::MoveAnswer;
+use station::enquiry::EnquiryAnswer;
+use station::open::OpenAnswer;
+use station::order::OrderAnswer;
+use station::plan::PlanAnswer;
 
-pub fn print_refused(number: u32, buffer: &mut [u8], at: usize) -> usize
-    requires { ⌜ at + 96 ≤ length (now buffer) ⌝ }
-    ensures { λ r. ⌜ Printed (answerLine (refused number) []) (now (buffer .entry)) at (now (buffer .exit)) r ⌝ }
+// One number, after a text.
+fn print_one(text: &[u8], n: u64, buffer: &mut [u8], at: usize) -> usize
+    requires { ⌜ at + (length (now text) + 21) ≤ length (now buffer) ⌝ }
+    ensures { λ r. ⌜ Printed (one (now (text .entry)) n) (now (buffer .entry)) at (now (buffer .exit)) r ⌝ }
 {
-    let a = print_field(b"refused ", number as u64, buffer, at);
+    let a = print_field(text, n, buffer, at);
     print_text(b"\n", buffer, a)
 }
 
-pub fn print_opened(bound: u32, buffer: &mut [u8], at: usize) -> usize
-    requires { ⌜ at + 96 ≤ length (now buffer) ⌝ }
-    ensures { λ r. ⌜ Printed (answerLine (opened bound) []) (now (buffer .entry)) at (now (buffer .exit)) r ⌝ }
+// Two numbers, each after a text.
+fn print_two(text: &[u8], n: u64, next: &[u8], m: u64, buffer: &mut [u8], at: usize) -> usize
+    requires { ⌜ at + (length (now text) + (length (now next) + 41)) ≤ length (now buffer) ⌝ }
+    ensures { λ r. ⌜ Printed (two (now (text .entry)) n (now (next .entry)) m) (now (buffer .entry)) at (now (buffer .exit)) r ⌝ }
 {
-    let a = print_field(b"open 0 ", bound as u64, buffer, at);
-    print_text(b"\n", buffer, a)
+    let a = print_field(text, n, buffer, at);
+    print_one(next, m, buffer, a)
 }
 
-pub fn print_ordered(ticket: u32, start: u32, buffer: &mut [u8], at: usize) -> usize
-    requires { ⌜ at + 96 ≤ length (now buffer) ⌝ }
-    ensures { λ r. ⌜ Printed (answerLine (ordered ticket start) []) (now (buffer .entry)) at (now (buffer .exit)) r ⌝ }
-{
-    let a = print_field(b"ticket ", ticket as u64, buffer, at);
-    let b = print_field(b" start ", start as u64, buffer, a);
-    print_text(b"\n", buffer, b)
-}
-
-// The reported pairs stand at the front of the list that was lent to the move.
-pub fn print_moved(
-    reported: usize,
-    dropped: usize,
-    list: &[u32],
+// Four numbers, the first after a text and each other after a space.
+fn print_four(
+    text: &[u8],
+    first: u64,
+    second: u64,
+    third: u64,
+    fourth: u64,
     buffer: &mut [u8],
     at: usize,
 ) -> usize
+    requires { ⌜ at + (length (now text) + 84) ≤ length (now buffer) ⌝ }
+    ensures { λ r. ⌜ Printed (four (now (text .entry)) first second third fourth) (now (buffer .entry)) at (now (buffer .exit)) r ⌝ }
+{
+    let a = print_field(text, first, buffer, at);
+    let b = print_field(b" ", second, buffer, a);
+    print_two(b" ", third, b" ", fourth, buffer, b)
+}
+
+fn print_refused(number: u32, buffer: &mut [u8], at: usize) -> usize
+    requires { ⌜ at + 96 ≤ length (now buffer) ⌝ }
+    ensures { λ r. ⌜ Printed (answerText (refused number) []) (now (buffer .entry)) at (now (buffer .exit)) r ⌝ }
+{
+    print_one(b"refused ", number as u64, buffer, at)
+}
+
+// The reported pairs stand at the front of the list that was lent to the move.
+fn print_moved(reported: usize, dropped: usize, list: &[u32], buffer: &mut [u8], at: usize) -> usize
     requires { ⌜ (2 * reported ≤ length (now list)) × (at + (96 + 42 * reported) ≤ length (now buffer)) ⌝ }
-    ensures { λ r. ⌜ Printed (answerLine (moved reported dropped) (now (list .entry))) (now (buffer .entry)) at (now (buffer .exit)) r ⌝ }
+    ensures { λ r. ⌜ Printed (answerText (movedAnswer reported dropped) (now (list .entry))) (now (buffer .entry)) at (now (buffer .exit)) r ⌝ }
 {
     let a = print_field(b"moved ", reported as u64, buffer, at);
     let b = print_field(b" dropped ", dropped as u64, buffer, a);
@@ -52,44 +73,80 @@ pub fn print_moved(
     print_text(b"\n", buffer, d)
 }
 
-pub fn print_planned(
-    cause: u32,
-    before: u64,
-    after: u64,
-    rounds: u32,
-    buffer: &mut [u8],
-    at: usize,
-) -> usize
+fn print_enquiry(answer: EnquiryAnswer, buffer: &mut [u8], at: usize) -> usize
     requires { ⌜ at + 96 ≤ length (now buffer) ⌝ }
-    ensures { λ r. ⌜ Printed (answerLine (planned cause before after rounds) []) (now (buffer .entry)) at (now (buffer .exit)) r ⌝ }
+    ensures { λ r. ⌜ Printed (answerText (enquiryAnswer answer) []) (now (buffer .entry)) at (now (buffer .exit)) r ⌝ }
 {
-    let a = print_field(b"plan ", cause as u64, buffer, at);
-    let b = print_field(b" ", before, buffer, a);
-    let d = print_field(b" ", after, buffer, b);
-    let e = print_field(b" ", rounds as u64, buffer, d);
-    print_text(b"\n", buffer, e)
+    if let EnquiryAnswer::Waiting(start) = answer {
+        return print_one(b"waiting ", start as u64, buffer, at);
+    }
+    let EnquiryAnswer::Charging { start, end } = answer else {
+        return print_refused(15, buffer, at);
+    };
+    print_two(b"charging ", start as u64, b" ", end as u64, buffer, at)
 }
 
-pub fn print_waiting(start: u32, buffer: &mut [u8], at: usize) -> usize
+pub fn print_opening(answer: OpenAnswer, buffer: &mut [u8], at: usize) -> usize
     requires { ⌜ at + 96 ≤ length (now buffer) ⌝ }
-    ensures { λ r. ⌜ Printed (answerLine (waiting start) []) (now (buffer .entry)) at (now (buffer .exit)) r ⌝ }
+    ensures { λ r. ⌜ Printed (answerText (openAnswer answer) []) (now (buffer .entry)) at (now (buffer .exit)) r ⌝ }
 {
-    let a = print_field(b"waiting ", start as u64, buffer, at);
-    print_text(b"\n", buffer, a)
+    match answer {
+        OpenAnswer::Opened(bound) => print_one(b"open 0 ", bound as u64, buffer, at),
+        OpenAnswer::Refused(number) => print_refused(number, buffer, at),
+    }
 }
 
-pub fn print_charging(start: u32, end: u32, buffer: &mut [u8], at: usize) -> usize
-    requires { ⌜ at + 96 ≤ length (now buffer) ⌝ }
-    ensures { λ r. ⌜ Printed (answerLine (charging start end) []) (now (buffer .entry)) at (now (buffer .exit)) r ⌝ }
+// The answer of any call, with the list that was lent for its report.
+pub fn print_answer(answer: Answer, list: &[u32], buffer: &mut [u8], at: usize) -> usize
+    requires { ⌜ (2 * pairsOf (answerOf answer) ≤ length (now list)) × (at + (96 + 42 * pairsOf (answerOf answer)) ≤ length (now buffer)) ⌝ }
+    ensures { λ r. ⌜ Printed (answerText (answerOf answer) (now (list .entry))) (now (buffer .entry)) at (now (buffer .exit)) r ⌝ }
 {
-    let a = print_field(b"charging ", start as u64, buffer, at);
-    let b = print_field(b" ", end as u64, buffer, a);
-    print_text(b"\n", buffer, b)
+    match answer {
+        Answer::Order(order) => match order {
+            OrderAnswer::Ordered { ticket, start } => print_two(
+                b"ticket ",
+                ticket as u64,
+                b" start ",
+                start as u64,
+                buffer,
+                at,
+            ),
+            OrderAnswer::Refused(number) => print_refused(number, buffer, at),
+        },
+        Answer::Move(moved) => match moved {
+            MoveAnswer::Moved { reported, dropped } => print_moved(
+                reported,
+                dropped,
+                list,
+                buffer,
+                at,
+            ),
+            MoveAnswer::Refused(number) => print_refused(number, buffer, at),
+        },
+        Answer::Plan(plan) => match plan {
+            PlanAnswer::Planned {
+                cause,
+                before,
+                after,
+                rounds,
+            } => print_four(
+                b"plan ",
+                cause as u64,
+                before,
+                after,
+                rounds as u64,
+                buffer,
+                at,
+            ),
+            PlanAnswer::Refused(number) => print_refused(number, buffer, at),
+        },
+        Answer::Enquiry(enquiry) => print_enquiry(enquiry, buffer, at),
+    }
 }
 
 pub fn print_error(reason: Reason, buffer: &mut [u8], at: usize) -> usize
     requires { ⌜ at + 96 ≤ length (now buffer) ⌝ }
-    ensures { λ r. ⌜ Printed (errorLine reason) (now (buffer .entry)) at (now (buffer .exit)) r ⌝ }
+    ensures { λ r. ⌜ Printed (errorText reason) (now (buffer .entry)) at (now (buffer .exit)) r ⌝ }
 {
     match reason {
         Reason::UnknownCall => print_text(b"error unknown call\n", buffer, at),

@@ -1,4 +1,4 @@
-// A block of input, of which the last line may be cut off.
+// A block of input, of which the last request may be cut off.
 ghost use mathlib.Core.Path.{_≡_};
 ghost use mathlib.Core.List.{_++_};
 ghost use Prim.Native.Nat.{_-_, _≤_};

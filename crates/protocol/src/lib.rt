@@ -1,4 +1,4 @@
-// The line protocol of the station: a call is read from a line of bytes, an answer is printed as one.
+// The text protocol of the station: a call is read from a line of text, an answer is printed as one.
 //
 // No contract speaks of input or output: everything here is a function on slices.
 mod answer;
@@ -8,18 +8,13 @@ mod printer;
 mod request;
 mod word;
 
-pub use answer::print_charging;
+pub use answer::print_answer;
 pub use answer::print_error;
-pub use answer::print_moved;
-pub use answer::print_opened;
-pub use answer::print_ordered;
-pub use answer::print_planned;
-pub use answer::print_refused;
-pub use answer::print_waiting;
+pub use answer::print_opening;
 pub use block::carry;
 pub use number::Reason;
-pub use request::Line;
+pub use request::Request;
 pub use request::fill_lent;
 pub use request::places_lent;
-pub use request::read_line;
+pub use request::read_request;
 pub use word::part_end;

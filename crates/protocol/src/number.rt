@@ -1,4 +1,4 @@
-// A decimal number of 32 bits, read from a part of a line.
+// A decimal number of 32 bits, read from a part of a text.
 ghost use mathlib.Core.Path.{_≡_};
 ghost use mathlib.Core.Bool.{cond};
 ghost use Prim.Native.Nat.{_+_, _*_, _≤_, _<_};
@@ -7,7 +7,7 @@ ghost use lib.ListN.{length};
 ghost use lib.Seq.{slice};
 ghost use Rattle.protocol.specs.Numbers.{numberOf};
 
-// Why a line is no call.
+// Why a request is no call.
 pub enum Reason {
     UnknownCall,
     NotANumber,
@@ -36,9 +36,9 @@ fn with_digit(value: u64, digit: u64) -> u64
 }
 
 // The number that stands from place `from` up to, not including, place `to`.
-pub fn read_number(line: &[u8], from: usize, to: usize) -> Number
-    requires { ⌜ (from ≤ to) × (to ≤ length (now line)) ⌝ }
-    ensures { λ r. ⌜ r ≡ numberOf (slice from to (now (line .entry))) ⌝ }
+pub fn read_number(text: &[u8], from: usize, to: usize) -> Number
+    requires { ⌜ (from ≤ to) × (to ≤ length (now text)) ⌝ }
+    ensures { λ r. ⌜ r ≡ numberOf (slice from to (now (text .entry))) ⌝ }
 {
     if from == to {
         return Number::Wrong(Reason::NotANumber);
@@ -46,7 +46,7 @@ pub fn read_number(line: &[u8], from: usize, to: usize) -> Number
     let mut value: u64 = 0;
     let mut i = from;
     while i < to {
-        let byte = line[i];
+        let byte = text[i];
         if byte < 48 {
             return Number::Wrong(Reason::NotANumber);
         }

@@ -1,40 +1,38 @@
-// What a line asks for.
+// What a line of text asks for.
 ghost use mathlib.Core.Path.{_≡_};
 ghost use Prim.Native.Nat.{_≤_, min};
 ghost use mathlib.Core.List.{_++_};
-ghost use lib.ListN.{length, drop, replicate};
+ghost use lib.ListN.{length, drop, getD, replicate};
 ghost use Rattle.protocol.specs.Words.{partsAfter};
-ghost use Rattle.protocol.specs.Lines.{
-  known,
-  neededBy,
-  allowedBy,
-  readNumbers,
-  numbersRead,
-  Enough,
-  lineOf,
-  readCall,
-  readLine,
-  meaning,
-  OfferFits,
-};
+ghost use Rattle.protocol.specs.Requests.{taken, AtMost, Calls, readCall, callValues, readRequest, requestValues, TakesNumbers, Asks};
 use crate::number::Number;
 use crate::number::Reason;
 use crate::number::read_number;
 use crate::word::CallName;
 use crate::word::call_named;
 use crate::word::part_end;
+use station::calls::Call;
+use station::open::Settings;
 
-// What a line asks for. The numbers of an offer stand in the list that was lent for reading.
-pub enum Line {
+// What a line of text asks for. The starts of an offer stand at the front of the list that was lent for reading, and a clock
+// move asks for so many places to report to; any other call has none of either.
+pub enum Request {
     Nothing,
-    Open { limit: u32, percent: u32 },
-    Order { line: u32, time: u32, due: u32 },
-    Move { target: u32, places: u32 },
-    Offer { count: usize },
-    Latest,
-    Lines { allowance: u32 },
-    Enquire { ticket: u32 },
+    Open {
+        settings: Settings,
+    },
+    Call {
+        call: Call,
+        starts: usize,
+        places: u32,
+    },
     Error(Reason),
+}
+
+// How many numbers a call takes, at least and at most.
+enum Takes {
+    Between { least: usize, most: usize },
+    NoCall,
 }
 
 // How many numbers were read into the lent list.
@@ -43,68 +41,39 @@ enum Numbers {
     Wrong(Reason),
 }
 
-fn is_known(name: CallName) -> bool
-    ensures { λ r. ⌜ r ≡ known name ⌝ }
+// An offer takes as many numbers as a request can hold.
+fn taken(name: CallName) -> Takes
+    ensures { λ r. ⌜ (r ≡ taken name) × AtMost 2048 r ⌝ }
 {
     match name {
-        CallName::Open => true,
-        CallName::Order => true,
-        CallName::Move => true,
-        CallName::Offer => true,
-        CallName::Latest => true,
-        CallName::Lines => true,
-        CallName::Enquire => true,
-        CallName::Unknown => false,
-    }
-}
-
-// How many numbers a call needs.
-fn needed(name: CallName) -> usize
-    ensures { λ r. ⌜ r ≡ neededBy name ⌝ }
-{
-    match name {
-        CallName::Open => 2,
-        CallName::Order => 3,
-        CallName::Move => 2,
-        CallName::Offer => 0,
-        CallName::Latest => 0,
-        CallName::Lines => 1,
-        CallName::Enquire => 1,
-        CallName::Unknown => 0,
-    }
-}
-
-// How many numbers a call takes at most.
-fn allowed(name: CallName) -> usize
-    ensures { λ r. ⌜ (r ≡ allowedBy name) × (r ≤ 180) ⌝ }
-{
-    match name {
-        CallName::Open => 2,
-        CallName::Order => 3,
-        CallName::Move => 2,
-        CallName::Offer => 180,
-        CallName::Latest => 0,
-        CallName::Lines => 1,
-        CallName::Enquire => 1,
-        CallName::Unknown => 0,
+        CallName::Open => Takes::Between { least: 2, most: 2 },
+        CallName::Order => Takes::Between { least: 3, most: 3 },
+        CallName::Move => Takes::Between { least: 2, most: 2 },
+        CallName::Offer => Takes::Between {
+            least: 0,
+            most: 2048,
+        },
+        CallName::Latest => Takes::Between { least: 0, most: 0 },
+        CallName::Lines => Takes::Between { least: 1, most: 1 },
+        CallName::Enquire => Takes::Between { least: 1, most: 1 },
+        CallName::Unknown => Takes::NoCall,
     }
 }
 
 // Reads the numbers that follow the word that ends at `from` into the lent list.
-fn read_numbers(line: &[u8], from: usize, least: usize, most: usize, numbers: &mut [u32]) -> Numbers
-    requires { ⌜ (from ≤ length (now line)) × (most ≤ length (now numbers)) ⌝ }
-    ensures { λ r. ⌜ numbersRead r (now (numbers .exit)) ≡ readNumbers least most (partsAfter 32 (now (line .entry)) from (length (now (line .entry)))) ⌝ }
-    ensures { λ r. ⌜ Enough least most r ⌝ }
+fn read_numbers(text: &[u8], from: usize, least: usize, most: usize, numbers: &mut [u32]) -> Numbers
+    requires { ⌜ (from ≤ length (now text)) × (most ≤ length (now numbers)) ⌝ }
+    ensures { λ r. ⌜ TakesNumbers least most (partsAfter 32 (now (text .entry)) from (length (now (text .entry)))) (now (numbers .entry)) (now (numbers .exit)) r ⌝ }
 {
     let mut at = from;
     let mut count: usize = 0;
-    while at < line.len() {
+    while at < text.len() {
         if count == most {
             return Numbers::Wrong(Reason::ExtraNumber);
         }
         let start = at + 1;
-        let end = part_end(line, start, line.len(), 32);
-        let number = read_number(line, start, end);
+        let end = part_end(text, start, text.len(), 32);
+        let number = read_number(text, start, end);
         match number {
             Number::Wrong(reason) => return Numbers::Wrong(reason),
             Number::Value(value) => {
@@ -120,70 +89,99 @@ fn read_numbers(line: &[u8], from: usize, least: usize, most: usize, numbers: &m
     Numbers::Count(count)
 }
 
-// The call of a name with the numbers that were read for it.
-fn call_of(name: CallName, count: usize, numbers: &[u32]) -> Line
-    requires { ⌜ 3 ≤ length (now numbers) ⌝ }
-    ensures { λ r. ⌜ r ≡ lineOf name count (now (numbers .entry)) ⌝ }
+// The number at a place; 0 where there is none.
+fn number_at(numbers: &[u32], i: usize) -> u32
+    ensures { λ r. ⌜ r ≡ getD (now (numbers .entry)) i 0 ⌝ }
 {
-    let first = numbers[0];
-    let second = numbers[1];
-    let third = numbers[2];
+    if i < numbers.len() { numbers[i] } else { 0 }
+}
+
+// The call of a name with its numbers.
+fn call_of(name: CallName, numbers: &[u32]) -> Request
+    ensures { λ r. ⌜ Calls name (now (numbers .entry)) r ⌝ }
+{
+    let first = number_at(numbers, 0);
+    let second = number_at(numbers, 1);
+    let third = number_at(numbers, 2);
     match name {
-        CallName::Open => Line::Open {
-            limit: first,
-            percent: second,
+        CallName::Open => Request::Open {
+            settings: Settings {
+                limit: first,
+                percent: second,
+            },
         },
-        CallName::Order => Line::Order {
-            line: first,
-            time: second,
-            due: third,
+        CallName::Order => Request::Call {
+            call: Call::Order {
+                line: first,
+                time: second,
+                due: third,
+            },
+            starts: 0,
+            places: 0,
         },
-        CallName::Move => Line::Move {
-            target: first,
+        CallName::Move => Request::Call {
+            call: Call::Move { target: first },
+            starts: 0,
             places: second,
         },
-        CallName::Offer => Line::Offer { count },
-        CallName::Latest => Line::Latest,
-        CallName::Lines => Line::Lines { allowance: first },
-        CallName::Enquire => Line::Enquire { ticket: first },
-        CallName::Unknown => Line::Error(Reason::UnknownCall),
+        CallName::Offer => Request::Call {
+            call: Call::Offer,
+            starts: numbers.len(),
+            places: 0,
+        },
+        CallName::Latest => Request::Call {
+            call: Call::ReplanLatest,
+            starts: 0,
+            places: 0,
+        },
+        CallName::Lines => Request::Call {
+            call: Call::ReplanLines { allowance: first },
+            starts: 0,
+            places: 0,
+        },
+        CallName::Enquire => Request::Call {
+            call: Call::Enquire { ticket: first },
+            starts: 0,
+            places: 0,
+        },
+        CallName::Unknown => Request::Error(Reason::UnknownCall),
     }
 }
 
 // The call of a name with the numbers that follow the word that ends at `end`.
-fn read_call(line: &[u8], end: usize, name: CallName, numbers: &mut [u32]) -> Line
-    requires { ⌜ (end ≤ length (now line)) × (180 ≤ length (now numbers)) ⌝ }
-    ensures { λ r. ⌜ meaning r (now (numbers .exit)) ≡ readCall name (partsAfter 32 (now (line .entry)) end (length (now (line .entry)))) ⌝ }
-    ensures { λ r. ⌜ OfferFits r ⌝ }
+fn read_call(text: &[u8], end: usize, name: CallName, numbers: &mut [u32]) -> Request
+    requires { ⌜ (end ≤ length (now text)) × (2048 ≤ length (now numbers)) ⌝ }
+    ensures { λ r. ⌜ Asks (readCall name (partsAfter 32 (now (text .entry)) end (length (now (text .entry))))) (callValues name (partsAfter 32 (now (text .entry)) end (length (now (text .entry))))) (now (numbers .entry)) (now (numbers .exit)) r ⌝ }
 {
-    if !is_known(name) {
-        return Line::Error(Reason::UnknownCall);
-    }
-    let read = read_numbers(line, end, needed(name), allowed(name), numbers);
+    let takes = taken(name);
+    let Takes::Between { least, most } = takes else {
+        return Request::Error(Reason::UnknownCall);
+    };
+    let read = read_numbers(text, end, least, most, numbers);
     match read {
-        Numbers::Wrong(reason) => Line::Error(reason),
-        Numbers::Count(count) => call_of(name, count, numbers),
+        Numbers::Wrong(reason) => Request::Error(reason),
+        Numbers::Count(count) => call_of(name, &numbers[..count]),
     }
 }
 
-// What a line asks for, its line feed left out. The lent list takes the numbers, which are 180 at most.
-pub fn read_line(line: &[u8], numbers: &mut [u32]) -> Line
-    requires { ⌜ 180 ≤ length (now numbers) ⌝ }
-    ensures { λ r. ⌜ meaning r (now (numbers .exit)) ≡ readLine (now (line .entry)) ⌝ }
-    ensures { λ r. ⌜ OfferFits r ⌝ }
+// What a line of text asks for, its line feed left out. The lent list takes the numbers, which are 2,045 at
+// most, and keeps every place after them.
+pub fn read_request(text: &[u8], numbers: &mut [u32]) -> Request
+    requires { ⌜ 2048 ≤ length (now numbers) ⌝ }
+    ensures { λ r. ⌜ Asks (readRequest (now (text .entry))) (requestValues (now (text .entry))) (now (numbers .entry)) (now (numbers .exit)) r ⌝ }
 {
-    if line.len() > 4096 {
-        return Line::Error(Reason::LineTooLong);
+    if text.len() > 4096 {
+        return Request::Error(Reason::LineTooLong);
     }
-    if line.len() == 0 {
-        return Line::Nothing;
+    if text.len() == 0 {
+        return Request::Nothing;
     }
-    if line[0] == b'#' {
-        return Line::Nothing;
+    if text[0] == b'#' {
+        return Request::Nothing;
     }
-    let end = part_end(line, 0, line.len(), 32);
-    let name = call_named(&line[..end]);
-    read_call(line, end, name, numbers)
+    let end = part_end(text, 0, text.len(), 32);
+    let name = call_named(&text[..end]);
+    read_call(text, end, name, numbers)
 }
 
 // How many places are lent to a move that asks for this many.

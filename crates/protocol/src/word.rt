@@ -1,5 +1,6 @@
-// The words of a line, and the call that the first of them names.
+// The words of a request, and the call that the first of them names.
 ghost use mathlib.Core.Path.{_≡_};
+ghost use mathlib.Core.Bool.{cond};
 ghost use Prim.Native.Nat.{_≤_};
 ghost use lib.ListN.{length};
 ghost use Rattle.protocol.specs.Words.{PartEnd, sameText, named};
@@ -16,8 +17,8 @@ pub enum CallName {
     Unknown,
 }
 
-// Where the part ends that starts at `from`: at the next separator, or at `to` where none is left. A word of a line
-// ends so at a space, a line of a block at a line feed.
+// Where the part ends that starts at `from`: at the next separator, or at `to` where none is left. A word of a
+// request ends so at a space, a request of a block at a line feed.
 pub fn part_end(bytes: &[u8], from: usize, to: usize, separator: u8) -> usize
     requires { ⌜ (from ≤ to) × (to ≤ length (now bytes)) ⌝ }
     ensures { λ r. ⌜ PartEnd separator (now (bytes .entry)) from to r ⌝ }
@@ -41,29 +42,22 @@ fn same_text(a: &[u8], b: &[u8]) -> bool
     true
 }
 
+// The name, where the word is this text, or else the other.
+fn named_or(word: &[u8], text: &[u8], name: CallName, other: CallName) -> CallName
+    ensures { λ r. ⌜ r ≡ cond (sameText (now (word .entry)) (now (text .entry))) name other ⌝ }
+{
+    if same_text(word, text) { name } else { other }
+}
+
 pub fn call_named(word: &[u8]) -> CallName
     ensures { λ r. ⌜ r ≡ named (now (word .entry)) ⌝ }
 {
-    if same_text(word, b"open") {
-        return CallName::Open;
-    }
-    if same_text(word, b"order") {
-        return CallName::Order;
-    }
-    if same_text(word, b"move") {
-        return CallName::Move;
-    }
-    if same_text(word, b"offer") {
-        return CallName::Offer;
-    }
-    if same_text(word, b"latest") {
-        return CallName::Latest;
-    }
-    if same_text(word, b"lines") {
-        return CallName::Lines;
-    }
-    if same_text(word, b"enquire") {
-        return CallName::Enquire;
-    }
-    CallName::Unknown
+    let name = CallName::Unknown;
+    let name = named_or(word, b"enquire", CallName::Enquire, name);
+    let name = named_or(word, b"lines", CallName::Lines, name);
+    let name = named_or(word, b"latest", CallName::Latest, name);
+    let name = named_or(word, b"offer", CallName::Offer, name);
+    let name = named_or(word, b"move", CallName::Move, name);
+    let name = named_or(word, b"order", CallName::Order, name);
+    named_or(word, b"open", CallName::Open, name)
 }

@@ -1,13 +1,12 @@
 -- Counts of loads, soundness of three counts, and soundness in every minute from the clock on.
 use mathlib.Core.Logic.{_⊎_, inl, inr}
 use mathlib.Core.Path.{_≡_, refl}
-use Prim.Native.Nat.{ℕ, zero, suc, _+_, _-_, _≤_, _<_}
-use mathlib.Core.Bool.{Bool, true, false, cond, _&&_, and-false}
+use Prim.Native.Nat.{ℕ, _+_, _-_, _≤_, _<_}
+use mathlib.Core.Bool.{Bool, true, false, cond, and-false}
 use mathlib.Core.List.{List, [], _∷_, _++_}
 use native.Mathlib.Omega.{arith}
-use lib.Dec.{ltb, leb, eqb}
+use lib.Dec.{leb, eqb}
 use borrow.Author.Tests.{leb-true, le-leb, lt-ltb, le-ltb, lt-leb, eq-eqb}
-use Rattle.rules.specs.Basics.{throughout}
 use Rattle.rules.specs.Load.{Load, active, share, draws, count, counts, lastUntil, Limits, IsLine, onLines, limited, balanced, soundCounts, soundAt, limitAt, balanceAt, fromOn, sound}
 use Rattle.rules.proofs.Ranges.{and-left, and-right, and-both, throughout-at, throughout-all, below-or-not}
 

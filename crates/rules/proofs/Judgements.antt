@@ -1,13 +1,13 @@
 -- The test of a plan: it is taken exactly when it meets all of demand 2.
 use mathlib.Core.Path.{_≡_, refl}
-use Prim.Native.Nat.{ℕ, suc, _+_, _≤_, _<_}
-use mathlib.Core.Bool.{Bool, true, false, not, _||_}
+use Prim.Native.Nat.{ℕ, _≤_, _<_}
+use mathlib.Core.Bool.{true, false}
 use mathlib.Core.List.{List, [], _∷_}
 use native.Mathlib.Omega.{arith}
-use lib.Dec.{ltb, leb}
+use lib.Dec.{ltb}
 use borrow.Author.Tests.{ltb-true, ltb-false, lt-ltb, le-ltb, not-false}
 use Rattle.rules.specs.Basics.{Each, some}
-use Rattle.rules.specs.Load.{Load, counts, lastUntil, Limits, limitAt, balanceAt, fromOn}
+use Rattle.rules.specs.Load.{counts, Limits, limitAt, balanceAt, fromOn}
 use Rattle.rules.specs.Charge.{Charge, loadsOf, lastEnd, lateness}
 use Rattle.rules.specs.Judgement.{restarted, causes, judged}
 use Rattle.rules.proofs.Ranges.{or-left, or-right, or-none}

@@ -2,7 +2,7 @@
 use mathlib.Core.Logic.{_⊎_, inl, inr}
 use mathlib.Core.Path.{_≡_, refl, ap}
 use Prim.Native.Nat.{ℕ, zero, suc, _+_, _≤_, _<_}
-use mathlib.Core.Bool.{Bool, true, false, cond, not, true≢false}
+use mathlib.Core.Bool.{Bool, true, false, cond}
 use mathlib.Core.List.{List, [], _∷_, _++_, map}
 use native.Mathlib.Omega.{arith}
 use native.Mathlib.Numerals.{add-one}
@@ -44,24 +44,6 @@ tabulate-next f k = rw (add-one k, tabulate-more f k 0) (ap (λ (i : ℕ). tabul
     from-zero : (k : ℕ) → 0 + k ≡ k
     from-zero k = omega arith
 
-pub tabulate-join :
-    {A : Type 0} (f : ℕ → A) (j k a : ℕ) → tabulate f (j + k) a ≡ tabulate f j a ++ tabulate f k (a + j)
-tabulate-join f zero k a = rw (left k, right a)
-  where
-    left : (k : ℕ) → 0 + k ≡ k
-    left k = omega arith
-
-    right : (a : ℕ) → a + 0 ≡ a
-    right a = omega arith
-tabulate-join f (suc j) k a =
-    rw (left j k) (ap (λ l. f a ∷ l) (rw (right a j) (tabulate-join f j k (suc a))))
-  where
-    left : (j k : ℕ) → suc j + k ≡ suc (j + k)
-    left j k = omega arith
-
-    right : (a j : ℕ) → a + suc j ≡ suc a + j
-    right a j = omega arith
-
 pub map-tabulate :
     {A : Type 0} {B : Type 0} (g : A → B) (f : ℕ → A) (k a : ℕ) → map g (tabulate f k a) ≡ tabulate (λ i. g (f i)) k a
 map-tabulate g f zero a = refl
@@ -95,6 +77,14 @@ keep-append f (x ∷ xs) ys = go (f x) (keep-append f xs ys)
         → cond b (x ∷ keep f (xs ++ ys)) (keep f (xs ++ ys)) ≡ cond b (x ∷ keep f xs) (keep f xs) ++ keep f ys
     go true ih = rw ih
     go false ih = ih
+
+pub keep-all : {A : Type 0} (f : A → Bool) (l : List A) → Each (λ a. f a ≡ true) l → keep f l ≡ l
+keep-all f [] e = refl
+keep-all f (a ∷ l) e = rw (e .0, keep-all f l (e .1))
+
+pub keep-none : {A : Type 0} (f : A → Bool) → ((a : A) → f a ≡ false) → (l : List A) → keep f l ≡ []
+keep-none f h [] = refl
+keep-none f h (a ∷ l) = rw (h a, keep-none f h l)
 
 -- A property of each member
 

@@ -44,10 +44,6 @@ pub fails : (a : Bool) → (a ≡ true → ⊥) → a ≡ false
 fails true f = absurd (f refl)
 fails false f = refl
 
-pub holds : (a : Bool) → (a ≡ false → ⊥) → a ≡ true
-holds true f = refl
-holds false f = absurd (f refl)
-
 -- one number is below another, or not
 pub below-or-not : (a b : ℕ) → (a < b) ⊎ (b ≤ a)
 below-or-not a b = go (ltb a b) refl

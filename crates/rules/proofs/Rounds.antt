@@ -1,17 +1,17 @@
 -- The rounds of replan by lines: caps, largest and smallest line, and that every charge gets a start.
 use mathlib.Core.Logic.{_⊎_, inl, inr}
 use mathlib.Core.Path.{_≡_, refl, sym, _∙_}
-use Prim.Native.Nat.{ℕ, suc, _+_, min, _≤_, _<_}
+use Prim.Native.Nat.{ℕ, _+_, min, _≤_, _<_}
 use mathlib.Core.Bool.{Bool, true, false, cond, _&&_, true≢false}
 use mathlib.Core.List.{List, [], _∷_, _++_, map, append-assoc, append-nil}
 use native.Mathlib.Omega.{arith}
 use lib.Dec.{leb, eqb}
 use borrow.Author.Tests.{leb-true, leb-false, le-leb}
-use Rattle.rules.specs.Basics.{Found, at, nothing}
+use Rattle.rules.specs.Basics.{Found, at}
 use Rattle.rules.specs.Load.{IsLine, onLines}
-use Rattle.rules.specs.Charge.{Charge, starting, activeFor, loadsOf, begunCharges, waitingCharges}
-use Rattle.rules.specs.Search.{Caps, earliestUnder}
-use Rattle.rules.specs.Replan.{Placed, all, stuck, placeAll, cappedStart, lineByLine, lowestLine, largestLine, smallestLine, lowered}
+use Rattle.rules.specs.Charge.{Charge, starting, drawOf, loadsOf, begunCharges, waitingCharges}
+use Rattle.rules.specs.Search.{Caps}
+use Rattle.rules.specs.Replan.{all, placeAll, cappedStart, lineByLine, lowestLine, largestLine, smallestLine, lowered}
 use Rattle.rules.proofs.Ranges.{fails, below-or-not}
 use Rattle.rules.proofs.Lists.{map-append}
 use Rattle.rules.proofs.Counts.{onLines-at, onLines-all}
@@ -19,32 +19,9 @@ use Rattle.rules.proofs.Searches.{under-found}
 
 -- Caps
 
--- a cap never rises along the minutes
-abbrev pub NeverRises : Caps → Type 0
-NeverRises cap = (l t u : ℕ) → t ≤ u → cap l u ≤ cap l t
-
 -- a cap is never below 1
 abbrev pub AtLeastOne : Caps → Type 0
 AtLeastOne cap = (l t : ℕ) → 1 ≤ cap l t
-
--- "N at first"
-pub first-never-rises : (n : ℕ) → NeverRises (λ l t. n)
-first-never-rises n l t u h = omega arith
-
-pub lowered-never-rises : (cap : Caps) (i t v : ℕ) → NeverRises cap → NeverRises (lowered cap i t v)
-lowered-never-rises cap i t v c l a b h = go (eqb l i) (leb t a) refl (leb t b) refl
-  where
-    go :
-        (e x : Bool)
-        → leb t a ≡ x
-        → (y : Bool)
-        → leb t b ≡ y
-        → cond (e && y) (min (cap l b) v) (cap l b) ≤ cond (e && x) (min (cap l a) v) (cap l a)
-    go false x p y q = c l a b h
-    go true true p true q = omega (arith, c l a b h)
-    go true true p false q = absurd (omega (arith, leb-true t a p, leb-false t b q))
-    go true false p true q = omega (arith, c l a b h)
-    go true false p false q = c l a b h
 
 pub lowered-at-least-one : (cap : Caps) (i t v : ℕ) → 1 ≤ v → AtLeastOne cap → AtLeastOne (lowered cap i t v)
 lowered-at-least-one cap i t v h c l u = go (eqb l i && leb t u)
@@ -207,6 +184,6 @@ pub round-places :
     → AllPlaced (cappedStart cap clock (begunCharges clock held)) [] (lineByLine (waitingCharges clock held))
 round-places cap clock held h =
     all-placed (cappedStart cap clock (begunCharges clock held))
-    (λ placed c. under-found cap clock (loadsOf (begunCharges clock held ++ placed)) (c .line) (activeFor c) (h (c .line)))
+    (λ placed c. under-found cap clock (loadsOf (begunCharges clock held ++ placed)) (drawOf c) (h (c .line)))
     []
     (lineByLine (waitingCharges clock held))

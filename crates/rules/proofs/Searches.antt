@@ -1,80 +1,80 @@
 -- The searches find the smallest start, and find one wherever there is one; the bounds of the definitions miss nothing.
 use mathlib.Core.Logic.{_⊎_, inl, inr}
-use mathlib.Core.Path.{_≡_, refl, sym, _∙_}
-use Prim.Native.Nat.{ℕ, zero, suc, _+_, _-_, max, _≤_, _<_}
+use mathlib.Core.Path.{_≡_, sym, _∙_}
+use Prim.Native.Nat.{ℕ, suc, _+_, _-_, max, _≤_, _<_}
 use mathlib.Core.Bool.{Bool, true, false, not, true≢false}
-use mathlib.Core.List.{List, [], _∷_, _++_}
+use mathlib.Core.List.{List, [], _∷_}
 use native.Mathlib.Omega.{arith}
 use lib.Dec.{leb}
-use borrow.Author.Tests.{le-leb, leb-true, not-true, not-false}
-use Rattle.rules.specs.Basics.{throughout, Found, at, nothing, first}
-use Rattle.rules.specs.Load.{Load, loadFrom, share, draws, count, counts, lastUntil, Limits, IsLine, balanceAt, sound}
+use borrow.Author.Tests.{le-leb, leb-true, not-false}
+use Rattle.rules.specs.Basics.{throughout, at, nothing}
+use Rattle.rules.specs.Load.{Load, Draw, loadFrom, draws, count, counts, lastUntil, Limits, balanceAt, sound}
 use Rattle.rules.specs.Search.{added, earliest, Caps, earliestUnder, firstUnbalanced}
-use Rattle.rules.proofs.Ranges.{holds, fails, below-or-not, throughout-all, throughout-at, IsFirst, first-found, first-none, found-or-not}
+use Rattle.rules.proofs.Ranges.{fails, below-or-not, throughout-all, throughout-at, IsFirst, first-found, first-none, found-or-not}
 use Rattle.rules.proofs.Counts.{share-own, draws-before, draws-in, draws-most, count-append, count-past, Sound, sound-same, sound-few, sound-from, sound-true, balance-past, Balanced, balanced-at}
 
 -- One more load
 
 pub count-added :
-    (xs : List Load) (line time s l t : ℕ)
-    → count (added xs line time s) l t ≡ count xs l t + draws (loadFrom line time s) l t
-count-added xs line time s l t = rw (count-append xs (loadFrom line time s ∷ []) l t) (omega arith)
+    (xs : List Load) (a : Draw) (s l t : ℕ)
+    → count (added xs a s) l t ≡ count xs l t + draws (loadFrom a s) l t
+count-added xs a s l t = rw (count-append xs (loadFrom a s ∷ []) l t) (omega arith)
 
 pub count-added-before :
-    (xs : List Load) (line time s l t : ℕ) → t < s → count (added xs line time s) l t ≡ count xs l t
-count-added-before xs line time s l t h =
-    rw (count-added xs line time s l t, draws-before (loadFrom line time s) l t h) (omega arith)
+    (xs : List Load) (a : Draw) (s l t : ℕ) → t < s → count (added xs a s) l t ≡ count xs l t
+count-added-before xs a s l t h =
+    rw (count-added xs a s l t, draws-before (loadFrom a s) l t h) (omega arith)
 
 -- past the last end the new load is alone
 pub count-added-past :
-    (xs : List Load) (line time s l t : ℕ) → lastUntil xs ≤ t → count (added xs line time s) l t ≤ 1
-count-added-past xs line time s l t h =
-    rw (count-added xs line time s l t, count-past xs l t h) (omega (arith, draws-most (loadFrom line time s) l t))
+    (xs : List Load) (a : Draw) (s l t : ℕ) → lastUntil xs ≤ t → count (added xs a s) l t ≤ 1
+count-added-past xs a s l t h =
+    rw (count-added xs a s l t, count-past xs l t h) (omega (arith, draws-most (loadFrom a s) l t))
 
 -- The smallest sound start
 
 -- the start found is sound, not below the clock nor past the last end, and no smaller one not below the clock is sound
 pub earliest-first :
-    (y : Limits) (k : ℕ) (xs : List Load) (line time s : ℕ)
-    → earliest y k xs line time ≡ at s
-    → IsFirst (λ u. sound y k (added xs line time u)) (suc (lastUntil xs - k)) k s
+    (y : Limits) (k : ℕ) (xs : List Load) (a : Draw) (s : ℕ)
+    → earliest y k xs a ≡ at s
+    → IsFirst (λ u. sound y k (added xs a u)) (suc (lastUntil xs - k)) k s
 unfolding earliest
-earliest-first y k xs line time s e =
-    first-found (λ u. sound y k (added xs line time u)) (suc (lastUntil xs - k)) k s e
+earliest-first y k xs a s e =
+    first-found (λ u. sound y k (added xs a u)) (suc (lastUntil xs - k)) k s e
 
 -- where the minutes before the last end are sound without the charge, the last end serves
 at-the-end :
-    (y : Limits) (k : ℕ) (xs : List Load) (line time s : ℕ)
+    (y : Limits) (k : ℕ) (xs : List Load) (a : Draw) (s : ℕ)
     → 1 ≤ y .limit
     → 1 ≤ y .bound
     → lastUntil xs ≤ s
     → ((t : ℕ) → k ≤ t → t < s → Sound y (counts xs t))
-    → sound y k (added xs line time s) ≡ true
-at-the-end y k xs line time s n d le h = sound-true y k (added xs line time s) (λ t j. go t j (below-or-not t s))
+    → sound y k (added xs a s) ≡ true
+at-the-end y k xs a s n d le h = sound-true y k (added xs a s) (λ t j. go t j (below-or-not t s))
   where
-    go : (t : ℕ) → k ≤ t → (t < s) ⊎ (s ≤ t) → Sound y (counts (added xs line time s) t)
+    go : (t : ℕ) → k ≤ t → (t < s) ⊎ (s ≤ t) → Sound y (counts (added xs a s) t)
     go t j (inl i) =
-        sound-same y (counts xs t) (counts (added xs line time s) t)
-        (λ l q. count-added-before xs line time s l t i)
+        sound-same y (counts xs t) (counts (added xs a s) t)
+        (λ l q. count-added-before xs a s l t i)
         (h t j i)
     go t j (inr i) =
-        sound-few y (counts (added xs line time s) t) n d
-        (λ l. count-added-past xs line time s l t (omega arith))
+        sound-few y (counts (added xs a s) t) n d
+        (λ l. count-added-past xs a s l t (omega arith))
 
 -- nothing found: no start at all is sound
 pub earliest-none :
-    (y : Limits) (k : ℕ) (xs : List Load) (line time : ℕ)
+    (y : Limits) (k : ℕ) (xs : List Load) (a : Draw)
     → 1 ≤ y .limit
     → 1 ≤ y .bound
-    → earliest y k xs line time ≡ nothing
+    → earliest y k xs a ≡ nothing
     → (s : ℕ)
     → k ≤ s
-    → sound y k (added xs line time s) ≡ false
+    → sound y k (added xs a s) ≡ false
 unfolding earliest
-earliest-none y k xs line time n d e s h = go (below-or-not s (k + suc (lastUntil xs - k)))
+earliest-none y k xs a n d e s h = go (below-or-not s (k + suc (lastUntil xs - k)))
   where
     f : ℕ → Bool
-    f u = sound y k (added xs line time u)
+    f u = sound y k (added xs a u)
 
     end : ℕ
     end = max k (lastUntil xs)
@@ -87,11 +87,11 @@ earliest-none y k xs line time n d e s h = go (below-or-not s (k + suc (lastUnti
     beyond j p =
         true≢false
         (sym
-        (at-the-end y k xs line time end n d (omega arith)
+        (at-the-end y k xs a end n d (omega arith)
         (λ t i l.
-        sound-same y (counts (added xs line time s) t) (counts xs t)
-        (λ x q. sym (count-added-before xs line time s x t (omega arith)))
-        (sound-from y k (added xs line time s) p t i)))
+        sound-same y (counts (added xs a s) t) (counts xs t)
+        (λ x q. sym (count-added-before xs a s x t (omega arith)))
+        (sound-from y k (added xs a s) p t i)))
         ∙ last)
 
     go : (s < k + suc (lastUntil xs - k)) ⊎ (k + suc (lastUntil xs - k) ≤ s) → f s ≡ false
@@ -100,73 +100,73 @@ earliest-none y k xs line time n d e s h = go (below-or-not s (k + suc (lastUnti
 
 -- a sound plan always leaves a start
 pub earliest-found :
-    (y : Limits) (k : ℕ) (xs : List Load) (line time : ℕ)
+    (y : Limits) (k : ℕ) (xs : List Load) (a : Draw)
     → 1 ≤ y .limit
     → 1 ≤ y .bound
     → sound y k xs ≡ true
-    → (s : ℕ) × (earliest y k xs line time ≡ at s)
-earliest-found y k xs line time n d e =
-    found-or-not (earliest y k xs line time)
+    → (s : ℕ) × (earliest y k xs a ≡ at s)
+earliest-found y k xs a n d e =
+    found-or-not (earliest y k xs a)
     (λ none.
     true≢false
     (sym
-    (at-the-end y k xs line time (max k (lastUntil xs)) n d (omega arith)
+    (at-the-end y k xs a (max k (lastUntil xs)) n d (omega arith)
     (λ t j i. sound-from y k xs e t j))
-    ∙ earliest-none y k xs line time n d none (max k (lastUntil xs)) (omega arith)))
+    ∙ earliest-none y k xs a n d none (max k (lastUntil xs)) (omega arith)))
 
 -- The smallest start under a cap
 
 -- the line's count, the load itself included, is at or below the cap in all its minutes
-abbrev pub Under : Caps → List Load → ℕ → ℕ → ℕ → Type 0
-Under cap xs line time s = (t : ℕ) → s ≤ t → t < s + time → count xs line t + 1 ≤ cap line t
+abbrev pub Under : Caps → List Load → Draw → ℕ → Type 0
+Under cap xs a s = (t : ℕ) → s ≤ t → t < s + a .time → count xs (a .line) t + 1 ≤ cap (a .line) t
 
-abbrev pub underTest : Caps → List Load → ℕ → ℕ → ℕ → Bool
-underTest cap xs line time s = throughout (λ t. leb (count (added xs line time s) line t) (cap line t)) time s
+abbrev pub underTest : Caps → List Load → Draw → ℕ → Bool
+underTest cap xs a s = throughout (λ t. leb (count (added xs a s) (a .line) t) (cap (a .line) t)) (a .time) s
 
 pub count-added-own :
-    (xs : List Load) (line time s t : ℕ)
+    (xs : List Load) (a : Draw) (s t : ℕ)
     → s ≤ t
-    → t < s + time
-    → count (added xs line time s) line t ≡ count xs line t + 1
-count-added-own xs line time s t h j =
-    rw (count-added xs line time s line t, draws-in (loadFrom line time s) line t h j, share-own line)
+    → t < s + a .time
+    → count (added xs a s) (a .line) t ≡ count xs (a .line) t + 1
+count-added-own xs a s t h j =
+    rw (count-added xs a s (a .line) t, draws-in (loadFrom a s) (a .line) t h j, share-own (a .line))
 
 pub under-at :
-    (cap : Caps) (xs : List Load) (line time s : ℕ) → underTest cap xs line time s ≡ true → Under cap xs line time s
-under-at cap xs line time s e t h j =
-    rw (← (count-added-own xs line time s t h j))
-    (leb-true (count (added xs line time s) line t) (cap line t)
-    (throughout-at (λ u. leb (count (added xs line time s) line u) (cap line u)) time s e t h j))
+    (cap : Caps) (xs : List Load) (a : Draw) (s : ℕ) → underTest cap xs a s ≡ true → Under cap xs a s
+under-at cap xs a s e t h j =
+    rw (← (count-added-own xs a s t h j))
+    (leb-true (count (added xs a s) (a .line) t) (cap (a .line) t)
+    (throughout-at (λ u. leb (count (added xs a s) (a .line) u) (cap (a .line) u)) (a .time) s e t h j))
 
 pub under-all :
-    (cap : Caps) (xs : List Load) (line time s : ℕ) → Under cap xs line time s → underTest cap xs line time s ≡ true
-under-all cap xs line time s h =
-    throughout-all (λ u. leb (count (added xs line time s) line u) (cap line u)) time s
+    (cap : Caps) (xs : List Load) (a : Draw) (s : ℕ) → Under cap xs a s → underTest cap xs a s ≡ true
+under-all cap xs a s h =
+    throughout-all (λ u. leb (count (added xs a s) (a .line) u) (cap (a .line) u)) (a .time) s
     (λ t i j.
-    le-leb (count (added xs line time s) line t) (cap line t)
-    (rw (count-added-own xs line time s t i j) (h t i j)))
+    le-leb (count (added xs a s) (a .line) t) (cap (a .line) t)
+    (rw (count-added-own xs a s t i j) (h t i j)))
 
 pub under-first :
-    (cap : Caps) (k : ℕ) (xs : List Load) (line time s : ℕ)
-    → earliestUnder cap k xs line time ≡ at s
-    → IsFirst (underTest cap xs line time) (suc (lastUntil xs - k)) k s
+    (cap : Caps) (k : ℕ) (xs : List Load) (a : Draw) (s : ℕ)
+    → earliestUnder cap k xs a ≡ at s
+    → IsFirst (underTest cap xs a) (suc (lastUntil xs - k)) k s
 unfolding earliestUnder
-under-first cap k xs line time s e = first-found (underTest cap xs line time) (suc (lastUntil xs - k)) k s e
+under-first cap k xs a s e = first-found (underTest cap xs a) (suc (lastUntil xs - k)) k s e
 
 -- a cap of at least 1 always leaves a start
 pub under-found :
-    (cap : Caps) (k : ℕ) (xs : List Load) (line time : ℕ)
-    → ((t : ℕ) → 1 ≤ cap line t)
-    → (s : ℕ) × (earliestUnder cap k xs line time ≡ at s)
+    (cap : Caps) (k : ℕ) (xs : List Load) (a : Draw)
+    → ((t : ℕ) → 1 ≤ cap (a .line) t)
+    → (s : ℕ) × (earliestUnder cap k xs a ≡ at s)
 unfolding earliestUnder
-under-found cap k xs line time h =
-    found-or-not (earliestUnder cap k xs line time)
+under-found cap k xs a h =
+    found-or-not (earliestUnder cap k xs a)
     (λ none.
     true≢false
     (sym
-    (under-all cap xs line time (max k (lastUntil xs))
-    (λ t i j. rw (count-past xs line t (omega arith)) (omega (arith, h t))))
-    ∙ first-none (underTest cap xs line time) (suc (lastUntil xs - k)) k none (max k (lastUntil xs))
+    (under-all cap xs a (max k (lastUntil xs))
+    (λ t i j. rw (count-past xs (a .line) t (omega arith)) (omega (arith, h t))))
+    ∙ first-none (underTest cap xs a) (suc (lastUntil xs - k)) k none (max k (lastUntil xs))
     (omega arith) (omega arith)))
 
 -- The first unbalanced minute

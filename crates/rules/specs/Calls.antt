@@ -1,4 +1,4 @@
--- The station, its calls, their refusals and answers (document 01, "The calls" and the two tables of refusals).
+-- The station, its calls, their refusals and answers (docs/RULES.md, sections 2 and 3).
 use Prim.Native.Nat.{ℕ, zero, suc, _+_, _-_, _*_, _/_}
 use mathlib.Core.Bool.{Bool, cond, not, _&&_, _||_}
 use mathlib.Core.List.{List, [], _∷_, _++_}
@@ -6,10 +6,14 @@ use lib.Dec.{ltb, leb, eqb}
 use lib.ListN.{length, drop}
 use Rattle.rules.specs.Basics.{Found, at, nothing, firstOf, keep, some, sortedBy}
 use Rattle.rules.specs.Load.{Limits, limits}
-use Rattle.rules.specs.Charge.{Charge, endOf, activeFor, starting, loadsOf, isBegun, waitingCharges, unfinishedCharges, thenTicket, lateness}
+use Rattle.rules.specs.Charge.{Charge, endOf, drawOf, loadsOf, isBegun, waitingCharges, unfinishedCharges, thenTicket, lateness}
 use Rattle.rules.specs.Search.{earliest}
 use Rattle.rules.specs.Replan.{Proposal, starts, none, latest, Replanned, byLines}
 use Rattle.rules.specs.Judgement.{restarted, judged}
+
+-- "has 180 places from the moment it is opened"
+abbrev pub places : ℕ
+places = 180
 
 -- "A station holds a limit N, a percentage c, a bound D, a clock, the next ticket and up to 180 charges."
 -- The charges stand in ticket order.
@@ -58,29 +62,45 @@ answering (suc k) s list r = record { answer = refused (suc k); state = s; list 
 
 -- Open
 
+-- what an opening is given: the limit N and the percentage c
+pub record Settings : Type 0 where
+  pub limit : ℕ
+  pub percent : ℕ
+
+abbrev pub settings : ℕ → ℕ → Settings
+settings n c = record { limit = n; percent = c }
+
 -- "D is c × N / 100 rounded down."
 abbrev pub boundOf : ℕ → ℕ → ℕ
 boundOf n c = c * n / 100
 
 -- "A fresh station: clock 0, next ticket 1, no charges."
-abbrev pub fresh : ℕ → ℕ → State
-fresh n c = record { limit = n; percent = c; bound = boundOf n c; clock = 0; next = 1; charges = [] }
+abbrev pub fresh : Settings → State
+fresh x =
+    record {
+      limit = x .limit;
+      percent = x .percent;
+      bound = boundOf (x .limit) (x .percent);
+      clock = 0;
+      next = 1;
+      charges = [];
+    }
 
-abbrev pub openRefusals : ℕ → ℕ → List (Bool × ℕ)
-openRefusals n c =
+abbrev pub openRefusals : Settings → List (Bool × ℕ)
+openRefusals x =
     -- "N not 1 to 60"
-    (ltb n 1 || ltb 60 n, 1)
+    (ltb (x .limit) 1 || ltb 60 (x .limit), 1)
     -- "c above 100"
-    ∷ (ltb 100 c, 2)
+    ∷ (ltb 100 (x .percent), 2)
     -- "c × N below 100"
-    ∷ (ltb (c * n) 100, 3)
+    ∷ (ltb (x .percent * x .limit) 100, 3)
     ∷ []
 
 -- "Beside a refused opening stands the fresh station of 1, 100."
-unfoldable pub opening : ℕ → ℕ → Result
-opening n c =
-    answering (firstOf (openRefusals n c)) (fresh 1 100) []
-    (record { answer = opened (boundOf n c); state = fresh n c; list = [] })
+unfoldable pub opening : Settings → Result
+opening x =
+    answering (firstOf (openRefusals x)) (fresh (settings 1 100)) []
+    (record { answer = opened (fresh x .bound); state = fresh x; list = [] })
 
 -- The calls of a station that stands.
 pub data Call : Type 0 where
@@ -117,7 +137,7 @@ refusals s (order line p d) =
     -- "d below clock + p"
     ∷ (ltb d (s .clock + p), 7)
     -- "180 charges held"
-    ∷ (leb 180 (length (s .charges)), 13)
+    ∷ (leb places (length (s .charges)), 13)
     -- "65,535 tickets given"
     ∷ (ltb 65535 (s .next), 14)
     ∷ []
@@ -125,7 +145,7 @@ refusals s (move target list) =
     -- "target above 1,000,000"
     (ltb 1000000 target, 8)
     -- "report list under 360 places"
-    ∷ (ltb (length list) 360, 9)
+    ∷ (ltb (length list) (2 * places), 9)
     -- "target below the clock"
     ∷ (ltb target (s .clock), 12)
     ∷ []
@@ -167,7 +187,7 @@ orderedAt s c nothing = record { answer = refused 0; state = s; list = [] }
 unfoldable pub ordering : State → ℕ → ℕ → ℕ → Result
 ordering s line p d =
     orderedAt s (newCharge s line p d)
-    (earliest (limitsOf s) (s .clock) (loadsOf (s .charges)) line (activeFor (newCharge s line p d 0)))
+    (earliest (limitsOf s) (s .clock) (loadsOf (s .charges)) (drawOf (newCharge s line p d 0)))
 
 -- Move the clock
 

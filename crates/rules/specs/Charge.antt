@@ -1,10 +1,10 @@
--- Charges: what they draw, begun and waiting, finished, last end, lateness (document 01, "The yard and its words").
+-- Charges: what they draw, begun and waiting, finished, last end, lateness (docs/RULES.md, section 1).
 use Prim.Native.Nat.{ℕ, _+_, _-_, max}
 use mathlib.Core.Bool.{Bool, not, _&&_, _||_}
 use mathlib.Core.List.{List, [], _∷_, map}
 use lib.Dec.{ltb, leb, eqb}
 use Rattle.rules.specs.Basics.{keep}
-use Rattle.rules.specs.Load.{Load, loadFrom}
+use Rattle.rules.specs.Load.{Load, Draw, draw, loadFrom}
 
 -- "A charge has a ticket, a line, an order minute, a charging time p, a due minute d and a start s."
 pub record Charge : Type 0 where
@@ -24,13 +24,13 @@ starting c s =
 abbrev pub endOf : Charge → ℕ
 endOf c = c .start + c .time
 
--- for how many minutes it is active
-abbrev pub activeFor : Charge → ℕ
-activeFor c = c .time
+-- what it draws wherever it starts
+abbrev pub drawOf : Charge → Draw
+drawOf c = draw (c .line) (c .time)
 
 -- "It is active in minutes s to s + p − 1."
 abbrev pub loadOf : Charge → Load
-loadOf c = loadFrom (c .line) (activeFor c) (c .start)
+loadOf c = loadFrom (drawOf c) (c .start)
 
 abbrev pub loadsOf : List Charge → List Load
 loadsOf cs = map loadOf cs

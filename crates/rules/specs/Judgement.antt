@@ -1,4 +1,4 @@
--- The test that an offer and both replans end with (document 01, "Causes for keeping the old plan").
+-- The test that an offer and both replans end with (docs/RULES.md, section 3).
 use Prim.Native.Nat.{ℕ}
 use mathlib.Core.Bool.{Bool, cond, not}
 use mathlib.Core.List.{List, [], _∷_}

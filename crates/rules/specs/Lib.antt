@@ -6,4 +6,6 @@ pub mod Replan
 pub mod Judgement
 pub mod Calls
 pub mod Valid
-pub mod Cases
+pub mod Entry
+pub mod CasesAToL
+pub mod CasesAtEdges

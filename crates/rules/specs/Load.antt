@@ -1,5 +1,5 @@
--- Loads, the count of a line in a minute, and soundness (document 01, "The yard and its words").
-use Prim.Native.Nat.{ℕ, zero, suc, _+_, _-_, max, _≤_}
+-- Loads, the count of a line in a minute, and soundness (docs/RULES.md, section 1).
+use Prim.Native.Nat.{ℕ, _+_, _-_, max, _≤_}
 use mathlib.Core.Bool.{Bool, cond, _&&_}
 use mathlib.Core.List.{List, [], _∷_}
 use lib.Dec.{ltb, leb, eqb}
@@ -11,9 +11,17 @@ pub record Load : Type 0 where
   pub from : ℕ
   pub until : ℕ
 
--- the load on a line that begins in minute s and lasts `time` minutes
-abbrev pub loadFrom : ℕ → ℕ → ℕ → Load
-loadFrom line time s = record { line = line; from = s; until = s + time }
+-- What a charge draws wherever it starts: a point on a line, for `time` minutes.
+pub record Draw : Type 0 where
+  pub line : ℕ
+  pub time : ℕ
+
+abbrev pub draw : ℕ → ℕ → Draw
+draw line time = record { line = line; time = time }
+
+-- its load, if it starts in minute s
+abbrev pub loadFrom : Draw → ℕ → Load
+loadFrom a s = record { line = a .line; from = s; until = s + a .time }
 
 -- "It is active in minutes s to s + p − 1."
 abbrev pub active : Load → ℕ → Bool

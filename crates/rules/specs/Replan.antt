@@ -1,11 +1,11 @@
--- Both replanners (document 01, "Replan by latest start" and "Replan by lines").
+-- Both replanners (docs/RULES.md, sections 4 and 5).
 use Prim.Native.Nat.{ℕ, zero, suc, _+_, _-_, min}
 use mathlib.Core.Bool.{Bool, cond, _&&_}
 use mathlib.Core.List.{List, [], _∷_, _++_, map}
 use lib.Dec.{leb, eqb}
 use Rattle.rules.specs.Basics.{Found, at, nothing, keep, some, sortedBy}
-use Rattle.rules.specs.Load.{Load, active, counts, Limits, onLines}
-use Rattle.rules.specs.Charge.{Charge, starting, activeFor, loadOf, loadsOf, begunCharges, waitingCharges, thenTicket}
+use Rattle.rules.specs.Load.{active, counts, Limits, onLines}
+use Rattle.rules.specs.Charge.{Charge, starting, drawOf, loadOf, loadsOf, begunCharges, waitingCharges, thenTicket}
 use Rattle.rules.specs.Search.{earliest, Caps, earliestUnder, firstUnbalanced}
 
 -- "by d − p, then ticket". Each side has the other's p added, so that nothing is cut off at zero.
@@ -48,7 +48,7 @@ proposed waiting stuck = none 1
 -- "Give each the smallest start, not below the clock, after which the begun charges and those placed so far,
 -- itself included, are sound in every minute from the clock on."
 abbrev pub soundStart : Limits → ℕ → List Charge → List Charge → Charge → Found
-soundStart y clock begun placed c = earliest y clock (loadsOf (begun ++ placed)) (c .line) (activeFor c)
+soundStart y clock begun placed c = earliest y clock (loadsOf (begun ++ placed)) (drawOf c)
 
 -- Replan by latest start: "Keep the begun charges. Take the waiting ones by d − p, then ticket."
 unfoldable pub latest : Limits → ℕ → List Charge → Proposal
@@ -59,7 +59,7 @@ latest y clock held =
 -- "Give each the smallest start, not below the clock, with the line's count, itself included, at or below the cap
 -- in all its minutes."
 abbrev pub cappedStart : Caps → ℕ → List Charge → List Charge → Charge → Found
-cappedStart cap clock begun placed c = earliestUnder cap clock (loadsOf (begun ++ placed)) (c .line) (activeFor c)
+cappedStart cap clock begun placed c = earliestUnder cap clock (loadsOf (begun ++ placed)) (drawOf c)
 
 abbrev pub onLine : ℕ → List Charge → List Charge
 onLine l cs = keep (λ c. eqb (c .line) l) cs

@@ -1,28 +1,28 @@
--- The smallest start of a charge, and the first unbalanced minute (document 01, "Order" and both replans).
+-- The smallest start of a charge, and the first unbalanced minute (docs/RULES.md, sections 3 to 5).
 -- Past the last end of a plan every count is 0, so each search ends there; proofs/Searches.antt shows that it misses nothing.
 use Prim.Native.Nat.{ℕ, suc, _-_}
 use mathlib.Core.Bool.{not}
 use mathlib.Core.List.{List, [], _∷_, _++_}
 use lib.Dec.{leb}
 use Rattle.rules.specs.Basics.{throughout, Found, first}
-use Rattle.rules.specs.Load.{Load, loadFrom, count, lastUntil, Limits, sound, balanceAt}
+use Rattle.rules.specs.Load.{Load, Draw, loadFrom, count, lastUntil, Limits, sound, balanceAt}
 
--- the loads and one more, on a line for `time` minutes from s on
-abbrev pub added : List Load → ℕ → ℕ → ℕ → List Load
-added xs line time s = xs ++ (loadFrom line time s ∷ [])
+-- the loads and that of one more charge, with its start s
+abbrev pub added : List Load → Draw → ℕ → List Load
+added xs a s = xs ++ (loadFrom a s ∷ [])
 
 -- "The start is the smallest s not below the clock with which the held plan and this charge are sound together."
-unfoldable pub earliest : Limits → ℕ → List Load → ℕ → ℕ → Found
-earliest y clock xs line time = first (λ s. sound y clock (added xs line time s)) (suc (lastUntil xs - clock)) clock
+unfoldable pub earliest : Limits → ℕ → List Load → Draw → Found
+earliest y clock xs a = first (λ s. sound y clock (added xs a s)) (suc (lastUntil xs - clock)) clock
 
 -- the cap of each line in each minute
 abbrev pub Caps : Type 0
 Caps = ℕ → ℕ → ℕ
 
 -- "the smallest start, not below the clock, with the line's count, itself included, at or below the cap in all its minutes"
-unfoldable pub earliestUnder : Caps → ℕ → List Load → ℕ → ℕ → Found
-earliestUnder cap clock xs line time =
-    first (λ s. throughout (λ t. leb (count (added xs line time s) line t) (cap line t)) time s)
+unfoldable pub earliestUnder : Caps → ℕ → List Load → Draw → Found
+earliestUnder cap clock xs a =
+    first (λ s. throughout (λ t. leb (count (added xs a s) (a .line) t) (cap (a .line) t)) (a .time) s)
     (suc (lastUntil xs - clock))
     clock
 

@@ -8,7 +8,7 @@ use lib.ListN.{length}
 use Rattle.rules.specs.Basics.{Each}
 use Rattle.rules.specs.Load.{IsLine, sound}
 use Rattle.rules.specs.Charge.{Charge, endOf, loadsOf, lastEnd}
-use Rattle.rules.specs.Calls.{State, boundOf, limitsOf}
+use Rattle.rules.specs.Calls.{places, State, boundOf, limitsOf}
 
 -- one charge that is held
 pub record ValidCharge (clock next : ℕ) (c : Charge) : Type 0 where
@@ -36,7 +36,7 @@ pub record ValidState (s : State) : Type 0 where
   pub clock-high : s .clock ≤ 1000000
   pub next-low : 1 ≤ s .next
   pub next-high : s .next ≤ 65536
-  pub few : length (s .charges) ≤ 180
+  pub few : length (s .charges) ≤ places
   pub each : Each (ValidCharge (s .clock) (s .next)) (s .charges)
   pub rising : Rising 1 (s .charges)
   -- next - 1 tickets have been given: no end is above the clock and 1,440 minutes for each of them

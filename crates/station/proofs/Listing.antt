@@ -9,7 +9,8 @@ use Rattle.rules.specs.Charge.{Charge, endOf, lastEnd}
 use Rattle.rules.specs.Valid.{ValidCharge, Rising}
 use Rattle.rules.proofs.Ranges.{below-or-not}
 use Rattle.rules.proofs.Lists.{tabulate-each}
-use Rattle.rules.proofs.Validity.{rising-from, each-lastEnd}
+use Rattle.rules.proofs.Tickets.{rising-from}
+use Rattle.rules.proofs.Ends.{each-lastEnd}
 use Rattle.charges.specs.Arrays.{chargeAt, chargesOf}
 use Rattle.charges.specs.Held.{Small, Listed}
 use Rattle.station.specs.declared.Station.{Station}

@@ -12,32 +12,20 @@ use Rattle.rules.specs.Charge.{Charge, unfinishedCharges}
 use Rattle.rules.specs.Calls.{moved, refusals, reported, pairs, written, moving, move, step}
 use Rattle.rules.proofs.Lists.{length-tabulate}
 use Rattle.charges.specs.declared.Charges.{Charges}
-use Rattle.charges.specs.declared.Places.{Places}
+use Rattle.charges.specs.declared.places.Places.{Places}
 use Rattle.charges.specs.Arrays.{chargeAt, chargesOf, Holds}
 use Rattle.charges.specs.Places.{placeAt, placesOf, Ordered}
 use Rattle.charges.proofs.Storing.{holds-length}
 use Rattle.charges.proofs.Walking.{keep-length, isUnfinished}
+use Rattle.rules.proofs.Granted.{refusals-none, MoveGranted, move-granted}
 use Rattle.station.specs.declared.Station.{Station}
 use Rattle.station.specs.View.{view}
 use Rattle.station.specs.Answers.{giving}
-use Rattle.station.proofs.Refusing.{none-refuses, call-granted}
+use Rattle.station.proofs.Refusing.{call-granted}
 
 -- what neither refusal 8, 9 nor 12 turns away
-pub record Movable (s : Station) (target : ℕ) (list : List ℕ) : Type 0 where
-  pub target-most : target ≤ 1000000
-  pub room : 360 ≤ length list
-  pub not-back : s .clock ≤ target
-
-pub move-granted : (s : Station) (target : ℕ) (list : List ℕ) → firstOf (refusals (view s) (move target list)) ≡ 0 → Movable s target list
-move-granted s target list e =
-    let one = none-refuses (ltb 1000000 target) 8 (firstOf ((ltb (length list) 360, 9) ∷ (ltb target (s .clock), 12) ∷ [])) (omega arith) e in
-    let two = none-refuses (ltb (length list) 360) 9 (firstOf ((ltb target (s .clock), 12) ∷ [])) (omega arith) (one .1) in
-    let three = none-refuses (ltb target (s .clock)) 12 0 (omega arith) (two .1) in
-    record {
-      target-most = ltb-false 1000000 target (one .0);
-      room = ltb-false (length list) 360 (two .0);
-      not-back = ltb-false target (s .clock) (three .0);
-    }
+pub movable : (s : Station) (target : ℕ) (list : List ℕ) → firstOf (refusals (view s) (move target list)) ≡ 0 → MoveGranted (view s) target list
+movable s target list e = move-granted (view s) target list (refusals-none (view s) (move target list) e)
 
 abbrev pub movedStation : Station → ℕ → Charges → Station
 movedStation s target left =

@@ -1,36 +1,23 @@
 -- The fresh station is valid, and what an opening that is not refused has been given.
 use mathlib.Core.Path.{_≡_, ap, sym, _∙_}
 use Prim.Native.Nat.{ℕ, _*_, _/_, _≤_, _<_}
-use mathlib.Core.Bool.{_||_}
-use mathlib.Core.List.{[], _∷_}
+use mathlib.Core.List.{[]}
 use native.Mathlib.Omega.{arith}
 use native.Mathlib.Nat.{mul-le-mul}
-use lib.Dec.{ltb}
-use borrow.Author.Tests.{ltb-false}
 use Rattle.rules.specs.Basics.{firstOf}
-use Rattle.rules.specs.Calls.{State, refused, opened, boundOf, fresh, openRefusals, opening}
-use Rattle.rules.proofs.Ranges.{or-left, or-right}
+use Rattle.rules.specs.Calls.{Settings, settings, State, refused, opened, fresh, openRefusals, opening}
+use Rattle.rules.proofs.Tables.{firstOf-none}
+use Rattle.rules.proofs.Granted.{OpenGranted, open-granted, openRefusals-numbered}
 use Rattle.charges.specs.declared.Charges.{Charges}
 use Rattle.charges.specs.Arrays.{Holds}
 use Rattle.station.specs.declared.Station.{Station}
 use Rattle.station.specs.View.{view}
 use Rattle.station.specs.Answers.{giving}
-use Rattle.station.proofs.Refusing.{answering-refused, answering-granted, none-refuses}
+use Rattle.station.proofs.Refusing.{answering-refused, answering-granted}
 
 -- what neither refusal 1, 2 nor 3 turns away
-pub open-granted :
-    (n c : ℕ)
-    → firstOf (openRefusals n c) ≡ 0
-    → (1 ≤ n) × (n ≤ 60) × (c ≤ 100) × (100 ≤ c * n)
-open-granted n c e =
-    let one = none-refuses (ltb n 1 || ltb 60 n) 1 (firstOf ((ltb 100 c, 2) ∷ (ltb (c * n) 100, 3) ∷ [])) (omega arith) e in
-    let two = none-refuses (ltb 100 c) 2 (firstOf ((ltb (c * n) 100, 3) ∷ [])) (omega arith) (one .1) in
-    let three = none-refuses (ltb (c * n) 100) 3 0 (omega arith) (two .1) in (
-      ltb-false n 1 (or-left (ltb n 1) (ltb 60 n) (one .0)),
-      ltb-false 60 n (or-right (ltb n 1) (ltb 60 n) (one .0)),
-      ltb-false 100 c (two .0),
-      ltb-false (c * n) 100 (three .0),
-    )
+pub opens : (x : Settings) → firstOf (openRefusals x) ≡ 0 → OpenGranted x
+opens x e = open-granted x (firstOf-none (openRefusals x) (openRefusals-numbered x) e)
 
 pub product-most : (n c : ℕ) → n ≤ 60 → c ≤ 100 → c * n ≤ 6000
 product-most n c h l = omega (arith, mul-le-mul l h)
@@ -39,22 +26,22 @@ abbrev pub freshStation : ℕ → ℕ → Charges → Station
 freshStation n c h = record { limit = n; percent = c; bound = c * n / 100; clock = 0; next = 1; charges = h }
 
 module _ (n c : ℕ) (h : Charges) (none : Holds [] h) where
-  pub view-fresh : view (freshStation n c h) ≡ fresh n c
+  pub view-fresh : view (freshStation n c h) ≡ fresh (settings n c)
   view-fresh = rw (none .charges)
 
 -- The result of an opening
 
-module _ (n c k : ℕ) (s : Station) (e : k ≡ firstOf (openRefusals n c)) where
-  pub open-refused : 0 < k → view s ≡ fresh 1 100 → giving (refused k) s [] ≡ opening n c
+module _ (x : Settings) (k : ℕ) (s : Station) (e : k ≡ firstOf (openRefusals x)) where
+  pub open-refused : 0 < k → view s ≡ fresh (settings 1 100) → giving (refused k) s [] ≡ opening x
   unfolding opening
   open-refused h v =
       rw (← e)
       (ap (λ (z : State). record { answer = refused k; state = z; list = [] }) v
-      ∙ sym (answering-refused k (fresh 1 100) [] (record { answer = opened (boundOf n c); state = fresh n c; list = [] }) h))
+      ∙ sym (answering-refused k (fresh (settings 1 100)) [] (record { answer = opened (fresh x .bound); state = fresh x; list = [] }) h))
 
-  pub open-opened : k ≡ 0 → view s ≡ fresh n c → giving (opened (s .bound)) s [] ≡ opening n c
+  pub open-opened : k ≡ 0 → view s ≡ fresh x → giving (opened (s .bound)) s [] ≡ opening x
   unfolding opening
   open-opened h v =
       rw (← e)
       (ap (λ (z : State). record { answer = opened (z .bound); state = z; list = [] }) v
-      ∙ sym (answering-granted k (fresh 1 100) [] (record { answer = opened (boundOf n c); state = fresh n c; list = [] }) h))
+      ∙ sym (answering-granted k (fresh (settings 1 100)) [] (record { answer = opened (fresh x .bound); state = fresh x; list = [] }) h))

@@ -8,81 +8,71 @@ use lib.Dec.{ltb}
 use lib.ListN.{length}
 use borrow.Author.Tests.{ltb-false, leb-false}
 use Rattle.rules.specs.Basics.{at, nothing, firstOf}
-use Rattle.rules.specs.Load.{Load, lastUntil, limits}
-use Rattle.rules.specs.Charge.{loadOf, loadsOf}
+use Rattle.rules.specs.Load.{draw, lastUntil, limits}
+use Rattle.rules.specs.Charge.{loadsOf, begunCharges}
 use Rattle.rules.specs.Search.{earliest}
 use Rattle.rules.specs.Calls.{refused, ordered, limitsOf, refusals, newCharge, orderedAt, ordering, order, step}
-use Rattle.rules.proofs.Ranges.{or-right}
-use Rattle.rules.proofs.Lists.{length-tabulate, map-tabulate}
-use Rattle.rules.proofs.Tables.{NoneHolds, firstOf-none}
-use Rattle.rules.proofs.Validity.{last-until}
+use Rattle.rules.proofs.Granted.{refusals-none, order-granted}
+use Rattle.rules.proofs.Lists.{length-tabulate}
+use Rattle.rules.proofs.Ends.{last-until}
 use Rattle.charges.specs.declared.Charges.{Charges}
 use Rattle.charges.specs.Arrays.{charge, chargeAt, chargesOf, Holds}
 use Rattle.profile.specs.declared.Profile.{Profile}
-use Rattle.profile.specs.Shows.{Shows, loadsIn, EndsFit, CanStart}
-use Rattle.profile.proofs.Starts.{can-start}
+use Rattle.profile.specs.Shows.{Shows}
+use Rattle.search.specs.Starts.{CanStart}
+use Rattle.search.proofs.Starts.{can-start}
+use Rattle.planner.specs.Ready.{EndsFit}
+use Rattle.planner.proofs.Showing.{length-loads-of, listed-ends, all-before}
 use Rattle.station.specs.declared.Station.{Station}
 use Rattle.station.specs.View.{view, Valid}
 use Rattle.station.specs.Answers.{giving}
 use Rattle.station.proofs.Refusing.{call-granted}
 use Rattle.station.proofs.Listing.{valid-listed}
 
--- what the charges draw, read off the arrays
-abbrev pub drawn : Charges → List Load
-drawn c = loadsIn (c .lines) (c .times) (c .starts) (c .held)
+-- what `profile_before` asks
+pub ends-fit : (s : Station) → Valid s → EndsFit (s .charges)
+ends-fit s v = listed-ends (valid-listed s v)
 
-pub loads-drawn : (c : Charges) → loadsOf (chargesOf c) ≡ drawn c
-loads-drawn c = map-tabulate loadOf (chargeAt c) (c .held) 0
+-- every start is below what `order` passes, so that all held charges are in the profile
+pub all-shown :
+    (s : Station) (p : Profile)
+    → Valid s
+    → Shows p (s .clock) (loadsOf (begunCharges 4294967295 (chargesOf (s .charges))))
+    → Shows p (s .clock) (loadsOf (chargesOf (s .charges)))
+all-shown s p v h =
+    rw (all-before (s .charges) 4294967295 (λ i low. omega (arith, valid-listed s v .small i low .start-most))) at h
 
--- no end of a valid station reaches 32 bits
-pub ends-fit : (s : Station) → Valid s → EndsFit (s .charges .times) (s .charges .starts) (s .charges .held)
-ends-fit s v i h =
-    let small = valid-listed s v .small i h in
-    omega (arith, small .time-most, small .start-most)
+last-held : (s : Station) → Valid s → lastUntil (loadsOf (chargesOf (s .charges))) ≤ 100000000
+last-held s v =
+    omega (arith, last-until (chargesOf (s .charges)), v .state .ends-high, v .state .clock-high, v .state .next-high)
 
-last-drawn : (s : Station) → Valid s → lastUntil (drawn (s .charges)) ≤ 100000000
-last-drawn s v =
-    omega (
-      arith,
-      ap lastUntil (loads-drawn (s .charges)),
-      last-until (chargesOf (s .charges)),
-      v .state .ends-high,
-      v .state .clock-high,
-      v .state .next-high,
-    )
-
--- what neither of refusals 4 to 14 turns away
+-- what neither of refusals 4 to 14 turns away, read off the arrays
 pub record Orderable (s : Station) (line time due : ℕ) : Type 0 where
   pub time-most : time ≤ 1440
   pub room : s .charges .held < 180
   pub tickets-left : s .next ≤ 65535
 
-pub order-granted :
+pub orderable :
     (s : Station) (line time due : ℕ) → firstOf (refusals (view s) (order line time due)) ≡ 0 → Orderable s line time due
-order-granted s line time due e =
-    let p : NoneHolds (refusals (view s) (order line time due))
-    = firstOf-none (refusals (view s) (order line time due)) (omega arith) e in
+orderable s line time due e =
+    let g = order-granted (view s) line time due (refusals-none (view s) (order line time due) e) in
     record {
-      time-most = ltb-false 1440 time (or-right (ltb time 1) (ltb 1440 time) (p .1 .0));
-      room =
-          omega (
-            arith,
-            leb-false 180 (length (chargesOf (s .charges))) (p .1 .1 .1 .1 .0),
-            length-tabulate (chargeAt (s .charges)) (s .charges .held) 0,
-          );
-      tickets-left = ltb-false 65535 (s .next) (p .1 .1 .1 .1 .1 .0);
+      time-most = g .time-high;
+      room = omega (arith, g .room, length-tabulate (chargeAt (s .charges)) (s .charges .held) 0);
+      tickets-left = g .ticket-left;
     }
 
 pub can-search :
-    (s : Station) (p : Profile) (time : ℕ) → Valid s → Shows p (s .clock) (drawn (s .charges)) → time ≤ 1440 → CanStart p time
+    (s : Station) (p : Profile) (time : ℕ) → Valid s → Shows p (s .clock) (loadsOf (chargesOf (s .charges))) → time ≤ 1440 → CanStart p time
 can-search s p time v shows h =
     can-start shows time
     (omega (
       arith,
-      length-tabulate (λ i. loadOf (chargeAt (s .charges) i)) (s .charges .held) 0,
+      length-loads-of (chargesOf (s .charges)),
+      length-tabulate (chargeAt (s .charges)) (s .charges .held) 0,
       v .columns .few,
     ))
-    (omega (arith, last-drawn s v, v .state .clock-high))
+    (omega (arith, last-held s v, v .state .clock-high))
 
 abbrev pub orderedStation : Station → Charges → Station
 orderedStation s c =
@@ -98,7 +88,7 @@ orderedStation s c =
 module _ (s : Station) (line time due k : ℕ) (e : k ≡ firstOf (refusals (view s) (order line time due))) (z : k ≡ 0) where
   pub call-ordered :
       (start : ℕ) (c : Charges)
-      → earliest (limits (s .limit) (s .bound)) (s .clock) (drawn (s .charges)) line time ≡ at start
+      → earliest (limits (s .limit) (s .bound)) (s .clock) (loadsOf (chargesOf (s .charges))) (draw line time) ≡ at start
       → Holds (chargesOf (s .charges) ++ (charge (s .next) line (s .clock) time due start ∷ [])) c
       → giving (ordered (s .next) start) (orderedStation s c) [] ≡ step (view s) (order line time due)
   unfolding ordering
@@ -107,14 +97,14 @@ module _ (s : Station) (line time due k : ℕ) (e : k ≡ firstOf (refusals (vie
       (sym
       (call-granted s (order line time due) k e z
       ∙ ap (orderedAt (view s) (newCharge (view s) line time due))
-      (ap (λ (xs : List Load). earliest (limitsOf (view s)) (s .clock) xs line time) (loads-drawn (s .charges)) ∙ f)))
+      f))
 
   pub call-nothing :
-      earliest (limits (s .limit) (s .bound)) (s .clock) (drawn (s .charges)) line time ≡ nothing
+      earliest (limits (s .limit) (s .bound)) (s .clock) (loadsOf (chargesOf (s .charges))) (draw line time) ≡ nothing
       → giving (refused 0) s [] ≡ step (view s) (order line time due)
   unfolding ordering
   call-nothing f =
       sym
       (call-granted s (order line time due) k e z
       ∙ ap (orderedAt (view s) (newCharge (view s) line time due))
-      (ap (λ (xs : List Load). earliest (limitsOf (view s)) (s .clock) xs line time) (loads-drawn (s .charges)) ∙ f))
+      f)

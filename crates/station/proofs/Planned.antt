@@ -17,7 +17,7 @@ use Rattle.rules.specs.Calls.{Answer, refused, planned, limitsOf, decided, test
 use Rattle.charges.specs.declared.Charges.{Charges}
 use Rattle.charges.specs.Arrays.{chargesOf, Columns, Holds}
 use Rattle.planner.specs.declared.Proposed.{Proposed}
-use Rattle.planner.specs.declared.Judgement.{Judgement}
+use Rattle.planner.specs.declared.judge.Judgement.{Judgement}
 use Rattle.planner.specs.Starts.{waitingCount}
 use Rattle.planner.specs.Ready.{Ready}
 use Rattle.planner.specs.Answers.{proposal, proposalOf}

@@ -5,7 +5,7 @@ use mathlib.Core.Bool.{Bool, true, false, cond}
 use mathlib.Core.List.{List, []}
 use native.Mathlib.Omega.{arith}
 use Rattle.rules.specs.Basics.{firstOf}
-use Rattle.rules.specs.Calls.{State, Answer, refused, Result, answering, opening, Call, lent, refusals, granted, step}
+use Rattle.rules.specs.Calls.{Settings, State, Answer, refused, Result, answering, opening, Call, lent, refusals, granted, step}
 use Rattle.rules.specs.Valid.{ValidState}
 use Rattle.rules.proofs.Validity.{opening-valid, step-valid}
 use Rattle.charges.specs.Arrays.{Columns}
@@ -22,11 +22,6 @@ answering-refused (suc k) s list r h = refl
 
 pub answering-granted : (k : ℕ) (s : State) (list : List ℕ) (r : Result) → k ≡ 0 → answering k s list r ≡ r
 answering-granted k s list r e = rw e
-
--- without a refusal neither the first condition holds nor another
-pub none-refuses : (b : Bool) (k rest : ℕ) → 0 < k → cond b k rest ≡ 0 → (b ≡ false) × (rest ≡ 0)
-none-refuses true k rest h e = absurd (omega arith)
-none-refuses false k rest h e = (refl, e)
 
 -- A refused call of a station: "the station and every list stay"
 pub call-refused :
@@ -68,8 +63,8 @@ call-gives s call answer next list v h e =
     gives-valid (step (view s) call) answer next list (step-valid (view s) call (v .state)) h e
 
 pub opening-gives :
-    (n c : ℕ) (answer : Answer) (s : Station)
+    (x : Settings) (answer : Answer) (s : Station)
     → Columns (s .charges)
-    → giving answer s [] ≡ opening n c
-    → Gives (opening n c) answer s []
-opening-gives n c answer s h e = gives-valid (opening n c) answer s [] (opening-valid n c) h e
+    → giving answer s [] ≡ opening x
+    → Gives (opening x) answer s []
+opening-gives x answer s h e = gives-valid (opening x) answer s [] (opening-valid x) h e

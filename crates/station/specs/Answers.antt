@@ -2,20 +2,22 @@
 use Prim.Native.Nat.{ℕ}
 use mathlib.Core.Path.{_≡_}
 use mathlib.Core.List.{List}
-use Rattle.rules.specs.Calls.{State, Answer, refused, opened, ordered, moved, planned, waiting, charging, Result, tested}
+use Rattle.rules.specs.Calls as rules
+use Rattle.rules.specs.Calls.{State, settings, Answer, refused, opened, ordered, moved, planned, waiting, charging, Result, tested}
 use Rattle.rules.specs.Replan.{Proposal}
 use Rattle.charges.specs.Arrays.{Columns}
 use Rattle.station.specs.declared.Station.{Station}
-use Rattle.station.specs.declared.OpenAnswer.{OpenAnswer}
-use Rattle.station.specs.declared.OpenAnswer.the-variants.{Opened, Refused as OpenRefused}
+use Rattle.station.specs.declared.open.Settings.{Settings}
+use Rattle.station.specs.declared.open.OpenAnswer.{OpenAnswer}
+use Rattle.station.specs.declared.open.OpenAnswer.the-variants.{Opened, Refused as OpenRefused}
 use Rattle.station.specs.declared.order.OrderAnswer.{OrderAnswer}
 use Rattle.station.specs.declared.order.OrderAnswer.the-variants.{Ordered, Refused as OrderRefused}
 use Rattle.station.specs.declared.clock.MoveAnswer.{MoveAnswer}
 use Rattle.station.specs.declared.clock.MoveAnswer.the-variants.{Moved, Refused as MoveRefused}
 use Rattle.station.specs.declared.plan.PlanAnswer.{PlanAnswer}
 use Rattle.station.specs.declared.plan.PlanAnswer.the-variants.{Planned, Refused as PlanRefused}
-use Rattle.station.specs.declared.enquiry.Enquiry.{Enquiry}
-use Rattle.station.specs.declared.enquiry.Enquiry.the-variants.{Waiting, Charging, Refused as EnquiryRefused}
+use Rattle.station.specs.declared.enquiry.EnquiryAnswer.{EnquiryAnswer}
+use Rattle.station.specs.declared.enquiry.EnquiryAnswer.the-variants.{Waiting, Charging, Refused as EnquiryRefused}
 use Rattle.station.specs.View.{view, Valid}
 
 -- an answer, the station beside it and the lent list, as a result of the rules
@@ -31,6 +33,10 @@ pub record Gives (r : Result) (answer : Answer) (s : Station) (list : List ℕ) 
 pub record Tests (s : State) (rounds : ℕ) (p : Proposal) (answer : Answer) (next : Station) : Type 0 where
   pub result : (list : List ℕ) → giving answer next list ≡ tested s rounds p list
   pub columns : Columns (next .charges)
+
+-- the settings of an opening, in the words of the rules
+abbrev pub settingsOf : Settings → rules.Settings
+settingsOf x = settings (x .limit) (x .percent)
 
 abbrev pub openAnswer : OpenAnswer → Answer
 openAnswer (Opened bound) = opened bound
@@ -48,7 +54,8 @@ abbrev pub planAnswer : PlanAnswer → Answer
 planAnswer (Planned cause before after rounds) = planned cause before after rounds
 planAnswer (PlanRefused number) = refused number
 
-abbrev pub enquiryAnswer : Enquiry → Answer
+-- "no held charge has this ticket" is refusal 15
+abbrev pub enquiryAnswer : EnquiryAnswer → Answer
 enquiryAnswer (Waiting start) = waiting start
 enquiryAnswer (Charging start end) = charging start end
-enquiryAnswer (EnquiryRefused number) = refused number
+enquiryAnswer EnquiryRefused = refused 15

@@ -20,23 +20,34 @@ callOf ReplanLatest starts report = replanLatest
 callOf (ReplanLines allowance) starts report = replanLines allowance
 callOf (Enquire ticket) starts report = enquire ticket
 
+-- Which of the two lists is lent to a call: none of them, the starts that it reads, or the report that it writes.
+pub data Lends : Type 0 where
+  none : Lends
+  starts : Lends
+  report : Lends
+
+abbrev pub lends : Call → Lends
+lends (Order line time due) = none
+lends (Move target) = report
+lends Offer = starts
+lends ReplanLatest = none
+lends (ReplanLines allowance) = none
+lends (Enquire ticket) = none
+
 -- the list lent to the call as it is afterwards
+abbrev pub lentOf : Lends → List ℕ → List ℕ → List ℕ
+lentOf none read written = []
+lentOf starts read written = read
+lentOf report read written = written
+
 abbrev pub listAfter : Call → List ℕ → List ℕ → List ℕ
-listAfter (Order line time due) starts report = []
-listAfter (Move target) starts report = report
-listAfter Offer starts report = starts
-listAfter ReplanLatest starts report = []
-listAfter (ReplanLines allowance) starts report = []
-listAfter (Enquire ticket) starts report = []
+listAfter call read written = lentOf (lends call) read written
 
 -- a report list that is not lent to the call stays
-abbrev pub ReportStays : Call → List ℕ → List ℕ → Type 0
-ReportStays (Order line time due) before after = after ≡ before
-ReportStays (Move target) before after = Unit {0}
-ReportStays Offer before after = after ≡ before
-ReportStays ReplanLatest before after = after ≡ before
-ReportStays (ReplanLines allowance) before after = after ≡ before
-ReportStays (Enquire ticket) before after = after ≡ before
+abbrev pub ReportStays : Lends → List ℕ → List ℕ → Type 0
+ReportStays none before after = after ≡ before
+ReportStays starts before after = after ≡ before
+ReportStays report before after = Unit {0}
 
 abbrev pub answerOf : Answer → rules.Answer
 answerOf (OrderOf a) = orderAnswer a
@@ -47,4 +58,4 @@ answerOf (EnquiryOf a) = enquiryAnswer a
 -- exactly what one step of the rules gives
 pub record Applies (s : State) (call : Call) (starts before after : List ℕ) (answer : Answer) (next : Station) : Type 0 where
   pub gives : Gives (step s (callOf call starts before)) (answerOf answer) next (listAfter call starts after)
-  pub stays : ReportStays call before after
+  pub stays : ReportStays (lends call) before after

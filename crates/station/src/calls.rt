@@ -1,7 +1,7 @@
 // Any call of a station that stands, given as a value, with the lists lent beside it.
 use crate::Station;
 use crate::clock::MoveAnswer;
-use crate::enquiry::Enquiry;
+use crate::enquiry::EnquiryAnswer;
 use crate::order::OrderAnswer;
 use crate::plan::PlanAnswer;
 ghost use Rattle.station.specs.View.{view, Valid};
@@ -20,7 +20,7 @@ pub enum Answer {
     Order(OrderAnswer),
     Move(MoveAnswer),
     Plan(PlanAnswer),
-    Enquiry(Enquiry),
+    Enquiry(EnquiryAnswer),
 }
 
 pub struct Applied {
@@ -80,10 +80,15 @@ impl Station {
                     station,
                 }
             }
-            Call::Enquire { ticket } => Applied {
-                answer: Answer::Enquiry(self.enquire(ticket)),
-                station: self,
-            },
+            Call::Enquire { ticket } => {
+                let done = self.enquire(ticket);
+                let answer = done.answer;
+                let station = done.station;
+                Applied {
+                    answer: Answer::Enquiry(answer),
+                    station,
+                }
+            }
         }
     }
 }

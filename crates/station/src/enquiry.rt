@@ -5,31 +5,45 @@ ghost use Rattle.rules.specs.Calls.{enquire as enquireCall, step};
 ghost use Rattle.station.specs.View.{view, Valid};
 ghost use Rattle.station.specs.Answers.{Gives, enquiryAnswer};
 
-pub enum Enquiry {
+// An enquiry is refused for one reason alone, so that its refusal needs no number: it is 15 (specs/Answers.antt).
+pub enum EnquiryAnswer {
     Waiting(u32),
     Charging { start: u32, end: u32 },
-    Refused(u32),
+    Refused,
+}
+
+pub struct Enquiring {
+    pub answer: EnquiryAnswer,
+    pub station: Station,
 }
 
 impl Station {
-    // A start equal to the clock still waits.
-    pub fn enquire(self, ticket: u32) -> Enquiry
+    // A start equal to the clock still waits. The station stays as it is.
+    pub fn enquire(self, ticket: u32) -> Enquiring
         requires { ⌜ Valid self ⌝ }
-        ensures { λ r. ⌜ Gives (step (view self) (enquireCall ticket)) (enquiryAnswer r) self [] ⌝ }
+        ensures { λ r. ⌜ Gives (step (view self) (enquireCall ticket)) (enquiryAnswer (r .answer)) (r .station) [] ⌝ }
     {
         let held = self.charges;
         let charges::Place::At(i) = held.find(ticket) else {
-            return Enquiry::Refused(15);
+            return Enquiring {
+                answer: EnquiryAnswer::Refused,
+                station: self,
+            };
         };
         let start = held.starts[i];
         let time = held.times[i];
         if start < self.clock {
-            Enquiry::Charging {
-                start,
-                end: start + time,
-            }
-        } else {
-            Enquiry::Waiting(start)
+            return Enquiring {
+                answer: EnquiryAnswer::Charging {
+                    start,
+                    end: start + time,
+                },
+                station: self,
+            };
+        }
+        Enquiring {
+            answer: EnquiryAnswer::Waiting(start),
+            station: self,
         }
     }
 }

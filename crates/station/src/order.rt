@@ -1,7 +1,8 @@
 // An order: the smallest start with which the held plan and the new charge are sound together.
 use crate::Station;
-use profile::Profile;
+use planner::begun::profile_before;
 use profile::When;
+use search::start::earliest;
 ghost use mathlib.Core.Path.{_≡_};
 ghost use mathlib.Core.List.{[]};
 ghost use Rattle.rules.specs.Basics.{firstOf};
@@ -66,9 +67,18 @@ impl Station {
             };
         }
         let held = self.charges;
-        let count = held.held;
-        let profile = Profile::of(&held.lines, &held.times, &held.starts, count, self.clock);
-        let found = profile.earliest(self.limit, self.bound, line, time);
+        // No start is as late as that: all held charges are in the profile.
+        let profile = profile_before(held, self.clock, 4294967295);
+        let steps = profile.steps;
+        let found = earliest(
+            &profile.at,
+            &profile.counts,
+            steps,
+            self.limit,
+            self.bound,
+            line,
+            time,
+        );
         let When::Minute(start) = found else {
             return Ordering {
                 answer: OrderAnswer::Refused(0),

@@ -1,6 +1,9 @@
 // Offers and both replans: a list of starts, and the test that all three end with.
 use crate::Station;
 use planner::Proposed;
+use planner::judge::judged;
+use planner::latest::latest;
+use planner::rounds::by_lines;
 ghost use mathlib.Core.Path.{_≡_};
 ghost use mathlib.Core.List.{[]};
 ghost use Prim.Native.Nat.{_≤_};
@@ -34,7 +37,7 @@ impl Station {
         ensures { λ r. ⌜ Tests (view self) rounds (startsOf (take count (now (starts .entry)))) (planAnswer (r .answer)) (r .station) ⌝ }
     {
         let held = self.charges;
-        let judgement = planner::judged(held, self.clock, self.limit, self.bound, starts, count);
+        let judgement = judged(held, self.clock, self.limit, self.bound, starts, count);
         let charges = judgement.charges;
         let mut next = self;
         next.charges = charges;
@@ -93,7 +96,7 @@ impl Station {
         ensures { λ r. ⌜ Gives (step (view self) replanLatest) (planAnswer (r .answer)) (r .station) [] ⌝ }
     {
         let held = self.charges;
-        let proposed = planner::latest(held, self.clock, self.limit, self.bound);
+        let proposed = latest(held, self.clock, self.limit, self.bound);
         self.replanned(proposed, 0)
     }
 
@@ -114,7 +117,7 @@ impl Station {
             };
         }
         let held = self.charges;
-        let made = planner::by_lines(held, self.clock, self.limit, self.bound, allowance);
+        let made = by_lines(held, self.clock, self.limit, self.bound, allowance);
         let proposed = made.proposed;
         self.replanned(proposed, made.rounds)
     }

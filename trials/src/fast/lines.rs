@@ -1,5 +1,5 @@
-//! "Replan by lines". Each round places all three lines again on the profile of
-//! the begun charges, as the proved program does.
+//! "Replan by lines". The profile of the begun charges is made once; each round
+//! places all three lines again on a copy of it, as the proved program does.
 
 use super::plan::{ALLOWANCE_SPENT, NO_START};
 use super::profile::{Load, Profile, NEVER};
@@ -35,9 +35,11 @@ impl Station {
         let mut caps = [Caps::new(self.rules.limit); 3];
         let waiting = self.in_latest_start_order();
         let mut starts = vec![0; waiting.len()];
+        let begun = Profile::of(self.begun().map(Charge::load), self.clock);
         let mut rounds = 0;
         loop {
-            let profile = self.place_lines(&caps, &waiting, &mut starts);
+            let mut profile = begun.clone();
+            self.place_lines(&mut profile, &caps, &waiting, &mut starts);
             rounds += 1;
             let Some((minute, counts)) = profile.first_unbalanced(self.rules) else {
                 return self.take_or_keep(&starts, rounds);
@@ -54,8 +56,13 @@ impl Station {
     }
 
     /// One round; the starts go to their places in the list.
-    fn place_lines(&self, caps: &[Caps; 3], waiting: &Waiting, starts: &mut [u32]) -> Profile {
-        let mut profile = Profile::of(self.begun().map(Charge::load), self.clock);
+    fn place_lines(
+        &self,
+        profile: &mut Profile,
+        caps: &[Caps; 3],
+        waiting: &Waiting,
+        starts: &mut [u32],
+    ) {
         for (line, caps) in caps.iter().enumerate() {
             for (place, charge) in waiting.iter().filter(|(_, charge)| charge.line == line) {
                 let room = |counts: [u8; 3]| caps.0[usize::from(counts[line])];
@@ -64,7 +71,6 @@ impl Station {
                 starts[*place] = start;
             }
         }
-        profile
     }
 }
 

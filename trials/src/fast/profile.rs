@@ -39,6 +39,7 @@ impl Rules {
 }
 
 /// Step k lasts from `from[k]` to the next one.
+#[derive(Clone)]
 pub struct Profile {
     steps: usize,
     from: [u32; STEPS],

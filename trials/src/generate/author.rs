@@ -24,9 +24,9 @@ pub struct Author {
 }
 
 impl Author {
-    pub fn new(kind: &'static str, random: Random) -> Author {
+    pub fn new(kind: &'static str, number: u64, random: Random) -> Author {
         let interpreter = Interpreter::new(Station::fresh(1, 100));
-        Author { random, interpreter, script: Script { kind, ..Script::default() } }
+        Author { random, interpreter, script: Script { kind, number, ..Script::default() } }
     }
 
     pub fn station(&self) -> &Station {

@@ -4,7 +4,7 @@
 use super::author::Author;
 use super::due;
 
-fn fill(author: &mut Author, longest: u64) {
+pub fn fill(author: &mut Author, longest: u64) {
     while author.held() < 180 {
         let line = author.random.between(1, 3) as u32;
         due::order(author, line, longest);

@@ -92,24 +92,11 @@ fn long(author: &mut Author) -> Vec<u8> {
     line
 }
 
-/// Lists of about as many starts as a line may have.
-fn long_offer(author: &mut Author) -> Vec<u8> {
-    let count = author.random.pick(&[179, 180, 181, 200]);
-    let mut line = b"offer".to_vec();
-    for place in 0..count {
-        let last = place + 1 == count;
-        let bad = last && author.random.percent(30);
-        line.extend_from_slice(if bad { b" x" } else { b" 7" });
-    }
-    line
-}
-
 fn bad_line(author: &mut Author) -> Vec<u8> {
-    match author.random.below(10) {
+    match author.random.below(9) {
         0..=5 => author.random.pick(&SAMPLES).as_bytes().to_vec(),
         6..=7 => broken(author),
-        8 => long(author),
-        _ => long_offer(author),
+        _ => long(author),
     }
 }
 

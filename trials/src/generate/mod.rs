@@ -1,6 +1,6 @@
 //! Scripts made from a seed, in kinds that each look for trouble of their own.
-//! Every script begins with an opening, so many of them can follow each other
-//! in one run of a program.
+//! Every script but the `unopened` ones begins with an opening, so many of them can
+//! follow each other in one run of a program.
 
 mod author;
 pub mod cars;
@@ -10,6 +10,7 @@ mod evening;
 mod far;
 mod full;
 mod leaning;
+mod lists;
 mod malformed;
 mod mixed;
 mod offers;
@@ -17,6 +18,7 @@ mod plans;
 mod rounds;
 mod spent;
 mod tickets;
+mod unopened;
 
 use crate::random::Random;
 use crate::script::Script;
@@ -30,7 +32,7 @@ pub struct Kind {
     write: fn(&mut Author),
 }
 
-pub const KINDS: [Kind; 11] = [
+pub const KINDS: [Kind; 13] = [
     Kind { name: "edges", share: 15, write: edges::write },
     Kind { name: "mixed", share: 24, write: mixed::write },
     Kind { name: "offers", share: 15, write: offers::write },
@@ -40,10 +42,16 @@ pub const KINDS: [Kind; 11] = [
     Kind { name: "evening", share: 4, write: evening::write },
     Kind { name: "full", share: 3, write: full::write },
     Kind { name: "far", share: 2, write: far::write },
+    Kind { name: "lists", share: 3, write: lists::write },
     // These two are long and come once in a thousand, at turns of their own.
     Kind { name: "tickets", share: 0, write: tickets::write },
     Kind { name: "spent", share: 0, write: spent::write },
+    // Only where a run of a program begins.
+    Kind { name: UNOPENED, share: 0, write: unopened::write },
 ];
+
+/// The kind whose scripts have no opening.
+pub const UNOPENED: &str = "unopened";
 
 const THOUSAND: u64 = 1_000;
 const TICKETS_TURN: u64 = 99;
@@ -53,12 +61,12 @@ const SPENT_TURN: u64 = 199;
 pub fn script(seed: u64, number: u64) -> Script {
     let mut random = Random::of_script(seed, number);
     let kind = choose(&mut random, number);
-    write(kind, random)
+    write(kind, number, random)
 }
 
 /// A script of one kind.
 pub fn script_of_kind(name: &str, seed: u64, number: u64) -> Option<Script> {
-    Some(write(named(name)?, Random::of_script(seed, number)))
+    Some(write(named(name)?, number, Random::of_script(seed, number)))
 }
 
 fn named(name: &str) -> Option<&'static Kind> {
@@ -81,8 +89,8 @@ fn choose(random: &mut Random, number: u64) -> &'static Kind {
     unreachable!("the draw is below the sum of all shares")
 }
 
-fn write(kind: &Kind, random: Random) -> Script {
-    let mut author = Author::new(kind.name, random);
+fn write(kind: &Kind, number: u64, random: Random) -> Script {
+    let mut author = Author::new(kind.name, number, random);
     (kind.write)(&mut author);
     author.finish()
 }

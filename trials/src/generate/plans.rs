@@ -84,14 +84,14 @@ fn far(author: &mut Author) -> Vec<u32> {
     starts
 }
 
-/// One start too few or too many, or many.
+/// One start too few or too many, or many. More than 180 are the kind `lists`.
 fn wrong_length(author: &mut Author) -> Vec<u32> {
     let mut starts = held_starts(author);
     match author.random.below(3) {
         0 => {
             starts.pop();
         }
-        1 => starts.push(author.clock()),
+        1 if starts.len() < 180 => starts.push(author.clock()),
         _ => starts.resize(author.random.between(0, 180) as usize, u32::MAX),
     }
     starts

@@ -13,6 +13,31 @@ fn refuse_first(refusals: &[(Refusal, bool)]) -> Result<(), Refusal> {
     }
 }
 
+impl Station {
+    /// The charge that an order asks for, with the clock in the place of its start,
+    /// or the refusal.
+    pub fn ordered(&self, line: u32, time: u32, due: u32) -> Result<Charge, Refusal> {
+        let (time, due) = (u64::from(time), u64::from(due));
+        refuse_first(&[
+            (4, !(1..=3).contains(&line)),
+            (5, !(1..=1_440).contains(&time)),
+            (6, due > 2_000_000),
+            (7, due < self.clock + time),
+            (13, self.charges.len() == PLACES),
+            (14, self.next_ticket > 65_535),
+        ])?;
+        let (ticket, order) = (self.next_ticket, self.clock);
+        Ok(Charge { ticket, line, order, time, due, start: order })
+    }
+
+    /// "Answer: ticket and start. Tickets rise by one."
+    pub fn accept(&mut self, charge: Charge) -> Ordered {
+        self.charges.push(charge);
+        self.next_ticket += 1;
+        Ordered { ticket: charge.ticket, start: charge.start }
+    }
+}
+
 impl Yard for Station {
     /// "Beside a refused opening stands the fresh station of 1, 100."
     fn open(&mut self, limit: u32, percent: u32) -> Result<u32, Refusal> {
@@ -28,22 +53,10 @@ impl Yard for Station {
     }
 
     fn order(&mut self, line: u32, time: u32, due: u32) -> Result<Ordered, Refusal> {
-        let (time, due) = (u64::from(time), u64::from(due));
-        refuse_first(&[
-            (4, !(1..=3).contains(&line)),
-            (5, !(1..=1_440).contains(&time)),
-            (6, due > 2_000_000),
-            (7, due < self.clock + time),
-            (13, self.charges.len() == PLACES),
-            (14, self.next_ticket > 65_535),
-        ])?;
-        let (ticket, order) = (self.next_ticket, self.clock);
-        let charge = Charge { ticket, line, order, time, due, start: order };
+        let charge = self.ordered(line, time, due)?;
         let start = smallest_start(&self.charges, &charge, self.clock, self.rules())
             .expect("the held plan is sound, so its last end is a start");
-        self.charges.push(charge.starting_at(start));
-        self.next_ticket += 1;
-        Ok(Ordered { ticket, start })
+        Ok(self.accept(charge.starting_at(start)))
     }
 
     /// "Charges with start at or above the old clock and below the target are

@@ -17,5 +17,5 @@ pub mod minutes;
 pub mod search;
 mod station;
 
-pub use latest::latest_start_order;
-pub use station::{Charge, Station};
+pub use latest::{in_ticket_order, latest_start_order};
+pub use station::{last_end, Charge, Station};

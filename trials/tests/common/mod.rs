@@ -1,8 +1,9 @@
 //! What the tests share. Not every test uses all of it.
 #![allow(dead_code)]
 
-pub mod literal;
+pub mod faulty;
 
+use trials::feed::Way;
 use trials::program::{Answering, Outcome};
 use trials::script::{self, answers_of, Line};
 use trials::yard::Yard;
@@ -34,7 +35,7 @@ pub fn expect(text: &str, expected: &[&str]) {
 pub struct Inside<F>(pub F);
 
 impl<Y: Yard, F: Fn() -> Y> Answering for Inside<F> {
-    fn answers(&self, input: &[u8]) -> Outcome {
+    fn answers_to(&self, input: &[u8], _: &Way) -> Outcome {
         Outcome { answers: answers_of((self.0)(), &script::split(input)), trouble: None }
     }
 }

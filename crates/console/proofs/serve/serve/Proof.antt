@@ -1,86 +1,98 @@
--- `console::serve` is safe and ends. The measure is the number of turns that are left.
-use mathlib.Core.Path.{_≡_, refl, _∙_}
+-- `console::serve` meets its contract: its turns are a chain. The measure is the number of turns that are left.
+use mathlib.Core.Path.{_≡_, refl, sym, _∙_}
+use mathlib.Core.Bool.{false}
+use mathlib.Core.List.{[]}
 use Prim.Native.Nat.{_≤_}
 use native.Mathlib.Omega.{arith}
 use lib.ListN.{length}
+use lib.Seq.{length-take-le}
 use Rattle.station.specs.View.{Valid}
+use Rattle.session.specs.Turns.{over, opened, Reached}
+use Rattle.session.proofs.Chains.{reached-on, opened-fresh}
+use borrow.Author.Needs.{needs}
 use Rattle.console.proofs.serve.serve.Statement.{statement}
 use Rattle.console.proofs.serve.serve.Tie as tie
 
 abbrev Inv-loop : tie.InvT-loop
-Inv-loop block₀ numbers₀ list₀ out₀ session₀ turns₀ block numbers list out session turns = Valid (session .station) × (session .held ≤ 4096) × (length block ≡ length block₀) × (length numbers ≡ length numbers₀) × (length list ≡ length list₀) × (length out ≡ length out₀)
+Inv-loop block₀ numbers₀ list₀ out₀ session₀ turns₀ block numbers list out session turns = Reached session block × (over (session .wants) ≡ false) × Valid (session .station) × (session .held ≤ length block) × (length block ≡ length block₀) × (length numbers ≡ length numbers₀) × (length list ≡ length list₀) × (length out ≡ length out₀)
 
 abbrev μ-loop : tie.MeasureT-loop
 μ-loop block₀ numbers₀ list₀ out₀ session₀ turns₀ block numbers list out session turns = turns
 
+open-requires : tie.Need-open-requires Inv-loop μ-loop
+open-requires c κs = search needs
+
 loop-holds : tie.Need-loop-holds Inv-loop μ-loop
-loop-holds c = (c .before .before .before .before .pre .0, omega arith, refl, refl, refl, refl)
+loop-holds c = (record { read = []; written = []; chain = opened (opened-fresh (c .before .«open» .ensures)) refl refl }, refl, c .before .«open» .ensures .valid, omega arith, refl, refl, refl, refl)
 
-read-after-requires : tie.Need-read-after-requires Inv-loop μ-loop
-read-after-requires c κs = omega (arith, c .before .before .loop .inv .1, c .before .before .loop .inv .2, c .before .before .before .before .before .before .before .pre .1 .0)
+read-wanted-requires : tie.Need-read-wanted-requires Inv-loop μ-loop
+read-wanted-requires c κs = c .before .before .loop .inv .3
 
-serve-last-requires : tie.Need-serve-last-requires Inv-loop μ-loop
-serve-last-requires c κs =
-    let l = c .before .before .before .before .before .before .before .before .before .before .loop .inv in
-    let p = c .before .before .before .before .before .before .before .before .before .before .before .before .before .before .before .pre .1 in
-    (l .0, (omega (arith, l .1, l .2, c .before .before .before .before .before .before .before .read-after .kept .0, p .0), record { numbers-fit = omega (arith, l .3, p .1 .numbers-fit); list-fits = omega (arith, l .4, p .1 .list-fits); out-fits = omega (arith, l .5, p .1 .out-fits) }))
+turn-requires : tie.Need-turn-requires Inv-loop μ-loop
+turn-requires c κs =
+    let l = c .before .before .before .before .before .before .before .before .before .loop .inv in
+    let p = c .before .before .before .before .before .before .before .before .before .before .before .before .before .before .before .before .pre in
+    (l .2, (omega (arith, c .before .before .before .before .before .before .read-wanted .ensures .0, c .before .before .before .before .before .before .read-wanted .kept .1 .0), record { numbers-fit = omega (arith, l .5, p .numbers-fit); list-fits = omega (arith, l .6, p .list-fits); out-fits = omega (arith, l .7, p .out-fits) }))
+
+slice-reshare-prefix-write-all : tie.Need-slice-reshare-prefix-write-all Inv-loop μ-loop
+slice-reshare-prefix-write-all c = c .before .before .before .before .before .before .before .before .turn .ensures .text-fits
+
+slice-aggregate-write-all : tie.Need-slice-aggregate-write-all Inv-loop μ-loop
+slice-aggregate-write-all c = sym (length-take-le _ _ (c .before .before .before .before .before .before .before .before .before .turn .ensures .text-fits))
+
+write-all-requires : tie.Need-write-all-requires Inv-loop μ-loop
+write-all-requires c κs = search needs
+
+is-over-requires : tie.Need-is-over-requires Inv-loop μ-loop
+is-over-requires c κs = search needs
 
 same-length : tie.Need-same-length Inv-loop μ-loop
-same-length c = c .before .before .before .before .before .before .before .before .before .before .before .before .before .before .read-after .kept .0 ∙ c .before .before .before .before .before .before .before .before .before .before .before .before .before .before .before .before .before .loop .inv .2
+same-length c = c .before .before .before .before .before .before .before .before .before .before .before .before .before .turn .kept .1 .1 .0 ∙ c .before .before .before .before .before .before .before .before .before .before .before .before .before .before .before .before .before .before .before .before .read-wanted .kept .1 .0 ∙ c .before .before .before .before .before .before .before .before .before .before .before .before .before .before .before .before .before .before .before .before .before .before .before .loop .inv .4
 
 same-length-2 : tie.Need-same-length-2 Inv-loop μ-loop
-same-length-2 c = c .before .before .before .before .before .before .serve-last .kept .1 .1 .0 ∙ c .before .before .before .before .before .before .before .before .before .before .before .before .before .before .before .before .before .loop .inv .3
+same-length-2 c = c .before .before .before .before .before .before .before .before .before .before .before .before .before .turn .kept .1 .1 .1 .0 ∙ c .before .before .before .before .before .before .before .before .before .before .before .before .before .before .before .before .before .before .before .before .before .before .before .loop .inv .5
 
 same-length-3 : tie.Need-same-length-3 Inv-loop μ-loop
-same-length-3 c = c .before .before .before .before .before .before .serve-last .kept .1 .1 .1 .0 ∙ c .before .before .before .before .before .before .before .before .before .before .before .before .before .before .before .before .before .loop .inv .4
+same-length-3 c = c .before .before .before .before .before .before .before .before .before .before .before .before .before .turn .kept .1 .1 .1 .1 .0 ∙ c .before .before .before .before .before .before .before .before .before .before .before .before .before .before .before .before .before .before .before .before .before .before .before .loop .inv .6
 
 same-length-4 : tie.Need-same-length-4 Inv-loop μ-loop
-same-length-4 c = c .before .before .before .before .before .before .serve-last .kept .1 .1 .1 .1 .0 ∙ c .before .before .before .before .before .before .before .before .before .before .before .before .before .before .before .before .before .loop .inv .5
+same-length-4 c = c .before .before .before .before .before .before .before .before .before .before .before .before .before .turn .kept .1 .1 .1 .1 .1 .0 ∙ c .before .before .before .before .before .before .before .before .before .before .before .before .before .before .before .before .before .before .before .before .before .before .before .loop .inv .7
 
 returns : tie.Need-returns Inv-loop μ-loop
-returns c = tt
-
-add-serve-block : tie.Need-add-serve-block Inv-loop μ-loop
-add-serve-block c = omega (arith, c .before .before .before .read-after .ensures, c .before .before .before .before .before .before .loop .inv .2, c .before .before .before .before .before .before .before .before .before .before .before .good .1 .0 .0)
-
-serve-block-requires : tie.Need-serve-block-requires Inv-loop μ-loop
-serve-block-requires c κs =
-    let l = c .before .before .before .before .before .before .before .before .before .before .loop .inv in
-    let p = c .before .before .before .before .before .before .before .before .before .before .before .before .before .before .before .pre .1 in
-    (l .0, (omega (arith, c .before .before .before .before .before .before .before .read-after .ensures, c .before .before .before .before .before .before .before .read-after .kept .0), record { numbers-fit = omega (arith, l .3, p .1 .numbers-fit); list-fits = omega (arith, l .4, p .1 .list-fits); out-fits = omega (arith, l .5, p .1 .out-fits) }))
+returns c = reached-on (c .before .before .before .before .before .before .before .before .before .before .before .before .before .before .before .before .before .before .before .before .before .before .before .loop .inv .0) (c .before .before .before .before .before .before .before .before .before .before .before .before .before .before .before .before .before .before .before .before .before .before .before .loop .inv .1) (c .before .before .before .before .before .before .before .before .before .before .before .before .before .before .before .before .before .before .before .before .read-wanted .ensures .1) (c .before .before .before .before .before .before .before .before .before .before .before .before .before .turn .ensures)
 
 sub-turns : tie.Need-sub-turns Inv-loop μ-loop
-sub-turns c = omega (arith, c .before .before .before .before .before .before .before .before .before .before .before .before .before .before .before .before .before .before .loop-test .taken)
+sub-turns c = omega (arith, c .before .before .before .before .before .before .before .before .before .before .before .before .before .before .before .before .before .before .before .before .before .before .loop-test .taken)
 
 loop-less : tie.Need-loop-less Inv-loop μ-loop
-loop-less c = omega (arith, c .before .before .before .before .before .before .before .before .before .before .before .before .before .before .before .before .before .before .loop-test .taken)
+loop-less c = omega (arith, c .before .before .before .before .before .before .before .before .before .before .before .before .before .before .before .before .before .before .before .before .before .before .loop-test .taken)
 
 loop-again : tie.Need-loop-again Inv-loop μ-loop
-loop-again c =
-    let l = c .before .before .before .before .before .before .before .before .before .before .before .before .before .before .before .before .before .before .before .loop .inv in
-    let r = c .before .before .before .before .before .before .before .before .serve-block in (
-      r .ensures .0,
-      r .ensures .1,
-      r .kept .1 .1 .0 ∙ c .before .before .before .before .before .before .before .before .before .before .before .before .before .before .before .before .read-after .kept .0 ∙ l .2,
-      r .kept .1 .1 .1 .0 ∙ l .3,
-      r .kept .1 .1 .1 .1 .0 ∙ l .4,
-      r .kept .1 .1 .1 .1 .1 .0 ∙ l .5,
-    )
+loop-again c = (
+  reached-on (c .before .before .before .before .before .before .before .before .before .before .before .before .before .before .before .before .before .before .before .before .before .before .before .loop .inv .0) (c .before .before .before .before .before .before .before .before .before .before .before .before .before .before .before .before .before .before .before .before .before .before .before .loop .inv .1) (c .before .before .before .before .before .before .before .before .before .before .before .before .before .before .before .before .before .before .before .before .read-wanted .ensures .1) (c .before .before .before .before .before .before .before .before .before .before .before .before .before .turn .ensures),
+  sym (c .before .is-over .ensures) ∙ c .if1 .left,
+  c .before .before .before .before .before .before .before .before .before .before .before .before .before .turn .ensures .valid,
+  c .before .before .before .before .before .before .before .before .before .before .before .before .before .turn .ensures .within,
+  c .before .before .before .before .before .before .before .before .before .before .before .before .before .turn .kept .1 .1 .0 ∙ c .before .before .before .before .before .before .before .before .before .before .before .before .before .before .before .before .before .before .before .before .read-wanted .kept .1 .0 ∙ c .before .before .before .before .before .before .before .before .before .before .before .before .before .before .before .before .before .before .before .before .before .before .before .loop .inv .4,
+  c .before .before .before .before .before .before .before .before .before .before .before .before .before .turn .kept .1 .1 .1 .0 ∙ c .before .before .before .before .before .before .before .before .before .before .before .before .before .before .before .before .before .before .before .before .before .before .before .loop .inv .5,
+  c .before .before .before .before .before .before .before .before .before .before .before .before .before .turn .kept .1 .1 .1 .1 .0 ∙ c .before .before .before .before .before .before .before .before .before .before .before .before .before .before .before .before .before .before .before .before .before .before .before .loop .inv .6,
+  c .before .before .before .before .before .before .before .before .before .before .before .before .before .turn .kept .1 .1 .1 .1 .1 .0 ∙ c .before .before .before .before .before .before .before .before .before .before .before .before .before .before .before .before .before .before .before .before .before .before .before .loop .inv .7,
+)
 
 same-length-5 : tie.Need-same-length-5 Inv-loop μ-loop
-same-length-5 c = c .before .loop .inv .2
+same-length-5 c = c .before .loop .inv .4
 
 same-length-6 : tie.Need-same-length-6 Inv-loop μ-loop
-same-length-6 c = c .before .loop .inv .3
+same-length-6 c = c .before .loop .inv .5
 
 same-length-7 : tie.Need-same-length-7 Inv-loop μ-loop
-same-length-7 c = c .before .loop .inv .4
+same-length-7 c = c .before .loop .inv .6
 
 same-length-8 : tie.Need-same-length-8 Inv-loop μ-loop
-same-length-8 c = c .before .loop .inv .5
+same-length-8 c = c .before .loop .inv .7
 
 returns-2 : tie.Need-returns-2 Inv-loop μ-loop
-returns-2 c = tt
+returns-2 c = c .before .loop .inv .0
 
 pub serve-spec : {M : Type 1} → statement M
 serve-spec =
@@ -88,16 +100,19 @@ serve-spec =
     (tie.spec
     Inv-loop
     μ-loop
+    open-requires
     loop-holds
-    read-after-requires
-    serve-last-requires
+    read-wanted-requires
+    turn-requires
+    slice-reshare-prefix-write-all
+    slice-aggregate-write-all
+    write-all-requires
+    is-over-requires
     same-length
     same-length-2
     same-length-3
     same-length-4
     returns
-    add-serve-block
-    serve-block-requires
     sub-turns
     loop-less
     loop-again

@@ -1,5 +1,5 @@
 use mathlib.Core.Path.{refl}
-use Rattle.planner.proofs.Proposing.{filled-none}
+use Rattle.charges.proofs.Storing.{filled-none}
 use Rattle.planner.proofs.Proposed.none.Statement.{statement}
 use Rattle.planner.proofs.Proposed.none.Tie as tie
 

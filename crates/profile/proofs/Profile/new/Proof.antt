@@ -3,7 +3,7 @@ use borrow.Author.Needs.{needs}
 use mathlib.Core.Path.{refl}
 use native.Mathlib.Omega.{arith}
 use Rattle.profile.proofs.Lines.{each-line}
-use Rattle.profile.proofs.Adds.{shows-none}
+use Rattle.profile.proofs.Shown.{shows-none}
 use Rattle.profile.proofs.Profile.new.Statement.{statement}
 use Rattle.profile.proofs.Profile.new.Tie as tie
 
@@ -15,7 +15,7 @@ returns c =
     shows-none _ _
     (record {
       at-size = refl;
-      line-sizes = each-line _ refl refl refl;
+      counts-size = refl;
       some = omega arith;
       fits = omega arith;
       rises = λ i j a b. absurd (omega arith);

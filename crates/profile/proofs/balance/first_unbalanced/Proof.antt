@@ -2,23 +2,24 @@
 use Prim.Native.Nat.{_-_, _<_}
 use native.Mathlib.Omega.{arith}
 use borrow.Author.Needs.{needs}
-use Rattle.rules.proofs.Counts.{Balanced}
+use Rattle.rules.specs.Load.{balanced}
 use Rattle.profile.specs.Shows.{profileOf}
-use Rattle.profile.proofs.Balances.{Walked, walked-none, walked-more, walked-done, balanced-respects, Compared, compared-none, compared-more, compared-off, compared-all, unbalanced-never, unbalanced-at}
+use Rattle.profile.proofs.Lines.{balanced-tests}
+use Rattle.profile.proofs.Balances.{Walked, walked-none, walked-more, walked-fails, walked-done, Compared, compared-none, compared-more, compared-off, compared-all}
 use Rattle.profile.proofs.balance.first_unbalanced.Statement.{statement}
 use Rattle.profile.proofs.balance.first_unbalanced.Tie as tie
 
 abbrev Inv-loop : tie.InvT-loop
-Inv-loop at one two three n bound i line₀ line = Compared (profileOf n at one two three) i bound line
+Inv-loop at counts n bound i line₀ line = Compared (profileOf n at counts) i bound line
 
 abbrev μ-loop : tie.MeasureT-loop
-μ-loop at one two three n bound i line₀ line = 4 - line
+μ-loop at counts n bound i line₀ line = 4 - line
 
 abbrev Inv-minutes : tie.InvT-minutes
-Inv-minutes at one two three n bound i₀ i = (i < n) × Walked (Balanced bound) (profileOf n at one two three) i
+Inv-minutes at counts n bound i₀ i = (i < n) × Walked (balanced bound) (profileOf n at counts) i
 
 abbrev μ-minutes : tie.MeasureT-minutes
-μ-minutes at one two three n bound i₀ i = n - i
+μ-minutes at counts n bound i₀ i = n - i
 
 minutes-holds : tie.Need-minutes-holds Inv-loop μ-loop Inv-minutes μ-minutes
 minutes-holds c = (c .pre .some, walked-none _ _ (c .pre))
@@ -51,7 +52,7 @@ loop-less : tie.Need-loop-less Inv-loop μ-loop Inv-minutes μ-minutes
 loop-less c = omega (arith, c .before .before .before .before .before .before .before .pre .fits)
 
 loop-again : tie.Need-loop-again Inv-loop μ-loop Inv-minutes μ-minutes
-loop-again c = compared-more (c .before .before .before .before .before .loop .inv) (c .before .before .before .before .loop-test .taken) (c .before .before .before .count-of .ensures) (c .before .before .count-of2 .ensures) (c .before .difference .ensures) (c .if1 .left)
+loop-again c = compared-more (c .before .before .before .before .before .loop .inv) (omega (arith, c .before .before .before .before .loop-test .taken)) (c .before .before .before .count-of .ensures) (c .before .before .count-of2 .ensures) (c .before .difference .ensures) (omega (arith, c .if1 .left))
 
 add-i : tie.Need-add-i Inv-loop μ-loop Inv-minutes μ-minutes
 add-i c = omega (arith, c .before .before .before .pre .fits)
@@ -59,7 +60,7 @@ add-i c = omega (arith, c .before .before .before .pre .fits)
 returns : tie.Need-returns Inv-loop μ-loop Inv-minutes μ-minutes
 returns c =
     let w = c .before .before .before .minutes .inv in
-    unbalanced-never _ (walked-done (walked-more (balanced-respects _) (c .before .before .before .before .pre) (w .1) (w .0) (compared-all (c .before .before .loop .inv) (c .before .loop-test .left))) (c .if2 .taken))
+    record { answer = walked-done (walked-more (balanced-tests _) (c .before .before .before .before .pre) (w .1) (w .0) (compared-all (c .before .before .loop .inv) (omega (arith, c .before .loop-test .left)))) (c .if2 .taken) }
 
 minutes-less : tie.Need-minutes-less Inv-loop μ-loop Inv-minutes μ-minutes
 minutes-less c = omega (arith, c .before .before .before .before .pre .fits)
@@ -67,12 +68,12 @@ minutes-less c = omega (arith, c .before .before .before .before .pre .fits)
 minutes-again : tie.Need-minutes-again Inv-loop μ-loop Inv-minutes μ-minutes
 minutes-again c =
     let w = c .before .before .before .minutes .inv in
-    (omega arith, walked-more (balanced-respects _) (c .before .before .before .before .pre) (w .1) (w .0) (compared-all (c .before .before .loop .inv) (c .before .loop-test .left)))
+    (omega arith, walked-more (balanced-tests _) (c .before .before .before .before .pre) (w .1) (w .0) (compared-all (c .before .before .loop .inv) (omega (arith, c .before .loop-test .left))))
 
 returns-2 : tie.Need-returns-2 Inv-loop μ-loop Inv-minutes μ-minutes
 returns-2 c =
     let w = c .before .before .before .before .before .before .before .minutes .inv in
-    unbalanced-at _ (c .before .before .before .before .before .before .before .before .pre) (w .1) (w .0) (compared-off (c .before .before .before .before .before .before .loop .inv) (c .before .before .before .before .before .loop-test .taken) (c .before .before .before .before .count-of .ensures) (c .before .before .before .count-of2 .ensures) (c .before .before .difference .ensures) (c .before .if1 .taken))
+    record { answer = walked-fails (balanced-tests _) (c .before .before .before .before .before .before .before .before .pre) (w .1) (w .0) (compared-off (c .before .before .before .before .before .before .loop .inv) (omega (arith, c .before .before .before .before .before .loop-test .taken)) (c .before .before .before .before .count-of .ensures) (c .before .before .before .count-of2 .ensures) (c .before .before .difference .ensures) (omega (arith, c .before .if1 .taken))) }
 
 pub first-unbalanced-spec : {M : Type 1} → statement M
 first-unbalanced-spec =

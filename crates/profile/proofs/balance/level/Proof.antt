@@ -16,7 +16,7 @@ returns : tie.Need-returns
 returns c =
     let a = c .before .before .args in
     c .count-of .ensures
-    ∙ sym (level-in (a .at .now) (lineOf (profileOf (a .n) (a .at .now) (a .one .now) (a .two .now) (a .three .now)) (a .line)) (a .n) _ (a .t) (c .before .place .ensures))
+    ∙ sym (level-in (a .at .now) (lineOf (profileOf (a .n) (a .at .now) (a .counts .now)) (a .line)) (a .n) _ (a .t) (c .before .place .ensures))
 
 pub level-spec : {M : Type 1} → statement M
 level-spec = tie.close (tie.spec place-requires count-of-requires returns)

@@ -1,40 +1,31 @@
 -- `profile::balance::within_limit` meets its contract. The invariant: every minute before step i is within the limit.
 use Prim.Native.Nat.{_-_}
-use mathlib.Core.Path.{refl}
 use native.Mathlib.Omega.{arith}
 use borrow.Author.Needs.{needs}
-use Rattle.rules.proofs.Counts.{Limited}
+use Rattle.rules.specs.Load.{limited}
 use Rattle.profile.specs.Shows.{profileOf}
-use Rattle.profile.proofs.Balances.{Walked, walked-none, walked-more, walked-done, limited-respects, limited-step, limit-kept, limit-broken, limit-above}
+use Rattle.profile.proofs.Lines.{limited-tests}
+use Rattle.profile.proofs.Balances.{Walked, walked-none, walked-more, walked-fails, walked-done, first-some, limit-below, limit-above}
 use Rattle.profile.proofs.balance.within_limit.Statement.{statement}
 use Rattle.profile.proofs.balance.within_limit.Tie as tie
 
 abbrev Inv-loop : tie.InvT-loop
-Inv-loop at one two three n limit i₀ i = Walked (Limited limit) (profileOf n at one two three) i
+Inv-loop at counts n limit i₀ i = Walked (limited limit) (profileOf n at counts) i
 
 abbrev μ-loop : tie.MeasureT-loop
-μ-loop at one two three n limit i₀ i = n - i
+μ-loop at counts n limit i₀ i = n - i
 
 loop-holds : tie.Need-loop-holds Inv-loop μ-loop
 loop-holds c = walked-none _ _ (c .pre)
 
-mul-larger : tie.Need-mul-larger Inv-loop μ-loop
-mul-larger c = omega (arith, c .before .before .pre .fits)
+count-of-requires : tie.Need-count-of-requires Inv-loop μ-loop
+count-of-requires c κs = (omega (arith, c .before .before .pre .fits), record { low = omega arith; high = omega arith })
 
-element-copy-out-larger : tie.Need-element-copy-out-larger Inv-loop μ-loop
-element-copy-out-larger c = omega (arith, c .before .before .pre .fits)
+count-of-requires-2 : tie.Need-count-of-requires-2 Inv-loop μ-loop
+count-of-requires-2 c κs = (omega (arith, c .before .before .before .pre .fits), record { low = omega arith; high = omega arith })
 
-mul-larger-2 : tie.Need-mul-larger-2 Inv-loop μ-loop
-mul-larger-2 c = omega (arith, c .before .before .before .pre .fits)
-
-element-copy-out-larger-2 : tie.Need-element-copy-out-larger-2 Inv-loop μ-loop
-element-copy-out-larger-2 c = omega (arith, c .before .before .before .pre .fits)
-
-mul-larger-3 : tie.Need-mul-larger-3 Inv-loop μ-loop
-mul-larger-3 c = omega (arith, c .before .before .before .before .pre .fits)
-
-element-copy-out-larger-3 : tie.Need-element-copy-out-larger-3 Inv-loop μ-loop
-element-copy-out-larger-3 c = omega (arith, c .before .before .before .before .pre .fits)
+count-of-requires-3 : tie.Need-count-of-requires-3 Inv-loop μ-loop
+count-of-requires-3 c κs = (omega (arith, c .before .before .before .before .pre .fits), record { low = omega arith; high = omega arith })
 
 larger-requires : tie.Need-larger-requires Inv-loop μ-loop
 larger-requires c κs = search needs
@@ -43,7 +34,7 @@ larger-requires-2 : tie.Need-larger-requires-2 Inv-loop μ-loop
 larger-requires-2 c κs = search needs
 
 returns : tie.Need-returns Inv-loop μ-loop
-returns c = limit-broken (c .before .before .before .before .before .before .before .loop .i) (c .before .before .before .before .before .before .before .before .pre) (omega arith) (limit-above _ refl refl refl (c .before .before .larger .ensures) (c .before .larger2 .ensures) (c .if1 .taken))
+returns c = record { answer = first-some (walked-fails (limited-tests _) (c .before .before .before .before .before .before .before .before .pre) (c .before .before .before .before .before .before .before .loop .inv) (omega arith) (limit-above _ (c .before .before .before .before .before .count-of .ensures) (c .before .before .before .before .count-of2 .ensures) (c .before .before .before .count-of3 .ensures) (c .before .before .larger .ensures) (c .before .larger2 .ensures) (omega (arith, c .if1 .taken)))) }
 
 add-i : tie.Need-add-i Inv-loop μ-loop
 add-i c = omega (arith, c .before .before .before .before .before .before .before .before .pre .fits)
@@ -52,10 +43,10 @@ loop-less : tie.Need-loop-less Inv-loop μ-loop
 loop-less c = omega arith
 
 loop-again : tie.Need-loop-again Inv-loop μ-loop
-loop-again c = walked-more (limited-respects _) (c .before .before .before .before .before .before .before .before .pre) (c .before .before .before .before .before .before .before .loop .inv) (omega arith) (limited-step _ refl refl refl (c .before .before .larger .ensures) (c .before .larger2 .ensures) (c .if1 .left))
+loop-again c = walked-more (limited-tests _) (c .before .before .before .before .before .before .before .before .pre) (c .before .before .before .before .before .before .before .loop .inv) (omega arith) (limit-below _ (c .before .before .before .before .before .count-of .ensures) (c .before .before .before .before .count-of2 .ensures) (c .before .before .before .count-of3 .ensures) (c .before .before .larger .ensures) (c .before .larger2 .ensures) (omega (arith, c .if1 .left)))
 
 returns-2 : tie.Need-returns-2 Inv-loop μ-loop
-returns-2 c = limit-kept (walked-done (c .before .loop .inv) (omega arith))
+returns-2 c = record { answer = walked-done (c .before .loop .inv) (omega arith) }
 
 pub within-limit-spec : {M : Type 1} → statement M
 within-limit-spec =
@@ -64,12 +55,9 @@ within-limit-spec =
     Inv-loop
     μ-loop
     loop-holds
-    mul-larger
-    element-copy-out-larger
-    mul-larger-2
-    element-copy-out-larger-2
-    mul-larger-3
-    element-copy-out-larger-3
+    count-of-requires
+    count-of-requires-2
+    count-of-requires-3
     larger-requires
     larger-requires-2
     returns

@@ -2,7 +2,7 @@
 use borrow.Author.Needs.{needs}
 use mathlib.Core.Path.{refl}
 use native.Mathlib.Omega.{arith}
-use Rattle.profile.proofs.Lines.{each-line, line-one, line-two, line-three}
+use Rattle.profile.proofs.Shifts.{shifted-insert, shifted-double}
 use Rattle.profile.proofs.Adds.{split-none, split-some}
 use Rattle.profile.proofs.loads.split.Statement.{statement}
 use Rattle.profile.proofs.loads.split.Tie as tie
@@ -22,43 +22,32 @@ returns c = split-none _ _ _ (c .before .before .before .before .pre .formed) (c
 add-k : tie.Need-add-k
 add-k c = search needs
 
-mul-a : tie.Need-mul-a
-mul-a c = search needs
+shift-requires : tie.Need-shift-requires
+shift-requires c κs = search needs
 
-element-copy-out-a : tie.Need-element-copy-out-a
-element-copy-out-a c = search needs
+mul-at : tie.Need-mul-at
+mul-at c = search needs
 
-mul-b : tie.Need-mul-b
-mul-b c = search needs
+element-write-at : tie.Need-element-write-at
+element-write-at c = search needs
 
-element-copy-out-b : tie.Need-element-copy-out-b
-element-copy-out-b c = search needs
+mul-shift : tie.Need-mul-shift
+mul-shift c = search needs
 
-mul-c : tie.Need-mul-c
-mul-c c = search needs
+mul-shift-2 : tie.Need-mul-shift-2
+mul-shift-2 c = search needs
 
-element-copy-out-c : tie.Need-element-copy-out-c
-element-copy-out-c c = search needs
+shift-requires-2 : tie.Need-shift-requires-2
+shift-requires-2 c κs = search needs
 
-insert-requires : tie.Need-insert-requires
-insert-requires c κs = search needs
-
-insert-requires-2 : tie.Need-insert-requires-2
-insert-requires-2 c κs = (c .before .before .before .before .before .before .before .before .before .before .pre .formed .line-sizes 1 line-one, omega arith, omega arith)
-
-insert-requires-3 : tie.Need-insert-requires-3
-insert-requires-3 c κs = (c .before .before .before .before .before .before .before .before .before .before .before .before .pre .formed .line-sizes 2 line-two, omega arith, omega arith)
-
-insert-requires-4 : tie.Need-insert-requires-4
-insert-requires-4 c κs = (c .before .before .before .before .before .before .before .before .before .before .before .before .before .before .pre .formed .line-sizes 3 line-three, omega arith, omega arith)
-
-add-t13 : tie.Need-add-t13
-add-t13 c = search needs
+add-t8 : tie.Need-add-t8
+add-t8 c = search needs
 
 returns-2 : tie.Need-returns-2
 returns-2 c =
-    split-some _ _ (c .before .before .before .before .before .before .before .before .before .before .before .before .before .place .result) _ (c .before .before .before .before .before .before .before .before .before .before .before .before .before .before .before .pre .formed) (c .before .before .before .before .before .before .before .before .before .before .before .before .before .before .before .pre .room) (c .before .before .before .before .before .before .before .before .before .before .before .before .before .place .ensures) (c .before .before .before .before .before .before .before .before .before .before .before .if1 .left) refl (c .before .before .before .before .before .before .insert .ensures)
-    (each-line _ (c .before .before .before .before .insert2 .ensures) (c .before .before .insert3 .ensures) (c .insert4 .ensures))
+    let s = c .before .before .before .before .before .before .before .before .pre in
+    let h = c .before .before .before .before .before .before .place .ensures in
+    split-some _ _ (c .before .before .before .before .before .before .place .result) _ (s .formed) (s .room) h (c .before .before .before .before .if1 .left) refl (shifted-insert (s .formed .at-size) (s .room) (omega (arith, h .below)) (c .before .before .shift .ensures) (omega arith)) (shifted-double (s .formed .counts-size) (c .shift2 .ensures))
 
 pub split-spec : {M : Type 1} → statement M
 split-spec =
@@ -69,15 +58,11 @@ split-spec =
     element-copy-out-if1
     returns
     add-k
-    mul-a
-    element-copy-out-a
-    mul-b
-    element-copy-out-b
-    mul-c
-    element-copy-out-c
-    insert-requires
-    insert-requires-2
-    insert-requires-3
-    insert-requires-4
-    add-t13
+    shift-requires
+    mul-at
+    element-write-at
+    mul-shift
+    mul-shift-2
+    shift-requires-2
+    add-t8
     returns-2)

@@ -34,7 +34,7 @@ loop-less : tie.Need-loop-less Inv-loop μ-loop
 loop-less c = omega arith
 
 loop-again : tie.Need-loop-again Inv-loop μ-loop
-loop-again c = (omega arith, omega arith, c .if1 .taken, c .before .before .before .loop .inv .3)
+loop-again c = (omega arith, omega arith, omega (arith, c .if1 .taken), c .before .before .before .loop .inv .3)
 
 loop-less-2 : tie.Need-loop-less-2 Inv-loop μ-loop
 loop-less-2 c = omega arith
@@ -42,7 +42,7 @@ loop-less-2 c = omega arith
 loop-again-2 : tie.Need-loop-again-2 Inv-loop μ-loop
 loop-again-2 c =
     let l = c .before .before .before in
-    (omega arith, omega arith, l .loop .inv .2, all-later (l .before .args .at .now) _ _ _ (l .before .pre .3) (c .if1 .left))
+    (omega arith, omega arith, l .loop .inv .2, all-later (l .before .args .at .now) _ _ _ (l .before .pre .3) (omega (arith, c .if1 .left)))
 
 returns : tie.Need-returns Inv-loop μ-loop
 returns c = record { below = omega arith; begun = omega arith; later = λ j a b. c .before .loop .inv .3 j (omega arith) b }

@@ -1,38 +1,48 @@
--- `profile::steps::raise` meets its contract. The invariant: the places from i up to k have x more.
+-- `profile::steps::raise` meets its contract. The invariant: the line has one more in the steps from i up to k.
 use Prim.Native.Nat.{_≤_, _-_}
-use mathlib.Core.Path.{_≡_}
+use mathlib.Core.Path.{_≡_, refl}
 use native.Mathlib.Omega.{arith}
 use borrow.Author.Needs.{needs}
-use Rattle.profile.specs.Steps.{Raised}
-use Rattle.profile.proofs.Levels.{raised-none, raised-on}
+use Rattle.profile.specs.Steps.{RaisedIn}
+use Rattle.profile.proofs.Shifts.{raised-none, raised-on}
 use Rattle.profile.proofs.steps.raise.Statement.{statement}
 use Rattle.profile.proofs.steps.raise.Tie as tie
 
 abbrev Inv-loop : tie.InvT-loop
-Inv-loop a₀ i j x k₀ a k = (i ≤ k) × (k ≤ j) × Raised a₀ a i k x
+Inv-loop counts₀ line i j k₀ counts k = (i ≤ k) × (k ≤ j) × RaisedIn counts₀ counts line i k
 
 abbrev μ-loop : tie.MeasureT-loop
-μ-loop a₀ i j x k₀ a k = j - k
+μ-loop counts₀ line i j k₀ counts k = j - k
 
 loop-holds : tie.Need-loop-holds Inv-loop μ-loop
 loop-holds c = (search needs, search needs, raised-none _ _ _ (c .pre .0))
 
-mul-a : tie.Need-mul-a Inv-loop μ-loop
-mul-a c = search needs
+mul-p : tie.Need-mul-p Inv-loop μ-loop
+mul-p c = search needs
 
-element-copy-out-a : tie.Need-element-copy-out-a Inv-loop μ-loop
-element-copy-out-a c = search needs
+add-p : tie.Need-add-p Inv-loop μ-loop
+add-p c = search needs
 
-add-a : tie.Need-add-a Inv-loop μ-loop
-add-a c =
+sub-p : tie.Need-sub-p Inv-loop μ-loop
+sub-p c = search needs
+
+mul-counts : tie.Need-mul-counts Inv-loop μ-loop
+mul-counts c = search needs
+
+element-copy-out-counts : tie.Need-element-copy-out-counts Inv-loop μ-loop
+element-copy-out-counts c = search needs
+
+add-counts : tie.Need-add-counts Inv-loop μ-loop
+add-counts c =
     let l = c .before .before in
-    omega (arith, l .loop .inv .2 .after (l .loop .k) (omega arith), l .before .pre .3 (l .loop .k) (omega arith))
+    let s = l .before in
+    omega (arith, s .pre .1 .low, s .pre .1 .high, l .loop .inv .2 .each (s .args .line) (s .pre .1) .after (l .loop .k) (omega arith), s .pre .4 (l .loop .k) (omega arith))
 
-mul-a-2 : tie.Need-mul-a-2 Inv-loop μ-loop
-mul-a-2 c = search needs
+mul-counts-2 : tie.Need-mul-counts-2 Inv-loop μ-loop
+mul-counts-2 c = search needs
 
-element-write-a : tie.Need-element-write-a Inv-loop μ-loop
-element-write-a c = search needs
+element-write-counts : tie.Need-element-write-counts Inv-loop μ-loop
+element-write-counts c = search needs
 
 add-k : tie.Need-add-k Inv-loop μ-loop
 add-k c = search needs
@@ -41,10 +51,11 @@ loop-less : tie.Need-loop-less Inv-loop μ-loop
 loop-less c = search needs
 
 loop-again : tie.Need-loop-again Inv-loop μ-loop
-loop-again c = (search needs, search needs, raised-on (omega arith) (omega arith) (c .before .before .loop .inv .2))
+loop-again c = (search needs, search needs, raised-on (c .before .before .before .pre .1) (omega arith) (omega arith) refl (c .before .before .loop .inv .2))
 
 returns : tie.Need-returns Inv-loop μ-loop
-returns c = let e : c .before .loop .k ≡ c .before .before .args .j = omega arith in rw e at (c .before .loop .inv .2)
+returns c =
+    let e : c .before .loop .k ≡ c .before .before .args .j = omega arith in rw e at (c .before .loop .inv .2)
 
 pub raise-spec : {M : Type 1} → statement M
 raise-spec =
@@ -53,11 +64,14 @@ raise-spec =
     Inv-loop
     μ-loop
     loop-holds
-    mul-a
-    element-copy-out-a
-    add-a
-    mul-a-2
-    element-write-a
+    mul-p
+    add-p
+    sub-p
+    mul-counts
+    element-copy-out-counts
+    add-counts
+    mul-counts-2
+    element-write-counts
     add-k
     loop-less
     loop-again

@@ -1,5 +1,5 @@
 -- `protocol::print_moved` meets its contract: its parts are printed one after another.
-use Rattle.protocol.specs.Answers.{answerLine}
+use Rattle.protocol.specs.Answers.{answerText}
 use Rattle.protocol.proofs.Printing.{printed-then}
 use borrow.Author.Needs.{needs}
 use Rattle.protocol.proofs.answer.print_moved.Statement.{statement}
@@ -33,7 +33,7 @@ same-length : tie.Need-same-length
 same-length c = search needs
 
 returns : tie.Need-returns
-unfolding answerLine
+unfolding answerText
 returns c =
     printed-then (c .before .before .before .before .before .before .before .before .before .before .before .before .before .before .before .before .print-field .ensures .0)
     (printed-then (c .before .before .before .before .before .before .before .before .before .before .before .print-field2 .ensures .0)

@@ -1,36 +1,22 @@
--- `protocol::print_refused` meets its contract: its parts are printed one after another.
-use Rattle.protocol.specs.Answers.{answerLine}
-use Rattle.protocol.proofs.Printing.{printed-then}
+-- `protocol::print_refused` meets its contract.
+use Rattle.protocol.specs.Answers.{answerText}
 use borrow.Author.Needs.{needs}
 use Rattle.protocol.proofs.answer.print_refused.Statement.{statement}
 use Rattle.protocol.proofs.answer.print_refused.Tie as tie
 
-slice-aggregate-print-field : tie.Need-slice-aggregate-print-field
-slice-aggregate-print-field c = search needs
+slice-aggregate-print-one : tie.Need-slice-aggregate-print-one
+slice-aggregate-print-one c = search needs
 
-print-field-requires : tie.Need-print-field-requires
-print-field-requires c κs = search needs
-
-slice-aggregate-print-text : tie.Need-slice-aggregate-print-text
-slice-aggregate-print-text c = search needs
-
-print-text-requires : tie.Need-print-text-requires
-print-text-requires c κs = search needs
+print-one-requires : tie.Need-print-one-requires
+print-one-requires c κs = search needs
 
 same-length : tie.Need-same-length
 same-length c = search needs
 
 returns : tie.Need-returns
-unfolding answerLine
-returns c = printed-then (c .before .before .before .before .before .before .before .print-field .ensures .0) (c .before .before .print-text .ensures)
+unfolding answerText
+returns c = c .before .before .print-one .ensures
 
 pub print-refused-spec : {M : Type 1} → statement M
 print-refused-spec =
-    tie.close
-    (tie.spec
-    slice-aggregate-print-field
-    print-field-requires
-    slice-aggregate-print-text
-    print-text-requires
-    same-length
-    returns)
+    tie.close (tie.spec slice-aggregate-print-one print-one-requires same-length returns)

@@ -1,34 +1,56 @@
--- `protocol::read_call` meets its contract: by its name, and by what was read of its numbers.
-use mathlib.Core.Path.{sym, ap, _∙_}
-use borrow.Author.Tests.{not-true, not-false}
+-- `protocol::read_call` meets its contract: by what its name takes, and by what was read of its numbers.
+use mathlib.Core.Path.{_≡_, sym, _∙_}
+use Prim.Native.Nat.{_≤_}
+use native.Mathlib.Omega.{arith}
 use lib.ListN.{length}
+use lib.Seq.{length-take-le}
 use Rattle.protocol.specs.Words.{partsAfter}
-use Rattle.protocol.specs.Lines.{meaning}
-use Rattle.protocol.proofs.Reading.{call-unknown, call-wrong, call-read, offer-fits}
+use Rattle.protocol.specs.Requests.{taken}
+use Rattle.protocol.specs.declared.request.Takes.the-variants.{Between}
+use Rattle.protocol.proofs.Reading.{call-unknown, call-wrong, call-read}
 use borrow.Author.Needs.{needs}
 use Rattle.protocol.proofs.request.read_call.Statement.{statement}
 use Rattle.protocol.proofs.request.read_call.Tie as tie
 
-is-known-requires : tie.Need-is-known-requires
-is-known-requires c κs = search needs
+-- what the name takes, and that the numbers that were read have room
+takes-so : (c : tie.After-takes) → taken (c .before .before .before .before .before .args .name) ≡ Between (c .takes .given .0 .0) (c .takes .given .0 .1 .0)
+takes-so c = sym (c .before .before .taken .ensures .0) ∙ c .takes .given .1
+
+most-few : (c : tie.After-takes) → c .takes .given .0 .1 .0 ≤ 2048
+most-few c = rw (c .takes .given .1) at (c .before .before .taken .ensures .1)
+
+count-few : (c : tie.After-read2) → c .read2 .given .0 .0 ≤ c .before .before .before .before .before .before .before .takes .given .0 .1 .0
+count-few c = rw (c .read2 .given .1) at (c .before .before .before .before .read-numbers .ensures .few)
+
+room : (c : tie.After-read2) → c .read2 .given .0 .0 ≤ length (c .before .before .before .before .read-numbers .last .1 .1 .1 .1 .0)
+room c = omega (arith, count-few c, most-few (c .before .before .before .before .before .before .before), c .before .before .before .before .read-numbers .kept .1 .1 .1 .1 .0, c .before .before .before .before .before .before .before .before .before .before .before .before .pre .1)
+
+taken-requires : tie.Need-taken-requires
+taken-requires c κs = search needs
+
+enum-known-takes : tie.Need-enum-known-takes
+enum-known-takes c = search needs
+
+enum-told : tie.Need-enum-told
+enum-told c = search needs
 
 returns : tie.Need-returns
-returns c = (sym (call-unknown _ _ (sym (c .before .is-known .ensures) ∙ not-true _ (c .if1 .taken))), tt)
-
-needed-requires : tie.Need-needed-requires
-needed-requires c κs = search needs
-
-allowed-requires : tie.Need-allowed-requires
-allowed-requires c κs = search needs
+returns c = call-unknown _ _ (c .before .before .before .before .before .args .numbers .now) (sym (c .before .before .taken .ensures .0) ∙ c .enum-told .given .1)
 
 read-numbers-requires : tie.Need-read-numbers-requires
-read-numbers-requires c κs = search needs
+read-numbers-requires c κs = (c .before .before .before .before .before .before .before .pre .0, omega (arith, most-few (c .before .before), c .before .before .before .before .before .before .before .pre .1))
 
 enum-known-read : tie.Need-enum-known-read
 enum-known-read c = search needs
 
 enum-known-read-2 : tie.Need-enum-known-read-2
 enum-known-read-2 c = search needs
+
+slice-reshare-prefix-call-of : tie.Need-slice-reshare-prefix-call-of
+slice-reshare-prefix-call-of c = room (c .before)
+
+slice-aggregate-call-of : tie.Need-slice-aggregate-call-of
+slice-aggregate-call-of c = sym (length-take-le _ _ (room (c .before .before)))
 
 call-of-requires : tie.Need-call-of-requires
 call-of-requires c κs = search needs
@@ -38,35 +60,28 @@ same-length c = search needs
 
 returns-2 : tie.Need-returns-2
 returns-2 c =
-    let s = c .before .before .before .before .before .before .before .before .before .before .before .before .before in
-    let r = c .before .before .before .before .before .read-numbers in
-    (call-wrong (s .args .name) (partsAfter 32 (s .args .line .now) (s .args .end) (length (s .args .line .now))) (r .last .1 .1 .1 .1 .0) (sym (c .before .before .before .before .before .before .before .before .before .before .is-known .ensures) ∙ not-false _ (c .before .before .before .before .before .before .before .before .before .if1 .left)) (c .before .before .before .before .before .before .before .before .needed .ensures) (c .before .before .before .before .before .before .before .allowed .ensures .0) (r .ensures .0) (c .before .read .given .0 .0) (c .before .read .given .1), tt)
+    call-wrong (c .before .before .before .before .before .before .before .before .before .before .before .before .before .args .name) (partsAfter 32 (c .before .before .before .before .before .before .before .before .before .before .before .before .before .args .text .now) (c .before .before .before .before .before .before .before .before .before .before .before .before .before .args .end) (length (c .before .before .before .before .before .before .before .before .before .before .before .before .before .args .text .now))) (c .before .before .before .before .before .before .before .before .before .before .before .before .before .args .numbers .now) (takes-so (c .before .before .before .before .before .before .before .before)) (c .before .before .before .before .before .read-numbers .ensures) (c .before .read .given .0 .0) (c .before .read .given .1)
 
 same-length-2 : tie.Need-same-length-2
 same-length-2 c = search needs
 
 returns-3 : tie.Need-returns-3
 returns-3 c =
-    let s = c .before .before .before .before .before .before .before .before .before .before .before .before .before .before .before in
-    let r = c .before .before .before .before .before .before .before .read-numbers in
-    let e = c .call-of .ensures in
-    let n = c .before .before .before .read2 .given in (
-      rw e
-          (call-read (s .args .name) (partsAfter 32 (s .args .line .now) (s .args .end) (length (s .args .line .now))) (r .last .1 .1 .1 .1 .0) (sym (c .before .before .before .before .before .before .before .before .before .before .before .before .is-known .ensures) ∙ not-false _ (c .before .before .before .before .before .before .before .before .before .before .before .if1 .left)) (c .before .before .before .before .before .before .before .before .before .before .needed .ensures) (c .before .before .before .before .before .before .before .before .before .allowed .ensures .0) (r .ensures .0) (n .0 .0) (n .1) (r .ensures .1)),
-      rw e (offer-fits (s .args .name) (n .0 .0) (r .last .1 .1 .1 .1 .0) (c .before .before .before .before .before .before .before .before .before .before .needed .result) (c .before .before .before .before .before .before .before .before .before .allowed .ensures .0) (n .1) (r .ensures .1)),
-    )
+    call-read (c .before .before .before .before .before .before .before .before .before .before .before .before .before .before .before .args .name) (partsAfter 32 (c .before .before .before .before .before .before .before .before .before .before .before .before .before .before .before .args .text .now) (c .before .before .before .before .before .before .before .before .before .before .before .before .before .before .before .args .end) (length (c .before .before .before .before .before .before .before .before .before .before .before .before .before .before .before .args .text .now))) (c .before .before .before .before .before .before .before .before .before .before .before .before .before .before .before .args .numbers .now) (takes-so (c .before .before .before .before .before .before .before .before .before .before)) (c .before .before .before .before .before .before .before .read-numbers .ensures) (c .before .before .before .read2 .given .0 .0) (c .before .before .before .read2 .given .1) (omega (arith, count-few (c .before .before .before), most-few (c .before .before .before .before .before .before .before .before .before .before))) (room (c .before .before .before)) (c .call-of .ensures)
 
 pub read-call-spec : {M : Type 1} → statement M
 read-call-spec =
     tie.close
     (tie.spec
-    is-known-requires
+    taken-requires
+    enum-known-takes
+    enum-told
     returns
-    needed-requires
-    allowed-requires
     read-numbers-requires
     enum-known-read
     enum-known-read-2
+    slice-reshare-prefix-call-of
+    slice-aggregate-call-of
     call-of-requires
     same-length
     returns-2

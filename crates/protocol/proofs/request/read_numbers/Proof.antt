@@ -1,29 +1,29 @@
--- `protocol::read_numbers` meets its contract: the numbers in the list, and those that are left to read, are those of the line.
-use mathlib.Core.Path.{_≡_, refl, sym, _∙_}
+-- `protocol::read_numbers` meets its contract: the numbers in the list, and those that are left to read, are those of the request.
+use mathlib.Core.Path.{sym, _∙_}
 use Prim.Native.Nat.{_-_}
 use native.Mathlib.Omega.{arith}
 use borrow.Author.Needs.{needs}
-use lib.ListN.{length, length-set}
+use lib.ListN.{length}
 use Rattle.protocol.proofs.Reading.{Reads, reads-none, reads-missing, reads-all, reads-wrong, reads-more, reads-extra}
 use Rattle.protocol.proofs.request.read_numbers.Statement.{statement}
 use Rattle.protocol.proofs.request.read_numbers.Tie as tie
 
 abbrev Inv-loop : tie.InvT-loop
-Inv-loop line from least most numbers₀ at₀ count₀ numbers at count = Reads line from least most numbers at count × (length numbers ≡ length numbers₀)
+Inv-loop text from least most numbers₀ at₀ count₀ numbers at count = Reads text from least most numbers₀ numbers at count
 
 abbrev μ-loop : tie.MeasureT-loop
-μ-loop line from least most numbers₀ at₀ count₀ numbers at count = length line - at
+μ-loop text from least most numbers₀ at₀ count₀ numbers at count = length text - at
 
 loop-holds : tie.Need-loop-holds Inv-loop μ-loop
 loop-holds c =
     let a = c .before .before .args in
-    (reads-none (a .line .now) (a .from) (a .least) (a .most) (a .numbers .now) (c .before .before .pre .0), refl)
+    reads-none (a .text .now) (a .from) (a .least) (a .most) (a .numbers .now) (c .before .before .pre .0)
 
 same-length : tie.Need-same-length Inv-loop μ-loop
-same-length c = c .before .before .loop .inv .1
+same-length c = c .before .before .loop .inv .long
 
 returns : tie.Need-returns Inv-loop μ-loop
-returns c = (sym (reads-extra (c .before .before .loop .inv .0) (c .before .loop-test .taken) (c .if1 .taken)), tt)
+returns c = reads-extra (c .before .before .loop .inv) (c .before .loop-test .taken) (c .if1 .taken)
 
 add-start : tie.Need-add-start Inv-loop μ-loop
 add-start c = omega arith
@@ -38,13 +38,13 @@ enum-known-number : tie.Need-enum-known-number Inv-loop μ-loop
 enum-known-number c = search needs
 
 same-length-2 : tie.Need-same-length-2 Inv-loop μ-loop
-same-length-2 c = c .before .before .before .before .before .before .before .loop .inv .1
+same-length-2 c = c .before .before .before .before .before .before .before .loop .inv .long
 
 returns-2 : tie.Need-returns-2 Inv-loop μ-loop
 returns-2 c =
     let l = c .before .before .before .before .before .before .before in
     let n = c .before .number .given in
-    (sym (reads-wrong (l .loop .inv .0) (c .before .before .before .before .before .before .loop-test .taken) (c .before .before .before .before .part-end .ensures) (n .0 .0) (omega arith) (sym (c .before .before .before .read-number .ensures) ∙ n .1)), tt)
+    reads-wrong (l .loop .inv) (c .before .before .before .before .before .before .loop-test .taken) (c .before .before .before .before .part-end .ensures) (omega arith) (n .0 .0) (sym (c .before .before .before .read-number .ensures) ∙ n .1)
 
 enum-known-number-2 : tie.Need-enum-known-number-2 Inv-loop μ-loop
 enum-known-number-2 c = search needs
@@ -64,22 +64,20 @@ loop-less c = omega arith
 loop-again : tie.Need-loop-again Inv-loop μ-loop
 loop-again c =
     let l = c .before .before .before .before .before .before .before in
-    let n = c .before .number2 .given in (
-      reads-more (l .loop .inv .0) (c .before .before .before .before .before .before .loop-test .taken) (c .before .before .before .before .part-end .ensures) (n .0 .0) (omega arith) (omega arith) (sym (c .before .before .before .read-number .ensures) ∙ n .1),
-      simp length-set (l .loop .inv .1),
-    )
+    let n = c .before .number2 .given in
+    reads-more (l .loop .inv) (c .before .before .before .before .before .before .loop-test .taken) (c .before .before .before .before .part-end .ensures) (omega arith) (n .0 .0) (omega arith) (sym (c .before .before .before .read-number .ensures) ∙ n .1)
 
 same-length-3 : tie.Need-same-length-3 Inv-loop μ-loop
-same-length-3 c = c .before .before .loop .inv .1
+same-length-3 c = c .before .before .loop .inv .long
 
 returns-3 : tie.Need-returns-3 Inv-loop μ-loop
-returns-3 c = (sym (reads-missing (c .before .before .loop .inv .0) (c .before .loop-test .left) (c .if2 .taken)), tt)
+returns-3 c = reads-missing (c .before .before .loop .inv) (c .before .loop-test .left) (c .if2 .taken)
 
 same-length-4 : tie.Need-same-length-4 Inv-loop μ-loop
-same-length-4 c = c .before .before .loop .inv .1
+same-length-4 c = c .before .before .loop .inv .long
 
 returns-4 : tie.Need-returns-4 Inv-loop μ-loop
-returns-4 c = (sym (reads-all (c .before .before .loop .inv .0) (c .before .loop-test .left) (c .if2 .left)), (c .if2 .left, c .before .before .loop .inv .0 .few))
+returns-4 c = reads-all (c .before .before .loop .inv) (c .before .loop-test .left) (c .if2 .left)
 
 pub read-numbers-spec : {M : Type 1} → statement M
 read-numbers-spec =

@@ -59,7 +59,7 @@ returns-5 : tie.Need-returns-5
 returns-5 c = as-found (c .before .before .before .call3 .given .1) (record { gives = c .before .replan-lines .ensures; stays = refl })
 
 returns-6 : tie.Need-returns-6
-returns-6 c = as-found (c .before .before .call4 .given .1) (record { gives = c .enquire .ensures; stays = refl })
+returns-6 c = as-found (c .before .before .before .call4 .given .1) (record { gives = c .before .enquire .ensures; stays = refl })
 
 pub apply-spec : {M : Type 1} → statement M
 apply-spec =

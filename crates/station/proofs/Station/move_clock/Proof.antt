@@ -2,7 +2,7 @@ use native.Mathlib.Omega.{arith}
 use mathlib.Core.Path.{_≡_, sym, _∙_}
 use Rattle.station.proofs.Listing.{valid-listed}
 use Rattle.station.proofs.Refusing.{call-refused, call-gives}
-use Rattle.station.proofs.Moved.{move-granted, movedStation, left-few, call-moved}
+use Rattle.station.proofs.Moved.{movable, movedStation, left-few, call-moved}
 use Rattle.rules.specs.Calls.{move}
 use borrow.Author.Needs.{needs}
 use Rattle.station.proofs.Station.move_clock.Statement.{statement}
@@ -30,10 +30,10 @@ by-start-requires c κs =
 report-requires : tie.Need-report-requires
 report-requires c κs =
     let s = c .before .before .before .before .before .before .before in
-    let m = move-granted (s .args .self) (s .args .target) (s .args .report .now) (sym (c .before .before .before .before .move-refusal .ensures) ∙ omega arith) in (
+    let m = movable (s .args .self) (s .args .target) (s .args .report .now) (sym (c .before .before .before .before .move-refusal .ensures) ∙ omega arith) in (
       s .pre .columns,
       c .before .by-start .ensures .places,
-      omega (arith, m .room, c .before .by-start .ensures .places .few, s .pre .columns .few),
+      omega (arith, m .list-long, c .before .by-start .ensures .places .few, s .pre .columns .few),
     )
 
 unfinished-requires : tie.Need-unfinished-requires

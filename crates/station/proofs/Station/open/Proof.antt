@@ -1,6 +1,7 @@
 use mathlib.Core.Path.{sym, _∙_}
 use native.Mathlib.Omega.{arith}
-use Rattle.station.proofs.Opened.{open-granted, open-refused, open-opened}
+use Rattle.station.specs.Answers.{settingsOf}
+use Rattle.station.proofs.Opened.{open-refused, open-opened}
 use Rattle.station.proofs.Refusing.{opening-gives}
 use borrow.Author.Needs.{needs}
 use Rattle.station.proofs.Station.open.Statement.{statement}
@@ -15,20 +16,20 @@ fresh-requires c κs = search needs
 returns : tie.Need-returns
 returns c =
     let s = c .before .before .before in
-    opening-gives (s .args .limit) (s .args .percent) _ (c .fresh .result) (c .fresh .ensures .1)
-    (open-refused (s .args .limit) (s .args .percent) (c .before .before .open-refusal .result) (c .fresh .result)
+    opening-gives (settingsOf (s .args .settings)) _ (c .fresh .result) (c .fresh .ensures .1)
+    (open-refused (settingsOf (s .args .settings)) (c .before .before .open-refusal .result) (c .fresh .result)
     (c .before .before .open-refusal .ensures)
     (c .before .if1 .taken)
     (c .fresh .ensures .0))
 
 fresh-requires-2 : tie.Need-fresh-requires-2
-fresh-requires-2 c κs = open-granted _ _ (sym (c .before .open-refusal .ensures) ∙ omega arith)
+fresh-requires-2 c κs = sym (c .before .open-refusal .ensures) ∙ omega arith
 
 returns-2 : tie.Need-returns-2
 returns-2 c =
     let s = c .before .before .before in
-    opening-gives (s .args .limit) (s .args .percent) _ (c .fresh2 .result) (c .fresh2 .ensures .1)
-    (open-opened (s .args .limit) (s .args .percent) (c .before .before .open-refusal .result) (c .fresh2 .result)
+    opening-gives (settingsOf (s .args .settings)) _ (c .fresh2 .result) (c .fresh2 .ensures .1)
+    (open-opened (settingsOf (s .args .settings)) (c .before .before .open-refusal .result) (c .fresh2 .result)
     (c .before .before .open-refusal .ensures)
     (omega arith)
     (c .fresh2 .ensures .0))

@@ -2,8 +2,9 @@ use mathlib.Core.Path.{_≡_, ap, sym, _∙_}
 use native.Mathlib.Omega.{arith}
 use Rattle.rules.specs.Calls.{order}
 use Rattle.profile.specs.Shows.{foundAt}
+use Rattle.search.proofs.Starts.{earliest-shows}
 use Rattle.station.proofs.Refusing.{call-refused, call-gives}
-use Rattle.station.proofs.Ordered.{drawn, ends-fit, Orderable, order-granted, can-search, orderedStation, call-ordered, call-nothing}
+use Rattle.station.proofs.Ordered.{ends-fit, all-shown, Orderable, orderable, can-search, orderedStation, call-ordered, call-nothing}
 use borrow.Author.Needs.{needs}
 use Rattle.station.proofs.Station.order.Statement.{statement}
 use Rattle.station.proofs.Station.order.Tie as tie
@@ -29,18 +30,18 @@ module _ (c : tie.Else1) where
   granted : Orderable (c .before .before .args .self) (c .before .before .args .line) (c .before .before .args .time) (c .before .before .args .due)
   granted =
       let s = c .before .before in
-      order-granted (s .args .self) (s .args .line) (s .args .time) (s .args .due)
+      orderable (s .args .self) (s .args .line) (s .args .time) (s .args .due)
       (sym (c .before .order-refusal .ensures) ∙ none)
 
-of-requires : tie.Need-of-requires
-of-requires c κs =
-    let s = c .before .before .before .before .before .before .before in
+profile-before-requires : tie.Need-profile-before-requires
+profile-before-requires c κs =
+    let s = c .before .before .before in
     (s .pre .columns .few, ends-fit (s .args .self) (s .pre))
 
 earliest-requires : tie.Need-earliest-requires
 earliest-requires c κs =
-    let s = c .before .before .before .before .before .before .before .before in (
-      can-search (s .args .self) (c .of .result) (s .args .time) (s .pre) (c .of .ensures) (granted (c .before .before .before .before .before .before) .time-most),
+    let s = c .before .before .before .before .before .before .before in (
+      can-search (s .args .self) (c .before .before .before .profile-before .result) (s .args .time) (s .pre) (all-shown (s .args .self) _ (s .pre) (c .before .before .before .profile-before .ensures)) (granted (c .before .before .before .before .before) .time-most),
       s .pre .state .limit-low,
       s .pre .state .bound-low,
     )
@@ -53,36 +54,36 @@ enum-told c = search needs
 
 returns-2 : tie.Need-returns-2
 returns-2 c =
-    let s = c .before .before .before .before .before .before .before .before .before .before .before in
+    let s = c .before .before .before .before .before .before .before .before .before .before in
     let a = c .before .before in
     record {
       result =
           call-nothing (s .args .self) (s .args .line) (s .args .time) (s .args .due)
-          (c .before .before .before .before .before .before .before .before .before .before .order-refusal .result) (c .before .before .before .before .before .before .before .before .before .before .order-refusal .ensures) (none (c .before .before .before .before .before .before .before .before .before))
-          (a .earliest .ensures (s .args .self .clock) (drawn (s .args .self .charges)) (a .before .of .ensures)
+          (c .before .before .before .before .before .before .before .before .before .order-refusal .result) (c .before .before .before .before .before .before .before .before .before .order-refusal .ensures) (none (c .before .before .before .before .before .before .before .before))
+          (earliest-shows (a .earliest .ensures) (s .args .self .clock) _ (all-shown (s .args .self) _ (s .pre) (a .before .before .before .before .profile-before .ensures))
           ∙ ap foundAt (c .enum-told .given .1));
       valid = s .pre;
     }
 
 push-requires : tie.Need-push-requires
 push-requires c κs =
-    let s = c .before .before .before .before .before .before .before .before .before .before .before .before in
-    (s .pre .columns, granted (c .before .before .before .before .before .before .before .before .before .before) .room)
+    let s = c .before .before .before .before .before .before .before .before .before .before .before in
+    (s .pre .columns, granted (c .before .before .before .before .before .before .before .before .before) .room)
 
 add-next : tie.Need-add-next
-add-next c = omega (arith, granted (c .before .before .before .before .before .before .before .before .before .before .before) .tickets-left)
+add-next c = omega (arith, granted (c .before .before .before .before .before .before .before .before .before .before) .tickets-left)
 
 returns-3 : tie.Need-returns-3
 returns-3 c =
-    let s = c .before .before .before .before .before .before .before .before .before .before .before .before .before in
+    let s = c .before .before .before .before .before .before .before .before .before .before .before .before in
     let found = c .before .before in
     let a = found .before .before in
     call-gives (s .args .self) (order (s .args .line) (s .args .time) (s .args .due)) _
     (orderedStation (s .args .self) (c .push .result)) _ (s .pre) (c .push .ensures .columns)
     (call-ordered (s .args .self) (s .args .line) (s .args .time) (s .args .due)
-    (c .before .before .before .before .before .before .before .before .before .before .before .before .order-refusal .result) (c .before .before .before .before .before .before .before .before .before .before .before .before .order-refusal .ensures) (none (c .before .before .before .before .before .before .before .before .before .before .before))
+    (c .before .before .before .before .before .before .before .before .before .before .before .order-refusal .result) (c .before .before .before .before .before .before .before .before .before .before .before .order-refusal .ensures) (none (c .before .before .before .before .before .before .before .before .before .before))
     (found .found .given .0 .0) (c .push .result)
-    (a .earliest .ensures (s .args .self .clock) (drawn (s .args .self .charges)) (a .before .of .ensures)
+    (earliest-shows (a .earliest .ensures) (s .args .self .clock) _ (all-shown (s .args .self) _ (s .pre) (a .before .before .before .before .profile-before .ensures))
     ∙ ap foundAt (found .found .given .1))
     (c .push .ensures))
 
@@ -92,7 +93,7 @@ order-spec =
     (tie.spec
     order-refusal-requires
     returns
-    of-requires
+    profile-before-requires
     earliest-requires
     enum-known-found
     enum-told

@@ -1,2 +1,0 @@
-pub mod Reply
-pub mod Serve

@@ -1,0 +1,30 @@
+-- For each field of demand 3 there is a station that breaks it on a list of calls, and no other field.
+use mathlib.Core.Path.{_≡_, refl}
+use mathlib.Core.Bool.{true}
+use mathlib.Core.List.{map}
+use Rattle.rules.specs.Basics.{Each}
+use Rattle.rules.specs.Load.{limited, balanced, sound}
+use Rattle.rules.specs.Search.{earliest, earliestUnder}
+use Rattle.rules.specs.Replan.{placeAll, latest}
+use Rattle.rules.specs.Judgement.{judged}
+use Rattle.rules.specs.Calls.{opening, ordering, moving, offering, replanningLatest, enquiring}
+use Rattle.excluded.specs.Same.{every}
+use Rattle.excluded.specs.Breaks.{Exactly, aloneIn}
+use Rattle.excluded.specs.FieldsThree.{Field, fields, place}
+use Rattle.excluded.specs.BreaksThree.{Trial, HoldsOf, testOf, computed, wrongEntries, entries}
+use Rattle.excluded.proofs.Breaks.{each-exactly}
+use Rattle.excluded.proofs.TestsThree.{three-tested}
+
+-- the checker computes every test on every list
+pub entries-hold : map computed entries ≡ entries
+unfolding limited balanced sound earliest earliestUnder placeAll latest judged opening ordering moving offering replanningLatest enquiring
+entries-hold = refl
+
+-- so each wrong station breaks the fields that its entry names, and no other, and the rules break none
+pub exactly-three : Each (Exactly Trial Field HoldsOf) entries
+exactly-three =
+    each-exactly Trial Field HoldsOf testOf fields (λ r f. three-tested (r .gives) (r .first) (r .calls) f) entries entries-hold
+
+-- `begunMoved` breaks several fields; each field is broken alone by another station
+pub alone-three : every (aloneIn place wrongEntries) fields ≡ true
+alone-three = refl

@@ -1,0 +1,24 @@
+-- What the refutations of wrong stations share.
+use mathlib.Core.Path.{_≡_, refl}
+use native.Mathlib.Omega.{arith}
+use Rattle.rules.specs.Load.{IsLine}
+use Rattle.rules.specs.Calls.{State, Call, order, move, offer, replanLatest, replanLines, enquire, ordering, step}
+use Rattle.excluded.specs.Parts.{withOrders}
+
+-- with nothing put in their place, the parts are the rules: a wrong station differs in its one part only
+unaltered : (s : State) (c : Call) → withOrders ordering s c ≡ step s c
+unaltered s (order line p d) = refl
+unaltered s (move target list) = refl
+unaltered s (offer ss) = refl
+unaltered s replanLatest = refl
+unaltered s (replanLines allowance) = refl
+unaltered s (enquire ticket) = refl
+
+pub line-one : IsLine 1
+line-one = record { low = omega arith; high = omega arith }
+
+pub line-two : IsLine 2
+line-two = record { low = omega arith; high = omega arith }
+
+pub line-three : IsLine 3
+line-three = record { low = omega arith; high = omega arith }

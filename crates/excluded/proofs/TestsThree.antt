@@ -1,0 +1,160 @@
+-- The test of each field of demand 3 is true exactly where the field holds.
+use mathlib.Core.Path.{_≡_, refl, ap}
+use Prim.Native.Nat.{ℕ, suc, _+_, _≤_}
+use mathlib.Core.Bool.{Bool, true, false, cond}
+use mathlib.Core.List.{List, [], _∷_, _++_, map}
+use native.Mathlib.Omega.{arith}
+use lib.Dec.{eqb}
+use borrow.Author.Tests.{eqb-true, eq-eqb}
+use Rattle.rules.specs.Basics.{Each, some}
+use Rattle.rules.specs.Calls.{Settings, State, limitsOf, refused, waiting, charging, opening, Call, step}
+use Rattle.rules.proofs.Ranges.{and-left, and-right, and-both}
+use Rattle.guarantee.specs.Past.{Gives, Order, Report, Past, beginning, extended, after, past, timesReported, enquiry, startOf, endOf, loadOf, Numbered, totalTime, lastMinute}
+use Rattle.guarantee.specs.DemandThree.{Unmoved}
+use Rattle.excluded.specs.Same.{every}
+use Rattle.excluded.specs.FieldsThree.{Field, limit, balance, tickets, not-early, in-time, reported, not-reported, waits, charges, finished, no-other, unmoved, Holds}
+use Rattle.excluded.specs.TestsThree.{numbered, afterEach, unmovedFrom, tested}
+use Rattle.guarantee.proofs.DemandThree.{demand-three}
+use Rattle.excluded.proofs.FieldsThree.{three-fields}
+use Rattle.excluded.proofs.Tests.{Tests, leb-tests, ltb-tests, eqb-tests, every-tests, where-so-tests}
+use Rattle.excluded.proofs.TestsMinutes.{limit-tests, balance-tests}
+use Rattle.excluded.proofs.Same.{same-answer}
+
+-- Tickets and reports
+
+tickets-tests : (i : ℕ) (os : List Order) → Tests (numbered i os) (Numbered i os)
+tickets-tests i [] = ((λ e. tt), (λ e. refl))
+tickets-tests i (o ∷ os) = (
+  (λ e. (
+    eqb-true (o .ticket) i (and-left (eqb (o .ticket) i) (numbered (suc i) os) e),
+    tickets-tests (suc i) os .0 (and-right (eqb (o .ticket) i) (numbered (suc i) os) e),
+  )),
+  (λ p.
+      and-both (eqb (o .ticket) i) (numbered (suc i) os) (eq-eqb (o .ticket) i (p .0)) (tickets-tests (suc i) os .1 (p .1))),
+)
+
+-- a test that holds of each reported ticket, and the other way round
+every-reported :
+    (f : ℕ → Bool) (rs : List Report) → Tests (every (λ r. f (r .ticket)) rs) ((t : ℕ) → 1 ≤ timesReported rs t → f t ≡ true)
+every-reported f [] = ((λ e t h. absurd (omega arith)), (λ p. refl))
+every-reported f (r ∷ rs) = (
+  (λ e t h. go t (eqb (r .ticket) t) refl h (and-left (f (r .ticket)) (every (λ r. f (r .ticket)) rs) e)
+      (every-reported f rs .0 (and-right (f (r .ticket)) (every (λ r. f (r .ticket)) rs) e) t)),
+  (λ p.
+      and-both (f (r .ticket)) (every (λ r. f (r .ticket)) rs)
+      (p (r .ticket) (rw (eq-eqb (r .ticket) (r .ticket) refl) (omega arith)))
+      (every-reported f rs .1 (λ t h. p t (omega arith)))),
+)
+  where
+    go :
+        (t : ℕ) (b : Bool)
+        → eqb (r .ticket) t ≡ b
+        → 1 ≤ cond b 1 0 + timesReported rs t
+        → f (r .ticket) ≡ true
+        → (1 ≤ timesReported rs t → f t ≡ true)
+        → f t ≡ true
+    go t true q h here later = let same : r .ticket ≡ t = eqb-true (r .ticket) t q in rw (← same) here
+    go t false q h here later = later (omega arith)
+
+-- First parts
+
+after-each :
+    (f : Past → Bool) (gives : Gives) (h : Past) (calls : List Call)
+    → Tests (afterEach f gives h calls) ((part rest : List Call) → calls ≡ part ++ rest → f (after gives h part) ≡ true)
+after-each f gives h [] = (
+  (λ e. none e),
+  (λ p. p [] [] refl),
+)
+  where
+    none : f h ≡ true → (part rest : List Call) → [] ≡ part ++ rest → f (after gives h part) ≡ true
+    none e [] rest q = e
+    none e (c ∷ part) rest q = let z : _≡_ {A = ℕ} 0 1 = cc in absurd (omega arith)
+after-each f gives h (c ∷ calls) = (
+  (λ e.
+      some-part (and-left (f h) (afterEach f gives (extended h c (gives (h .station) c)) calls) e)
+      (after-each f gives (extended h c (gives (h .station) c)) calls .0
+      (and-right (f h) (afterEach f gives (extended h c (gives (h .station) c)) calls) e))),
+  (λ p.
+      and-both (f h) (afterEach f gives (extended h c (gives (h .station) c)) calls) (p [] (c ∷ calls) refl)
+      (after-each f gives (extended h c (gives (h .station) c)) calls .1
+      (λ part rest q. p (c ∷ part) rest (ap (λ l. c ∷ l) q)))),
+)
+  where
+    some-part :
+        f h ≡ true
+        → ((part rest : List Call) → calls ≡ part ++ rest → f (after gives (extended h c (gives (h .station) c)) part) ≡ true)
+        → (part rest : List Call)
+        → c ∷ calls ≡ part ++ rest
+        → f (after gives h part) ≡ true
+    some-part e later [] rest q = e
+    some-part e later (d ∷ part) rest q =
+        let same : c ≡ d = cc in
+        let r : calls ≡ part ++ rest = cc in
+        rw (← same) (later part rest r)
+
+-- Each field
+
+pub three-tested : (gives : Gives) (s : State) (calls : List Call) (f : Field) → Tests (tested gives s calls f) (Holds gives s calls f)
+three-tested gives s calls limit =
+    let law = limit-tests (limitsOf s) 0 (map (loadOf gives (past gives s calls)) (past gives s calls .orders)) in
+    ((λ e l t j. law .0 e l t j (omega arith)), (λ p. law .1 (λ l t j h. p l t j)))
+three-tested gives s calls balance =
+    let law = balance-tests (limitsOf s) 0 (map (loadOf gives (past gives s calls)) (past gives s calls .orders)) in
+    ((λ e l m t j i. law .0 e l m t j i (omega arith)), (λ p. law .1 (λ l m t j i h. p l m t j i)))
+three-tested gives s calls tickets = tickets-tests 1 (past gives s calls .orders)
+three-tested gives s calls not-early =
+    let h : Past = past gives s calls in
+    every-tests (λ o. leb-tests (o .minute) (startOf gives h o)) (h .orders)
+three-tested gives s calls in-time =
+    let h : Past = past gives s calls in
+    every-tests (λ o. leb-tests (endOf gives h o) (lastMinute 0 (h .orders) + totalTime (h .orders))) (h .orders)
+three-tested gives s calls reported =
+    let h : Past = past gives s calls in
+    every-tests
+    (λ o. where-so-tests (ltb-tests (startOf gives h o) (h .clock)) (eqb-tests (timesReported (h .reports) (o .ticket)) 1))
+    (h .orders)
+three-tested gives s calls not-reported =
+    let h : Past = past gives s calls in
+    every-tests
+    (λ o. where-so-tests (leb-tests (h .clock) (startOf gives h o)) (eqb-tests (timesReported (h .reports) (o .ticket)) 0))
+    (h .orders)
+three-tested gives s calls waits =
+    let h : Past = past gives s calls in
+    every-tests
+    (λ o.
+    where-so-tests (leb-tests (h .clock) (startOf gives h o))
+    (same-answer (enquiry gives h (o .ticket)) (waiting (startOf gives h o))))
+    (h .orders)
+three-tested gives s calls charges =
+    let h : Past = past gives s calls in
+    every-tests
+    (λ o.
+    where-so-tests (ltb-tests (startOf gives h o) (h .clock))
+    (where-so-tests (ltb-tests (h .clock) (endOf gives h o))
+    (same-answer (enquiry gives h (o .ticket)) (charging (startOf gives h o) (endOf gives h o)))))
+    (h .orders)
+three-tested gives s calls finished =
+    let h : Past = past gives s calls in
+    every-tests
+    (λ o. where-so-tests (leb-tests (endOf gives h o) (h .clock)) (same-answer (enquiry gives h (o .ticket)) (refused 15)))
+    (h .orders)
+three-tested gives s calls no-other =
+    every-reported (λ t. some (λ (o : Order). eqb (o .ticket) t) (past gives s calls .orders)) (past gives s calls .reports)
+three-tested gives s calls unmoved =
+    let there : Past = past gives s calls in
+    let each = after-each (unmovedFrom gives there) gives (beginning s) calls in
+    let at : (here : Past) → Tests (unmovedFrom gives there here) (Each (Unmoved gives here there) (here .orders))
+    = λ here.
+    every-tests
+    (λ o.
+    where-so-tests (ltb-tests (startOf gives here o) (here .clock)) (eqb-tests (startOf gives there o) (startOf gives here o)))
+    (here .orders) in (
+      (λ e part rest q. at (past gives s part) .0 (each .0 e part rest q)),
+      (λ p. each .1 (λ part rest q. at (past gives s part) .1 (p part rest q))),
+    )
+
+-- of the rules every test is true, on every list
+pub rules-tested : (x : Settings) (calls : List Call) (f : Field) → tested step (opening x .state) calls f ≡ true
+rules-tested x calls f =
+    three-tested step (opening x .state) calls f .1
+    (three-fields step (opening x .state) calls .0 (demand-three x calls) f)

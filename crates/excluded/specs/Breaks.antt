@@ -1,0 +1,40 @@
+-- Entries that say which fields of a demand are false of a thing, and which hold; what they claim, and what is computed for them.
+use Prim.Native.Nat.{ℕ}
+use mathlib.Core.Bool.{Bool, not}
+use mathlib.Core.List.{List, [], _∷_, map}
+use lib.Dec.{eqb}
+use Rattle.rules.specs.Basics.{Each, keep, some}
+use Rattle.excluded.specs.Same.{sameList}
+
+-- a thing that a demand is made of, the fields that are false of it, and those that hold
+pub record Entry (Thing Field : Type 0) : Type 0 where
+  pub thing : Thing
+  pub broken : List Field
+  pub kept : List Field
+
+-- each field named as broken is false, each named as kept holds
+pub record Exactly (Thing Field : Type 0) (Holds : Thing → Field → Type 0) (e : Entry Thing Field) : Type 0 where
+  pub breaks : Each (λ f. Holds (e .thing) f → ⊥) (e .broken)
+  pub keeps : Each (λ f. Holds (e .thing) f) (e .kept)
+
+-- the same by a test of each field
+abbrev pub computedBy : {Thing : Type 0} {Field : Type 0} → (Thing → Field → Bool) → List Field → Entry Thing Field → Entry Thing Field
+computedBy test fields e =
+    record {
+      thing = e .thing;
+      broken = keep (λ f. not (test (e .thing) f)) fields;
+      kept = keep (test (e .thing)) fields;
+    }
+
+-- "and no other": the fields named are false, all others of the list hold; `place` is the place of a field in the list
+abbrev pub onlyOf : {Thing : Type 0} {Field : Type 0} → (Field → ℕ) → List Field → Thing → List Field → Entry Thing Field
+onlyOf place fields thing broken =
+    record {
+      thing = thing;
+      broken = broken;
+      kept = keep (λ f. not (some (λ b. eqb (place b) (place f)) broken)) fields;
+    }
+
+-- whether some entry breaks this field and no other
+abbrev pub aloneIn : {Thing : Type 0} {Field : Type 0} → (Field → ℕ) → List (Entry Thing Field) → Field → Bool
+aloneIn place es f = some (λ e. sameList (map place (e .broken)) (place f ∷ [])) es

@@ -1,0 +1,80 @@
+-- For each field of demand 3 a wrong station, and a list of calls on which that field is false and no other.
+use Prim.Native.Nat.{ℕ}
+use mathlib.Core.Bool.{Bool}
+use mathlib.Core.List.{List, [], _∷_, _++_, map}
+use Rattle.rules.specs.Entry.{lentList}
+use Rattle.rules.specs.Calls.{settings, State, Call, order, move, offer, replanLatest, opening, step}
+use Rattle.guarantee.specs.Past.{Gives}
+use Rattle.excluded.specs.WrongOrders.{ownLineOnly, neighboursOnly, limitIgnored, fixedStart, ticketSkipped}
+use Rattle.excluded.specs.WrongMoves.{startAtClockLeftOut, firstReportOnly, reportedTwice, startAtTargetReported, nobodyReported, slowClock, droppedEarly, droppedLate, neverDropped, shownLate, shownBegun, shownEarly}
+use Rattle.excluded.specs.WrongPlans.{untested, begunMoved}
+use Rattle.excluded.specs.FieldsThree.{Field, limit, balance, tickets, not-early, in-time, reported, not-reported, waits, charges, finished, no-other, unmoved, fields, place, Holds}
+use Rattle.excluded.specs.Breaks.{Entry, computedBy, onlyOf}
+use Rattle.excluded.specs.TestsThree.{tested}
+
+-- a station, its first state and the calls made to it
+pub record Trial : Type 0 where
+  pub gives : Gives
+  pub first : State
+  pub calls : List Call
+
+abbrev pub HoldsOf : Trial → Field → Type 0
+HoldsOf r f = Holds (r .gives) (r .first) (r .calls) f
+
+abbrev pub testOf : Trial → Field → Bool
+testOf r f = tested (r .gives) (r .first) (r .calls) f
+
+abbrev pub Breach : Type 0
+Breach = Entry Trial Field
+
+abbrev pub computed : Breach → Breach
+computed = computedBy testOf fields
+
+abbrev only : Gives → State → List Call → List Field → Breach
+only gives s calls broken = onlyOf place fields (record { gives = gives; first = s; calls = calls }) broken
+
+-- the station of 1, 100 and that of 2, 50, both with D = 1
+abbrev pub one : State
+one = opening (settings 1 100) .state
+
+abbrev pub two : State
+two = opening (settings 2 50) .state
+
+-- one order that charges on line 1 from 0 to 10
+abbrev pub single : Call
+single = order 1 10 60
+
+-- one order on each line, and another on line 1
+abbrev pub fourOrders : List Call
+fourOrders = order 1 10 60 ∷ order 2 10 60 ∷ order 3 10 60 ∷ order 1 10 60 ∷ []
+
+abbrev pub to : ℕ → Call
+to target = move target lentList
+
+abbrev pub wrongEntries : List Breach
+wrongEntries =
+    only limitIgnored one fourOrders (limit ∷ [])
+    ∷ only fixedStart one fourOrders (limit ∷ [])
+    ∷ only ownLineOnly two (single ∷ single ∷ []) (balance ∷ [])
+    ∷ only neighboursOnly two (single ∷ order 2 10 60 ∷ single ∷ []) (balance ∷ [])
+    ∷ only ticketSkipped one (single ∷ single ∷ []) (tickets ∷ [])
+    ∷ only slowClock one (to 5 ∷ single ∷ to 6 ∷ []) (not-early ∷ [])
+    ∷ only (untested 4) one (single ∷ order 1 10 15 ∷ offer (11 ∷ 0 ∷ []) ∷ []) (in-time ∷ [])
+    ∷ only startAtClockLeftOut one (single ∷ to 1 ∷ []) (reported ∷ [])
+    ∷ only firstReportOnly one (single ∷ to 5 ∷ order 2 10 60 ∷ to 6 ∷ []) (reported ∷ [])
+    ∷ only reportedTwice one (single ∷ to 1 ∷ to 2 ∷ []) (reported ∷ [])
+    ∷ only startAtTargetReported one (single ∷ single ∷ to 10 ∷ []) (not-reported ∷ [])
+    ∷ only shownBegun one (single ∷ []) (waits ∷ [])
+    ∷ only shownLate one (single ∷ to 1 ∷ []) (charges ∷ [])
+    ∷ only droppedEarly one (single ∷ to 9 ∷ []) (charges ∷ [])
+    -- ticket 1, reported with start 0, waits for 10, and ticket 2, never reported, charges from 0: both of line 1 in minute 0
+    ∷ only begunMoved one (single ∷ order 1 10 15 ∷ to 1 ∷ replanLatest ∷ []) (limit ∷ balance ∷ reported ∷ charges ∷ [])
+    ∷ only droppedLate one (single ∷ to 10 ∷ []) (finished ∷ [])
+    ∷ only neverDropped one (single ∷ to 99 ∷ []) (finished ∷ [])
+    ∷ only nobodyReported one (to 1 ∷ []) (no-other ∷ [])
+    ∷ only shownEarly one (single ∷ single ∷ to 9 ∷ to 11 ∷ []) (unmoved ∷ [])
+    ∷ []
+
+-- and the rules themselves on the same calls, where nothing breaks
+abbrev pub entries : List Breach
+entries = wrongEntries ++ map (λ e. only step (e .thing .first) (e .thing .calls) []) wrongEntries

@@ -1,0 +1,101 @@
+-- For each field of demand 2 for offers and replans a wrong station and a call for which that field is false, and no other
+-- where that can be.
+use Prim.Native.Nat.{ℕ}
+use mathlib.Core.List.{List, [], _∷_, _++_, map}
+use Rattle.rules.specs.Entry.{lentList}
+use Rattle.rules.specs.Replan.{starts, latest, Replanned, byLines}
+use Rattle.rules.specs.Calls.{settings, State, limitsOf, order, move, offer, replanLatest, replanLines, opening, step}
+use Rattle.guarantee.specs.Past.{Gives}
+use Rattle.guarantee.specs.Demands.{reached}
+use Rattle.excluded.specs.WrongPlans.{untested, neverTaken, offerCleared, takenLater, begunPutOff, lineChanged, takenForTicket, keptForTicket, alwaysKept, spentAfterNone, roundsInvented}
+use Rattle.excluded.specs.Breaks.{Entry, computedBy, onlyOf}
+use Rattle.excluded.specs.FieldsBetter.{Merit, not-before-clock, limit, balance, no-later, less-late, merits, rank, Plan, merited}
+use Rattle.excluded.specs.FieldsTwoPlans.{Field, taken, waiting-starts, begun-same, charges-same, station-same, unchanged, answer, same-list, fields, place, Trial, tested}
+use Rattle.excluded.specs.BreaksTwoOrders.{ordersH, stationH}
+
+abbrev pub Breach : Type 0
+Breach = Entry Trial Field
+
+abbrev pub computed : Breach → Breach
+computed = computedBy tested fields
+
+abbrev only : Trial → List Field → Breach
+only = onlyOf place fields
+
+abbrev offered : Gives → State → List ℕ → Trial
+offered gives s ss = record { gives = gives; station = s; call = offer ss; proposal = starts ss; rounds = 0 }
+
+abbrev byLatest : Gives → State → Trial
+byLatest gives s =
+    record {
+      gives = gives;
+      station = s;
+      call = replanLatest;
+      proposal = latest (limitsOf s) (s .clock) (s .charges);
+      rounds = 0;
+    }
+
+abbrev byLine : Gives → State → ℕ → Trial
+byLine gives s allowance =
+    let r : Replanned = byLines (limitsOf s) (s .clock) allowance (s .charges) in
+    record { gives = gives; station = s; call = replanLines allowance; proposal = r .proposal; rounds = r .rounds }
+
+-- at clock 1 ticket 2 waits for 1 and ticket 3, due at 11, for 11
+abbrev pub waitingSince : State
+waitingSince = reached (settings 1 100) (order 1 1 60 ∷ order 1 10 60 ∷ order 1 10 11 ∷ move 1 lentList ∷ [])
+
+-- a charge on each line from 0 to 10, and ticket 4 on line 1, due at 15, from 10 to 20
+abbrev pub stationFour : State
+stationFour = reached (settings 1 100) (order 1 10 60 ∷ order 2 10 60 ∷ order 3 10 60 ∷ order 1 10 15 ∷ [])
+
+-- at clock 2 ticket 1 charges on line 2 from 0 to 10, tickets 3 and 4, due at 12, wait for 2 and 12
+abbrev pub begunAndWaiting : State
+begunAndWaiting =
+    reached (settings 1 100) (order 2 10 60 ∷ order 1 2 60 ∷ order 1 10 60 ∷ order 1 10 12 ∷ move 2 lentList ∷ [])
+
+-- the offer of case j that is taken
+abbrev pub offerJ : List ℕ
+offerJ = 10 ∷ 0 ∷ []
+
+-- offers that are not better in one thing
+abbrev pub plans : List (Entry Plan Merit)
+plans =
+    onlyOf rank merits (record { station = waitingSince; list = 11 ∷ 0 ∷ [] }) (not-before-clock ∷ [])
+    ∷ onlyOf rank merits (record { station = stationH; list = 11 ∷ 0 ∷ [] }) (no-later ∷ [])
+    ∷ onlyOf rank merits (record { station = stationFour; list = 0 ∷ 0 ∷ 0 ∷ 0 ∷ [] }) (limit ∷ [])
+    ∷ onlyOf rank merits (record { station = reached (settings 2 50) ordersH; list = 0 ∷ 0 ∷ [] }) (balance ∷ [])
+    ∷ onlyOf rank merits (record { station = stationH; list = 0 ∷ 10 ∷ [] }) (less-late ∷ [])
+    ∷ []
+
+abbrev pub computedPlan : Entry Plan Merit → Entry Plan Merit
+computedPlan = computedBy merited merits
+
+abbrev pub wrongEntries : List Breach
+wrongEntries =
+    -- a plan that is not better is taken: `taken` follows from `answer` and demand 1, so both break
+    -- the start 0 is below the clock, so that ticket 3 is begun and no longer waits
+    only (offered (untested 3) waitingSince (11 ∷ 0 ∷ [])) (taken ∷ waiting-starts ∷ begun-same ∷ answer ∷ [])
+    ∷ only (offered (untested 4) stationH (11 ∷ 0 ∷ [])) (taken ∷ answer ∷ [])
+    ∷ only (offered (untested 5) stationFour (0 ∷ 0 ∷ 0 ∷ 0 ∷ [])) (taken ∷ answer ∷ [])
+    ∷ only (offered (untested 6) (reached (settings 2 50) ordersH) (0 ∷ 0 ∷ [])) (taken ∷ answer ∷ [])
+    ∷ only (offered (untested 7) stationH (0 ∷ 10 ∷ [])) (taken ∷ answer ∷ [])
+    -- a better plan is not taken
+    ∷ only (offered neverTaken stationH offerJ) (taken ∷ answer ∷ [])
+    ∷ only (byLatest alwaysKept stationH) (taken ∷ answer ∷ [])
+    ∷ only (offered takenLater stationH offerJ) (waiting-starts ∷ [])
+    ∷ only (offered begunPutOff begunAndWaiting (12 ∷ 2 ∷ [])) (begun-same ∷ [])
+    ∷ only (offered lineChanged stationH offerJ) (charges-same ∷ [])
+    ∷ only (offered takenForTicket stationH offerJ) (station-same ∷ [])
+    ∷ only (offered keptForTicket stationH (0 ∷ 10 ∷ [])) (unchanged ∷ [])
+    ∷ only (byLine spentAfterNone (opening (settings 1 100) .state) 1) (answer ∷ [])
+    ∷ only (byLine roundsInvented (opening (settings 1 100) .state) 3) (answer ∷ [])
+    ∷ only (offered offerCleared stationH offerJ) (same-list ∷ [])
+    ∷ []
+
+-- and the rules themselves for the same calls, where nothing breaks
+abbrev byRules : Trial → Trial
+byRules r =
+    record { gives = step; station = r .station; call = r .call; proposal = r .proposal; rounds = r .rounds }
+
+abbrev pub entries : List Breach
+entries = wrongEntries ++ map (λ e. only (byRules (e .thing)) []) wrongEntries

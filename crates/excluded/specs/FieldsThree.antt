@@ -1,0 +1,89 @@
+-- The fields of demand 3 one by one.
+use mathlib.Core.Path.{_≡_}
+use Prim.Native.Nat.{ℕ, _+_, _≤_, _<_}
+use mathlib.Core.Bool.{true}
+use mathlib.Core.List.{List, [], _∷_, _++_}
+use lib.Dec.{eqb}
+use Rattle.rules.specs.Basics.{Each, some}
+use Rattle.rules.specs.Load.{IsLine}
+use Rattle.rules.specs.Calls.{State, refused, waiting, charging, Call}
+use Rattle.guarantee.specs.Past.{Gives, Order, Past, past, timesReported, enquiry, startOf, endOf, countIn, Numbered, totalTime, lastMinute}
+use Rattle.guarantee.specs.DemandThree.{Unmoved}
+
+-- in the order of `DemandThree`, with those of `Kept` in the place of `orders`
+pub data Field : Type 0 where
+  limit : Field
+  balance : Field
+  tickets : Field
+  not-early : Field
+  in-time : Field
+  reported : Field
+  not-reported : Field
+  waits : Field
+  charges : Field
+  finished : Field
+  no-other : Field
+  unmoved : Field
+
+abbrev pub fields : List Field
+fields =
+    limit ∷ balance ∷ tickets ∷ not-early ∷ in-time ∷ reported ∷ not-reported ∷ waits ∷ charges ∷ finished ∷ no-other ∷ unmoved ∷ []
+
+-- the place of a field in that list
+abbrev pub place : Field → ℕ
+place limit = 0
+place balance = 1
+place tickets = 2
+place not-early = 3
+place in-time = 4
+place reported = 5
+place not-reported = 6
+place waits = 7
+place charges = 8
+place finished = 9
+place no-other = 10
+place unmoved = 11
+
+-- what a field says; all together they are demand 3 (`three-fields` in proofs/FieldsThree.antt)
+abbrev pub Holds : Gives → State → List Call → Field → Type 0
+Holds gives s calls limit = (l t : ℕ) → IsLine l → countIn gives (past gives s calls) l t ≤ s .limit
+Holds gives s calls balance =
+    (l m t : ℕ)
+    → IsLine l
+    → IsLine m
+    → countIn gives (past gives s calls) l t ≤ countIn gives (past gives s calls) m t + s .bound
+Holds gives s calls tickets = Numbered 1 (past gives s calls .orders)
+Holds gives s calls not-early =
+    let h : Past = past gives s calls in
+    Each (λ o. o .minute ≤ startOf gives h o) (h .orders)
+Holds gives s calls in-time =
+    let h : Past = past gives s calls in
+    Each (λ o. endOf gives h o ≤ lastMinute 0 (h .orders) + totalTime (h .orders)) (h .orders)
+Holds gives s calls reported =
+    let h : Past = past gives s calls in
+    Each (λ o. startOf gives h o < h .clock → timesReported (h .reports) (o .ticket) ≡ 1) (h .orders)
+Holds gives s calls not-reported =
+    let h : Past = past gives s calls in
+    Each (λ o. h .clock ≤ startOf gives h o → timesReported (h .reports) (o .ticket) ≡ 0) (h .orders)
+Holds gives s calls waits =
+    let h : Past = past gives s calls in
+    Each (λ o. h .clock ≤ startOf gives h o → enquiry gives h (o .ticket) ≡ waiting (startOf gives h o)) (h .orders)
+Holds gives s calls charges =
+    let h : Past = past gives s calls in
+    Each
+    (λ o.
+    startOf gives h o < h .clock
+    → h .clock < endOf gives h o
+    → enquiry gives h (o .ticket) ≡ charging (startOf gives h o) (endOf gives h o))
+    (h .orders)
+Holds gives s calls finished =
+    let h : Past = past gives s calls in
+    Each (λ o. endOf gives h o ≤ h .clock → enquiry gives h (o .ticket) ≡ refused 15) (h .orders)
+Holds gives s calls no-other =
+    (t : ℕ)
+    → 1 ≤ timesReported (past gives s calls .reports) t
+    → some (λ (o : Order). eqb (o .ticket) t) (past gives s calls .orders) ≡ true
+Holds gives s calls unmoved =
+    (part rest : List Call)
+    → calls ≡ part ++ rest
+    → Each (Unmoved gives (past gives s part) (past gives s calls)) (past gives s part .orders)

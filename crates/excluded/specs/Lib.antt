@@ -1,0 +1,17 @@
+pub mod Parts
+pub mod WrongRefusals
+pub mod WrongOrders
+pub mod WrongMoves
+pub mod WrongPlans
+pub mod Same
+pub mod Breaks
+pub mod FieldsThree
+pub mod TestsThree
+pub mod FieldsOne
+pub mod BreaksOne
+pub mod FieldsTwoOrders
+pub mod BreaksTwoOrders
+pub mod FieldsBetter
+pub mod FieldsTwoPlans
+pub mod BreaksTwoPlans
+pub mod BreaksThree

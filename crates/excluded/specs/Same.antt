@@ -1,0 +1,60 @@
+-- Tests of lists, answers and stations that compute: of each member, and whether two are the same.
+use Prim.Native.Nat.{ℕ}
+use mathlib.Core.Bool.{Bool, true, false, cond, not, _&&_}
+use mathlib.Core.List.{List, [], _∷_}
+use lib.Dec.{eqb}
+use lib.ListN.{getD}
+use Rattle.rules.specs.Charge.{Charge}
+use Rattle.rules.specs.Calls.{State, Answer, refused, opened, ordered, moved, planned, waiting, charging}
+
+-- f holds at each member
+abbrev pub every : {A : Type 0} → (A → Bool) → List A → Bool
+every f [] = true
+every f (a ∷ l) = f a && every f l
+
+-- b where a is true
+abbrev pub where-so : Bool → Bool → Bool
+where-so a b = cond a b true
+
+-- two tests that come out the same
+abbrev pub sameTest : Bool → Bool → Bool
+sameTest a b = cond a b (not b)
+
+abbrev pub sameEach : {A : Type 0} → (A → A → Bool) → List A → List A → Bool
+sameEach same [] [] = true
+sameEach same [] (b ∷ m) = false
+sameEach same (a ∷ l) [] = false
+sameEach same (a ∷ l) (b ∷ m) = same a b && sameEach same l m
+
+abbrev pub sameList : List ℕ → List ℕ → Bool
+sameList = sameEach eqb
+
+-- an answer as a number for its kind and the numbers that it gives
+abbrev pub inNumbers : Answer → List ℕ
+inNumbers (refused k) = 0 ∷ k ∷ []
+inNumbers (opened d) = 1 ∷ d ∷ []
+inNumbers (ordered t s) = 2 ∷ t ∷ s ∷ []
+inNumbers (moved n m) = 3 ∷ n ∷ m ∷ []
+inNumbers (planned c b a n) = 4 ∷ c ∷ b ∷ a ∷ n ∷ []
+inNumbers (waiting s) = 5 ∷ s ∷ []
+inNumbers (charging s e) = 6 ∷ s ∷ e ∷ []
+
+abbrev pub sameAnswer : Answer → Answer → Bool
+sameAnswer a b = sameList (inNumbers a) (inNumbers b)
+
+-- the number at place i of that list, 0 behind its end
+abbrev pub numberIn : ℕ → Answer → ℕ
+numberIn i a = getD (inNumbers a) i 0
+
+abbrev pub ofCharge : Charge → List ℕ
+ofCharge c = c .ticket ∷ c .line ∷ c .orderMinute ∷ c .time ∷ c .due ∷ c .start ∷ []
+
+abbrev pub sameCharges : List Charge → List Charge → Bool
+sameCharges = sameEach (λ c d. sameList (ofCharge c) (ofCharge d))
+
+-- a station without its charges
+abbrev pub ofState : State → List ℕ
+ofState s = s .limit ∷ s .percent ∷ s .bound ∷ s .clock ∷ s .next ∷ []
+
+abbrev pub sameState : State → State → Bool
+sameState s t = sameList (ofState s) (ofState t) && sameCharges (s .charges) (t .charges)

@@ -1,0 +1,97 @@
+-- Wrong stations: clock moves and enquiries that differ from the rules in one thing.
+use Prim.Native.Nat.{ℕ, suc, _-_}
+use mathlib.Core.Bool.{Bool, cond, _&&_}
+use mathlib.Core.List.{List, [], _∷_, _++_, map}
+use lib.Dec.{ltb, eqb}
+use lib.ListN.{length}
+use Rattle.rules.specs.Basics.{keep, sortedBy}
+use Rattle.rules.specs.Load.{draw}
+use Rattle.rules.specs.Charge.{Charge, starting, loadsOf, isBegun, unfinishedCharges}
+use Rattle.rules.specs.Search.{earliest}
+use Rattle.rules.specs.Calls.{State, limitsOf, holding, moved, Result, newCharge, orderedAt, isPassed, startBefore, pairs, written, enquiring}
+use Rattle.guarantee.specs.Past.{Gives}
+use Rattle.excluded.specs.Parts.{withMoves, withOrdersAndMoves, withEnquiries, saying, ticketing, putOff, chargesBy}
+
+-- a move that reports the charges for which `passed` holds of the old clock and the target, and others after them, and drops
+-- what is finished at another minute
+abbrev movedBy : (ℕ → ℕ → Charge → Bool) → List Charge → ℕ → State → ℕ → List ℕ → Result
+movedBy passed others finishing s target list =
+    let report : List Charge = sortedBy startBefore (keep (passed (s .clock) target) (s .charges)) ++ others in
+    let left : List Charge = unfinishedCharges finishing (s .charges) in
+    record {
+      answer = moved (length report) (length (s .charges) - length left);
+      state = holding s target left;
+      list = written (pairs report) list;
+    }
+
+-- What is reported
+
+abbrev reporting : (ℕ → ℕ → Charge → Bool) → State → ℕ → List ℕ → Result
+reporting passed s target list = movedBy passed [] target s target list
+
+-- starts equal to the old clock are left out
+abbrev pub startAtClockLeftOut : Gives
+startAtClockLeftOut = withMoves (reporting (λ clock target c. ltb clock (c .start) && ltb (c .start) target))
+
+-- a move that reports only the first time
+abbrev pub firstReportOnly : Gives
+firstReportOnly = withMoves (reporting (λ clock target c. eqb clock 0 && isPassed clock target c))
+
+-- a start in the minute before the old clock is reported once more
+abbrev pub reportedTwice : Gives
+reportedTwice = withMoves (reporting (λ clock target c. isPassed (clock - 1) target c))
+
+-- a start equal to the target is reported
+abbrev pub startAtTargetReported : Gives
+startAtTargetReported = withMoves (reporting (λ clock target c. isPassed clock (suc target) c))
+
+-- each report ends with a ticket that nobody has
+abbrev pub nobodyReported : Gives
+nobodyReported = withMoves (λ s target list. movedBy isPassed (newCharge (ticketing 65536 s) 1 1 1 0 ∷ []) target s target list)
+
+-- a clock that is a minute slow, for orders and for reports: charges start before their order minute
+abbrev pub slowClock : Gives
+slowClock =
+    withOrdersAndMoves
+    (λ s line p d.
+    orderedAt s (newCharge s line p d) (earliest (limitsOf s) (s .clock - 1) (loadsOf (s .charges)) (draw line p)))
+    (reporting (λ clock target c. isPassed (clock - 1) target c))
+
+-- What is dropped
+
+abbrev dropping : (ℕ → ℕ) → State → ℕ → List ℕ → Result
+dropping finishing s target list = movedBy isPassed [] (finishing target) s target list
+
+-- a charge is dropped one minute early
+abbrev pub droppedEarly : Gives
+droppedEarly = withMoves (dropping (λ target. suc target))
+
+-- a charge is held at its end, and dropped one minute late
+abbrev pub droppedLate : Gives
+droppedLate = withMoves (dropping (λ target. target - 1))
+
+-- no charge is dropped
+abbrev pub neverDropped : Gives
+neverDropped = withMoves (dropping (λ target. 0))
+
+-- Enquiries
+
+-- an enquiry answered as by another station
+abbrev askedOf : (State → State) → State → ℕ → Result
+askedOf other s ticket = saying (enquiring (other s) ticket .answer) (enquiring s ticket)
+
+-- each start is shown a minute late
+abbrev pub shownLate : Gives
+shownLate =
+    withEnquiries
+    (askedOf (λ s. holding s (suc (s .clock)) (map putOff (s .charges))))
+
+-- a start equal to the clock is taken for begun
+abbrev pub shownBegun : Gives
+shownBegun = withEnquiries (askedOf (λ s. holding s (suc (s .clock)) (s .charges)))
+
+-- a waiting charge is shown two minutes early
+abbrev pub shownEarly : Gives
+shownEarly =
+    withEnquiries
+    (askedOf (λ s. chargesBy (λ c. cond (isBegun (s .clock) c) c (starting c (c .start - 2))) s))

@@ -1,0 +1,73 @@
+-- Wrong stations: refusals and openings that differ from the rules in one thing.
+use Prim.Native.Nat.{ℕ, suc}
+use mathlib.Core.Bool.{Bool, not, cond}
+use mathlib.Core.List.{List, [], _∷_}
+use lib.Dec.{ltb, eqb}
+use Rattle.rules.specs.Basics.{firstOf, keep, sortedBy}
+use Rattle.rules.specs.Calls.{Settings, settings, State, refused, opened, waiting, Result, answering, boundOf, fresh, openRefusals, opening, refusals, ordering, moving, step}
+use Rattle.guarantee.specs.Past.{Gives, isRefused}
+use Rattle.excluded.specs.Parts.{withRefusals, withOrders, withMoves, saying, leaving, writing, ticketing}
+
+-- a condition that is not looked at
+abbrev unnumbered : ℕ → List (Bool × ℕ) → List (Bool × ℕ)
+unnumbered k rows = keep (λ row. not (eqb (row .1) k)) rows
+
+-- line 4 is accepted
+abbrev pub lineAccepted : Gives
+lineAccepted = withRefusals (λ s c. unnumbered 4 (refusals s c))
+
+-- where several apply, the highest number
+abbrev pub highestNumber : Gives
+highestNumber = withRefusals (λ s c. sortedBy (λ a b. ltb (b .1) (a .1)) (refusals s c))
+
+-- a station full from the start
+abbrev pub alwaysFull : Gives
+alwaysFull = withOrders (λ s line p d. record { answer = refused 13; state = s; list = [] })
+
+-- a refusal that no condition names: a move to the clock itself
+abbrev pub standstillRefused : Gives
+standstillRefused =
+    withMoves
+    (λ s target list.
+    cond (eqb target (s .clock)) (record { answer = refused 12; state = s; list = list }) (moving s target list))
+
+-- a refused call uses up a ticket
+abbrev pub ticketUsedUp : Gives
+ticketUsedUp s c =
+    let r : Result = step s c in
+    cond (isRefused (r .answer)) (leaving (ticketing (suc (s .next)) s) r) r
+
+-- a refused call clears its list
+abbrev pub listCleared : Gives
+listCleared s c =
+    let r : Result = step s c in
+    cond (isRefused (r .answer)) (writing [] r) r
+
+-- an order answered as an enquiry is, without a ticket
+abbrev pub ticketNotSaid : Gives
+ticketNotSaid = withOrders (λ s line p d. saying (waiting (s .clock)) (ordering s line p d))
+
+-- Openings
+
+abbrev openedBy : List (Bool × ℕ) → ℕ → State → Result
+openedBy rows d s = answering (firstOf rows) (fresh (settings 1 100)) [] (record { answer = opened d; state = s; list = [] })
+
+-- c × N below 100 is accepted
+abbrev pub smallProduct : Settings → Result
+smallProduct x = openedBy (unnumbered 3 (openRefusals x)) (fresh x .bound) (fresh x)
+
+-- beside a refused opening stands what was asked for
+abbrev pub openedAsAsked : Settings → Result
+openedAsAsked x = leaving (fresh x) (opening x)
+
+-- an opening that writes a list
+abbrev pub openingWrites : Settings → Result
+openingWrites x = writing (0 ∷ []) (opening x)
+
+-- N said for D
+abbrev pub limitSaid : Settings → Result
+limitSaid x = openedBy (openRefusals x) (x .limit) (fresh x)
+
+-- the percentage is not kept
+abbrev pub percentLost : Settings → Result
+percentLost x = openedBy (openRefusals x) (fresh x .bound) (fresh (settings (x .limit) 100))

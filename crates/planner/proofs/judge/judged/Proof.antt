@@ -1,0 +1,42 @@
+-- Kept with the cause, or taken: the answer is that of the rules.
+use borrow.Author.Needs.{needs}
+use Rattle.planner.proofs.Judging.{judges-kept, judges-taken}
+use Rattle.planner.proofs.judge.judged.Statement.{statement}
+use Rattle.planner.proofs.judge.judged.Tie as tie
+
+restarted-requires : tie.Need-restarted-requires
+restarted-requires c κs = (c .before .pre .0 .columns, c .before .pre .1, c .before .pre .2)
+
+lateness-requires : tie.Need-lateness-requires
+lateness-requires c κs = search needs
+
+lateness-requires-2 : tie.Need-lateness-requires-2
+lateness-requires-2 c κs = search needs
+
+cause-of-requires : tie.Need-cause-of-requires
+cause-of-requires c κs = (c .before .before .before .before .pre .0, c .before .before .restarted .ensures, c .before .before .before .before .pre .1)
+
+or-late-requires : tie.Need-or-late-requires
+or-late-requires c κs = search needs
+
+returns : tie.Need-returns
+returns c =
+    judges-kept (c .before .before .cause-of .ensures) (c .before .before .before .before .before .restarted .ensures) (c .before .before .before .before .lateness .ensures)
+    (c .before .before .before .lateness2 .ensures) (c .before .or-late .ensures) (c .if1 .taken)
+
+returns-2 : tie.Need-returns-2
+returns-2 c =
+    judges-taken (c .before .before .cause-of .ensures) (c .before .before .before .before .before .restarted .ensures) (c .before .before .before .before .lateness .ensures)
+    (c .before .before .before .lateness2 .ensures) (c .before .or-late .ensures) (c .if1 .left)
+
+pub judged-spec : {M : Type 1} → statement M
+judged-spec =
+    tie.close
+    (tie.spec
+    restarted-requires
+    lateness-requires
+    lateness-requires-2
+    cause-of-requires
+    or-late-requires
+    returns
+    returns-2)

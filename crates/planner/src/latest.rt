@@ -1,0 +1,41 @@
+// Replan by latest start.
+use crate::Proposed;
+use crate::begun::profile_before;
+use crate::waiting_starts;
+use charges::Charges;
+use charges::PLACES;
+use profile::When;
+use profile::loads::add;
+use search::start::earliest;
+ghost use Rattle.rules.specs.Load.{limits};
+ghost use Rattle.rules.specs.Replan.{latest as latestOf};
+ghost use Rattle.charges.specs.Arrays.{chargesOf};
+ghost use Rattle.planner.specs.Ready.{Ready};
+ghost use Rattle.planner.specs.Answers.{Proposes};
+
+// Each waiting charge gets the smallest start with which the begun charges and those placed so far are sound.
+pub fn latest(charges: Charges, clock: u32, limit: u32, bound: u32) -> Proposed
+    requires { ⌜ Ready clock limit bound charges ⌝ }
+    ensures { λ r. ⌜ Proposes clock charges (latestOf (limits limit bound) clock (chargesOf charges)) r ⌝ }
+{
+    let queue = charges.by_latest_start(clock);
+    let begun = profile_before(charges, clock, clock);
+    let n = queue.count;
+    let mut steps = begun.steps;
+    let mut at = begun.at;
+    let mut counts = begun.counts;
+    let mut placed = [0; PLACES];
+    for k in 0..n {
+        let i = queue.places[k];
+        let line = charges.lines[i];
+        let time = charges.times[i];
+        let found = earliest(&at, &counts, steps, limit, bound, line, time);
+        let When::Minute(start) = found else {
+            return Proposed::none(1);
+        };
+        steps = add(&mut at, &mut counts, steps, line, time, start);
+        placed[i] = start;
+    }
+    let starts = waiting_starts(charges, clock, placed);
+    Proposed { cause: 0, starts }
+}

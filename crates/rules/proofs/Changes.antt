@@ -1,0 +1,139 @@
+-- What an order and a clock move leave is a valid station again.
+use mathlib.Core.Path.{_≡_}
+use Prim.Native.Nat.{ℕ, suc, _+_, _-_, _*_, _≤_, _<_}
+use mathlib.Core.Bool.{true, not}
+use mathlib.Core.List.{List, [], _∷_}
+use native.Mathlib.Omega.{arith}
+use lib.ListN.{length, length-append}
+use borrow.Author.Tests.{leb-false, not-true}
+use Rattle.rules.specs.Basics.{Each, at}
+use Rattle.rules.specs.Load.{draw, counts, lastUntil, sound}
+use Rattle.rules.specs.Charge.{Charge, endOf, loadOf, loadsOf, isFinished, unfinishedCharges, lastEnd}
+use Rattle.rules.specs.Search.{earliest}
+use Rattle.rules.specs.Calls.{places, State, limitsOf, holding, newCharge, taking}
+use Rattle.rules.specs.Valid.{ValidCharge, Rising, ValidState}
+use Rattle.rules.proofs.Lists.{map-append, each-map, each-append, each-keep, length-keep}
+use Rattle.rules.proofs.Counts.{sound-same, sound-from, sound-true}
+use Rattle.rules.proofs.Searches.{earliest-first}
+use Rattle.rules.proofs.Granted.{OrderGranted, MoveGranted}
+use Rattle.rules.proofs.Tickets.{rising-keep, rising-append}
+use Rattle.rules.proofs.Ends.{each-lastEnd, lastEnd-each, lastEnd-more, last-until, count-unfinished}
+
+-- limit, percentage and bound stay, and so does what holds of them
+pub still-valid :
+    (s : State) (clock next : ℕ) (cs : List Charge)
+    → ValidState s
+    → clock ≤ 1000000
+    → 1 ≤ next
+    → next ≤ 65536
+    → length cs ≤ places
+    → Each (ValidCharge clock next) cs
+    → Rising 1 cs
+    → lastEnd cs ≤ clock + 1440 * (next - 1)
+    → sound (limitsOf s) clock (loadsOf cs) ≡ true
+    → ValidState
+    (record { limit = s .limit; percent = s .percent; bound = s .bound; clock = clock; next = next; charges = cs })
+still-valid s clock next cs v clock-high next-low next-high few each rising ends-high sound-on =
+    record {
+      limit-low = v .limit-low;
+      limit-high = v .limit-high;
+      percent-high = v .percent-high;
+      bound-is = v .bound-is;
+      bound-low = v .bound-low;
+      clock-high = clock-high;
+      next-low = next-low;
+      next-high = next-high;
+      few = few;
+      each = each;
+      rising = rising;
+      ends-high = ends-high;
+      sound-on = sound-on;
+    }
+
+-- a charge that is held later, and has not ended
+valid-later :
+    (clock later next more : ℕ) (c : Charge)
+    → clock ≤ later
+    → next ≤ more
+    → later < endOf c
+    → ValidCharge clock next c
+    → ValidCharge later more c
+valid-later clock later next more c h j unfinished v =
+    record {
+      ticket-low = v .ticket-low;
+      ticket-given = omega (arith, v .ticket-given);
+      line = v .line;
+      time-low = v .time-low;
+      time-high = v .time-high;
+      due-high = v .due-high;
+      ordered = omega (arith, v .ordered);
+      not-early = v .not-early;
+      unfinished = unfinished;
+    }
+
+pub order-valid :
+    (s : State) (line p d start : ℕ)
+    → ValidState s
+    → OrderGranted s line p d
+    → earliest (limitsOf s) (s .clock) (loadsOf (s .charges)) (draw line p) ≡ at start
+    → ValidState (taking s (newCharge s line p d start))
+order-valid s line p d start v g f =
+    let new : Charge = newCharge s line p d start in
+    let r = earliest-first (limitsOf s) (s .clock) (loadsOf (s .charges)) (draw line p) start f in
+    let low : s .clock ≤ start = r .low in
+    let high : start < s .clock + suc (lastUntil (loadsOf (s .charges)) - s .clock) = r .high in
+    still-valid s (s .clock) (suc (s .next)) (taking s new .charges) v (v .clock-high) (omega arith) (omega (arith, g .ticket-left))
+    (rw (length-append (s .charges) (new ∷ [])) (omega (arith, g .room)))
+    (each-append (ValidCharge (s .clock) (suc (s .next))) (s .charges) (new ∷ [])
+    (each-map (ValidCharge (s .clock) (s .next)) (ValidCharge (s .clock) (suc (s .next)))
+    (λ c h. valid-later (s .clock) (s .clock) (s .next) (suc (s .next)) c (omega arith) (omega arith) (h .unfinished) h)
+    (s .charges) (v .each)) (
+      record {
+        ticket-low = v .next-low;
+        ticket-given = omega arith;
+        line = g .is-line;
+        time-low = g .time-low;
+        time-high = g .time-high;
+        due-high = g .due-high;
+        ordered = omega arith;
+        not-early = low;
+        unfinished = omega (arith, g .time-low);
+      },
+      tt,
+    ))
+    (rising-append 1 (s .charges) new (v .rising) (v .next-low)
+    (each-map (ValidCharge (s .clock) (s .next)) (λ x. x .ticket < s .next) (λ c h. h .ticket-given) (s .charges)
+    (v .each)))
+    (rw (lastEnd-more (s .charges) new)
+    (omega (arith, g .time-high, v .ends-high, v .next-low, last-until (s .charges))))
+    (rw (map-append loadOf (s .charges) (new ∷ [])) (r .here))
+
+pub move-valid :
+    (s : State) (target : ℕ) (list : List ℕ)
+    → ValidState s
+    → MoveGranted s target list
+    → ValidState (holding s target (unfinishedCharges target (s .charges)))
+move-valid s target list v g =
+    let left : List Charge = unfinishedCharges target (s .charges) in
+    still-valid s target (s .next) left v (g .target-high) (v .next-low) (v .next-high)
+    (omega (arith, v .few, length-keep (λ c. not (isFinished target c)) (s .charges)))
+    (each-map (λ c. ValidCharge (s .clock) (s .next) c × (not (isFinished target c) ≡ true))
+    (ValidCharge target (s .next))
+    (λ c p.
+    valid-later (s .clock) target (s .next) (s .next) c (g .not-back) (omega arith)
+    (leb-false (endOf c) target (not-true (isFinished target c) (p .1))) (p .0))
+    left
+    (each-keep (ValidCharge (s .clock) (s .next)) (λ c. not (isFinished target c)) (s .charges) (v .each)))
+    (rising-keep 1 (λ c. not (isFinished target c)) (s .charges) (v .rising))
+    (lastEnd-each (target + 1440 * (s .next - 1)) left
+    (each-map (λ c. (endOf c ≤ lastEnd (s .charges)) × (not (isFinished target c) ≡ true))
+    (λ c. endOf c ≤ target + 1440 * (s .next - 1))
+    (λ c p. omega (arith, p .0, v .ends-high, g .not-back))
+    left
+    (each-keep (λ c. endOf c ≤ lastEnd (s .charges)) (λ c. not (isFinished target c)) (s .charges)
+    (each-lastEnd (lastEnd (s .charges)) (s .charges) (omega arith)))))
+    (sound-true (limitsOf s) target (loadsOf left)
+    (λ t i.
+    sound-same (limitsOf s) (counts (loadsOf (s .charges)) t) (counts (loadsOf left) t)
+    (λ l k. count-unfinished target (s .charges) l t i)
+    (sound-from (limitsOf s) (s .clock) (loadsOf (s .charges)) (v .sound-on) t (omega (arith, g .not-back)))))

@@ -1,0 +1,49 @@
+-- Ends of charges: the last one, and that finished charges draw nothing.
+use mathlib.Core.Path.{_≡_, refl}
+use Prim.Native.Nat.{ℕ, _+_, max, _≤_}
+use mathlib.Core.Bool.{Bool, true, false, cond, not}
+use mathlib.Core.List.{List, [], _∷_, _++_}
+use native.Mathlib.Omega.{arith}
+use borrow.Author.Tests.{leb-true}
+use Rattle.rules.specs.Basics.{Each}
+use Rattle.rules.specs.Load.{count, draws, lastUntil}
+use Rattle.rules.specs.Charge.{Charge, endOf, loadOf, loadsOf, isFinished, unfinishedCharges, lastEnd}
+use Rattle.rules.proofs.Counts.{draws-after}
+
+pub each-lastEnd : (b : ℕ) (cs : List Charge) → lastEnd cs ≤ b → Each (λ c. endOf c ≤ b) cs
+each-lastEnd b [] h = tt
+each-lastEnd b (c ∷ cs) h = (omega arith, each-lastEnd b cs (omega arith))
+
+pub lastEnd-each : (b : ℕ) (cs : List Charge) → Each (λ c. endOf c ≤ b) cs → lastEnd cs ≤ b
+lastEnd-each b [] e = omega arith
+lastEnd-each b (c ∷ cs) e = omega (arith, e .0, lastEnd-each b cs (e .1))
+
+-- a charge draws up to its end
+pub last-until : (cs : List Charge) → lastUntil (loadsOf cs) ≡ lastEnd cs
+last-until [] = refl
+last-until (c ∷ cs) = rw (last-until cs)
+
+pub lastEnd-more : (cs : List Charge) (c : Charge) → lastEnd (cs ++ (c ∷ [])) ≡ max (lastEnd cs) (endOf c)
+lastEnd-more [] c = omega arith
+lastEnd-more (x ∷ cs) c = rw (lastEnd-more cs c) (omega arith)
+
+-- finished charges draw nothing from the clock on
+pub count-unfinished :
+    (clock : ℕ) (cs : List Charge) (l t : ℕ)
+    → clock ≤ t
+    → count (loadsOf (unfinishedCharges clock cs)) l t ≡ count (loadsOf cs) l t
+count-unfinished clock [] l t h = refl
+count-unfinished clock (c ∷ cs) l t h = go (isFinished clock c) refl (count-unfinished clock cs l t h)
+  where
+    rest : List Charge
+    rest = unfinishedCharges clock cs
+
+    go :
+        (b : Bool)
+        → isFinished clock c ≡ b
+        → count (loadsOf (unfinishedCharges clock cs)) l t ≡ count (loadsOf cs) l t
+        → count (loadsOf (cond (not b) (c ∷ unfinishedCharges clock cs) (unfinishedCharges clock cs))) l t
+        ≡ draws (loadOf c) l t + count (loadsOf cs) l t
+    go true p later =
+        rw (later, draws-after (loadOf c) l t (omega (arith, leb-true (endOf c) clock p))) (omega arith)
+    go false p later = rw later

@@ -1,0 +1,103 @@
+-- What holds of a call to which no refusal applies, read by name.
+use mathlib.Core.Path.{_≡_}
+use Prim.Native.Nat.{ℕ, _+_, _*_, _≤_, _<_}
+use mathlib.Core.Bool.{true}
+use mathlib.Core.List.{List}
+use native.Mathlib.Omega.{arith}
+use lib.Dec.{ltb, eqb}
+use lib.ListN.{length}
+use borrow.Author.Tests.{ltb-false, leb-false, not-false, eqb-true}
+use Rattle.rules.specs.Basics.{firstOf, some}
+use Rattle.rules.specs.Load.{IsLine}
+use Rattle.rules.specs.Charge.{Charge, waitingCharges}
+use Rattle.rules.specs.Calls.{Settings, State, openRefusals, Call, order, move, offer, replanLatest, replanLines, enquire, refusals}
+use Rattle.rules.proofs.Ranges.{or-left, or-right}
+use Rattle.rules.proofs.Tables.{NoneHolds, Numbered, firstOf-none}
+
+-- No number of a table is 0, so number 0 says that no condition holds.
+
+pub refusals-numbered : (s : State) (c : Call) → Numbered (refusals s c)
+refusals-numbered s (order line p d) = omega arith
+refusals-numbered s (move target list) = omega arith
+refusals-numbered s (offer ss) = omega arith
+refusals-numbered s replanLatest = tt
+refusals-numbered s (replanLines allowance) = omega arith
+refusals-numbered s (enquire ticket) = omega arith
+
+pub refusals-none : (s : State) (c : Call) → firstOf (refusals s c) ≡ 0 → NoneHolds (refusals s c)
+refusals-none s c e = firstOf-none (refusals s c) (refusals-numbered s c) e
+
+pub openRefusals-numbered : (x : Settings) → Numbered (openRefusals x)
+openRefusals-numbered x = omega arith
+
+-- An opening
+
+pub record OpenGranted (x : Settings) : Type 0 where
+  pub limit-low : 1 ≤ x .limit
+  pub limit-high : x .limit ≤ 60
+  pub percent-high : x .percent ≤ 100
+  pub bound-enough : 100 ≤ x .percent * x .limit
+
+pub open-granted : (x : Settings) → NoneHolds (openRefusals x) → OpenGranted x
+open-granted x (limit, (percent, (enough, end))) =
+    record {
+      limit-low = ltb-false (x .limit) 1 (or-left (ltb (x .limit) 1) (ltb 60 (x .limit)) limit);
+      limit-high = ltb-false 60 (x .limit) (or-right (ltb (x .limit) 1) (ltb 60 (x .limit)) limit);
+      percent-high = ltb-false 100 (x .percent) percent;
+      bound-enough = ltb-false (x .percent * x .limit) 100 enough;
+    }
+
+-- The calls
+
+pub record OrderGranted (s : State) (line p d : ℕ) : Type 0 where
+  pub is-line : IsLine line
+  pub time-low : 1 ≤ p
+  pub time-high : p ≤ 1440
+  pub due-high : d ≤ 2000000
+  pub in-time : s .clock + p ≤ d
+  pub room : length (s .charges) < 180
+  pub ticket-left : s .next ≤ 65535
+
+pub order-granted : (s : State) (line p d : ℕ) → NoneHolds (refusals s (order line p d)) → OrderGranted s line p d
+order-granted s line p d (on, (time, (due, (soon, (full, (given, end)))))) =
+    record {
+      is-line =
+          record {
+            low = ltb-false line 1 (or-left (ltb line 1) (ltb 3 line) on);
+            high = ltb-false 3 line (or-right (ltb line 1) (ltb 3 line) on);
+          };
+      time-low = ltb-false p 1 (or-left (ltb p 1) (ltb 1440 p) time);
+      time-high = ltb-false 1440 p (or-right (ltb p 1) (ltb 1440 p) time);
+      due-high = ltb-false 2000000 d due;
+      in-time = ltb-false d (s .clock + p) soon;
+      room = leb-false 180 (length (s .charges)) full;
+      ticket-left = ltb-false 65535 (s .next) given;
+    }
+
+pub record MoveGranted (s : State) (target : ℕ) (list : List ℕ) : Type 0 where
+  pub target-high : target ≤ 1000000
+  pub list-long : 360 ≤ length list
+  pub not-back : s .clock ≤ target
+
+pub move-granted : (s : State) (target : ℕ) (list : List ℕ) → NoneHolds (refusals s (move target list)) → MoveGranted s target list
+move-granted s target list (high, (short, (back, end))) =
+    record {
+      target-high = ltb-false 1000000 target high;
+      list-long = ltb-false (length list) 360 short;
+      not-back = ltb-false target (s .clock) back;
+    }
+
+-- a start for each waiting charge
+pub offer-granted :
+    (s : State) (ss : List ℕ)
+    → NoneHolds (refusals s (offer ss))
+    → length ss ≡ length (waitingCharges (s .clock) (s .charges))
+offer-granted s ss (other, end) =
+    eqb-true (length ss) (length (waitingCharges (s .clock) (s .charges))) (not-false _ other)
+
+-- the ticket is held
+pub enquire-granted :
+    (s : State) (ticket : ℕ)
+    → NoneHolds (refusals s (enquire ticket))
+    → some (λ (c : Charge). eqb (c .ticket) ticket) (s .charges) ≡ true
+enquire-granted s ticket (missing, end) = not-false (some (λ (c : Charge). eqb (c .ticket) ticket) (s .charges)) missing

@@ -1,0 +1,101 @@
+-- Charges with other starts, and that a taken plan leaves a valid station.
+use mathlib.Core.Path.{_≡_, refl}
+use Prim.Native.Nat.{ℕ, suc, _≤_}
+use mathlib.Core.Bool.{Bool, true, false, cond}
+use mathlib.Core.List.{List, [], _∷_}
+use native.Mathlib.Omega.{arith}
+use lib.ListN.{length}
+use borrow.Author.Tests.{ltb-false}
+use Rattle.rules.specs.Basics.{Each}
+use Rattle.rules.specs.Charge.{Charge, starting, isBegun, loadsOf}
+use Rattle.rules.specs.Judgement.{restarted}
+use Rattle.rules.specs.Calls.{State, limitsOf, holding}
+use Rattle.rules.specs.Valid.{ValidCharge, Rising, ValidState}
+use Rattle.rules.proofs.Counts.{sound-true}
+use Rattle.rules.proofs.Judgements.{Meets}
+use Rattle.rules.proofs.Changes.{still-valid}
+
+-- the second list is the first with other starts, at or above the clock, for some waiting charges
+pub data Restarted (clock : ℕ) : List Charge → List Charge → Type 0 where
+  empty : Restarted clock [] []
+  same : {c : Charge} {cs ds : List Charge} → Restarted clock cs ds → Restarted clock (c ∷ cs) (c ∷ ds)
+  other :
+      {c : Charge} {s : ℕ} {cs ds : List Charge}
+      → clock ≤ c .start
+      → clock ≤ s
+      → Restarted clock cs ds
+      → Restarted clock (c ∷ cs) (starting c s ∷ ds)
+
+pub restarted-none : (clock : ℕ) (cs : List Charge) → Restarted clock cs cs
+restarted-none clock [] = empty
+restarted-none clock (c ∷ cs) = same (restarted-none clock cs)
+
+pub restarted-is :
+    (clock : ℕ) (cs : List Charge) (ss : List ℕ)
+    → Each (λ s. clock ≤ s) ss
+    → Restarted clock cs (restarted clock cs ss)
+restarted-is clock [] ss e = empty
+restarted-is clock (c ∷ cs) [] e = restarted-none clock (c ∷ cs)
+restarted-is clock (c ∷ cs) (s ∷ ss) e =
+    go (isBegun clock c) refl (restarted-is clock cs (s ∷ ss) e) (restarted-is clock cs ss (e .1))
+  where
+    go :
+        (b : Bool)
+        → isBegun clock c ≡ b
+        → Restarted clock cs (restarted clock cs (s ∷ ss))
+        → Restarted clock cs (restarted clock cs ss)
+        → Restarted clock (c ∷ cs) (cond b (c ∷ restarted clock cs (s ∷ ss)) (starting c s ∷ restarted clock cs ss))
+    go true p u v = same u
+    go false p u v = other (ltb-false (c .start) clock p) (e .0) v
+
+pub restarted-length : {clock : ℕ} {cs ds : List Charge} → Restarted clock cs ds → length ds ≡ length cs
+restarted-length empty = refl
+restarted-length (same r) = rw (restarted-length r)
+restarted-length (other h j r) = rw (restarted-length r)
+
+pub restarted-each :
+    (P : Charge → Type 0) {clock : ℕ} {cs ds : List Charge}
+    → ((c : Charge) (s : ℕ) → clock ≤ s → P c → P (starting c s))
+    → Restarted clock cs ds
+    → Each P cs
+    → Each P ds
+restarted-each P f empty e = tt
+restarted-each P f (same r) e = (e .0, restarted-each P f r (e .1))
+restarted-each P f (other {c = c} {s = s} h j r) e = (f c s j (e .0), restarted-each P f r (e .1))
+
+pub restarted-rising : (i : ℕ) {clock : ℕ} {cs ds : List Charge} → Restarted clock cs ds → Rising i cs → Rising i ds
+restarted-rising i empty n = tt
+restarted-rising i (same {c = c} r) n = (n .0, restarted-rising (suc (c .ticket)) r (n .1))
+restarted-rising i (other {c = c} h j r) n = (n .0, restarted-rising (suc (c .ticket)) r (n .1))
+
+-- A taken plan
+
+pub plan-valid :
+    (s : State) (ss : List ℕ)
+    → ValidState s
+    → Meets (limitsOf s) (s .clock) (s .charges) ss (restarted (s .clock) (s .charges) ss)
+    → ValidState (holding s (s .clock) (restarted (s .clock) (s .charges) ss))
+plan-valid s ss v m =
+    let new : List Charge = restarted (s .clock) (s .charges) ss in
+    let r : Restarted (s .clock) (s .charges) (restarted (s .clock) (s .charges) ss)
+    = restarted-is (s .clock) (s .charges) ss (m .none-early) in
+    still-valid s (s .clock) (s .next) new v (v .clock-high) (v .next-low) (v .next-high)
+    (rw (restarted-length r) (v .few))
+    (restarted-each (ValidCharge (s .clock) (s .next))
+    (λ c u h p.
+    record {
+      ticket-low = p .ticket-low;
+      ticket-given = p .ticket-given;
+      line = p .line;
+      time-low = p .time-low;
+      time-high = p .time-high;
+      due-high = p .due-high;
+      ordered = p .ordered;
+      not-early = omega (arith, p .ordered);
+      unfinished = omega (arith, p .time-low);
+    })
+    r (v .each))
+    (restarted-rising 1 r (v .rising))
+    (omega (arith, m .not-later, v .ends-high))
+    (sound-true (limitsOf s) (s .clock) (loadsOf new)
+    (λ t h. record { limit = m .limit t h; balance = m .balance t h }))

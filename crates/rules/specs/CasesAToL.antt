@@ -1,0 +1,81 @@
+-- Cases a to l (docs/RULES.md, section 7), each with the results that stand there.
+use Prim.Native.Nat.{ℕ}
+use mathlib.Core.List.{List, [], _∷_, _++_, map}
+use Rattle.rules.specs.Calls.{settings, refused, opened, ordered, moved, planned, waiting, charging, Call, order, move, offer, replanLatest, replanLines, enquire}
+use Rattle.rules.specs.Entry.{Given, gives, givesWith, Minute, Case, lentList, startsFrom, reports, opens, case}
+
+-- the orders of case e, with what they give
+abbrev ordersE : List Call
+ordersE = order 1 10 60 ∷ order 3 10 60 ∷ order 2 5 60 ∷ order 2 5 60 ∷ order 2 5 20 ∷ order 1 10 60 ∷ []
+
+abbrev givenE : List Given
+givenE = startsFrom 1 (0 ∷ 0 ∷ 0 ∷ 0 ∷ 5 ∷ 0 ∷ [])
+
+-- case f: the list holds five pairs, and then what it held
+abbrev givenF : Given
+givenF = reports (moved 5 0) (1 ∷ 0 ∷ 2 ∷ 0 ∷ 3 ∷ 0 ∷ 4 ∷ 0 ∷ 6 ∷ 0 ∷ [])
+
+-- what is called in case g before the replan
+abbrev pub callsG : List Call
+callsG = ordersE ++ (move 1 lentList ∷ order 3 3 10 ∷ [])
+
+abbrev minuteG : ℕ → Minute
+minuteG t = record { without = 5; minute = t; one = 2; two = 0; three = 1 }
+
+-- the orders of case h, with what they give
+abbrev pub ordersH : List Call
+ordersH = order 1 10 60 ∷ order 1 10 15 ∷ []
+
+abbrev pub givenH : List Given
+givenH = startsFrom 1 (0 ∷ 10 ∷ [])
+
+abbrev pub casesAToL : List Case
+casesAToL =
+    -- a to d
+    opens 5 20 (opened 1)
+    ∷ opens 10 10 (opened 1)
+    ∷ opens 9 11 (refused 3)
+    ∷ opens 60 100 (opened 60)
+    ∷ opens 61 100 (refused 1)
+    -- e
+    ∷ case 2 50 1 ordersE givenE
+    -- f
+    ∷ case 2 50 1 (ordersE ++ (move 1 lentList ∷ [])) (givenE ++ (givenF ∷ []))
+    -- g
+    ∷ record {
+      settings = settings 2 50;
+      calls = callsG ++ (replanLatest ∷ []);
+      opening = opened 1;
+      given = givenE ++ (givenF ∷ gives (ordered 7 1) ∷ gives (planned 1 0 0 0) ∷ []);
+      minutes = map minuteG (5 ∷ 6 ∷ 7 ∷ 8 ∷ 9 ∷ []);
+    }
+    -- h, by latest start and by lines
+    ∷ case 1 100 1
+    (ordersH ++ (replanLatest ∷ enquire 1 ∷ enquire 2 ∷ []))
+    (givenH ++ (gives (planned 0 5 0 0) ∷ gives (waiting 10) ∷ gives (waiting 0) ∷ []))
+    ∷ case 1 100 1
+    (ordersH ++ (replanLines 1000 ∷ enquire 1 ∷ enquire 2 ∷ []))
+    (givenH ++ (gives (planned 0 5 0 1) ∷ gives (waiting 10) ∷ gives (waiting 0) ∷ []))
+    -- i
+    ∷ case 1 100 1
+    (ordersH ++ (move 1 lentList ∷ replanLatest ∷ enquire 1 ∷ []))
+    (givenH ++ (reports (moved 1 0) (1 ∷ 0 ∷ []) ∷ gives (planned 7 5 5 0) ∷ gives (charging 0 10) ∷ []))
+    -- j: an offer's list is lent, and stays
+    ∷ case 1 100 1
+    (ordersH ++ (offer (10 ∷ 0 ∷ []) ∷ []))
+    (givenH ++ (givesWith (planned 0 5 0 0) (10 ∷ 0 ∷ []) ∷ []))
+    ∷ case 1 100 1
+    (ordersH ++ (offer (10 ∷ 1 ∷ []) ∷ []))
+    (givenH ++ (givesWith (planned 5 5 5 0) (10 ∷ 1 ∷ []) ∷ []))
+    ∷ case 1 100 1
+    (ordersH ++ (offer (11 ∷ 0 ∷ []) ∷ []))
+    (givenH ++ (givesWith (planned 4 5 5 0) (11 ∷ 0 ∷ []) ∷ []))
+    -- k
+    ∷ case 2 50 1
+    (order 1 10 60 ∷ order 1 10 60 ∷ replanLines 2 ∷ replanLines 1 ∷ [])
+    (startsFrom 1 (0 ∷ 10 ∷ []) ++ (gives (planned 7 0 0 2) ∷ gives (planned 2 0 0 1) ∷ []))
+    -- l
+    ∷ case 60 100 60
+    (replanLatest ∷ replanLines 1 ∷ offer [] ∷ [])
+    (gives (planned 7 0 0 0) ∷ gives (planned 7 0 0 1) ∷ gives (planned 7 0 0 0) ∷ [])
+    ∷ []

@@ -1,0 +1,89 @@
+-- An entry of the array of cases, and what the rules give for it.
+use Prim.Native.Nat.{ℕ, suc, _-_}
+use mathlib.Core.Bool.{not}
+use mathlib.Core.List.{List, [], _∷_, _++_, map}
+use lib.Dec.{eqb}
+use lib.ListN.{length, replicate}
+use Rattle.rules.specs.Basics.{keep}
+use Rattle.rules.specs.Load.{count}
+use Rattle.rules.specs.Charge.{Charge, loadsOf}
+use Rattle.rules.specs.Calls.{Settings, settings, State, Answer, opened, ordered, Result, opening, Call, run}
+
+-- what a call gave: the answer, and the lent list whole
+pub record Given : Type 0 where
+  pub answer : Answer
+  pub list : List ℕ
+
+abbrev pub gives : Answer → Given
+gives a = record { answer = a; list = [] }
+
+abbrev pub givesWith : Answer → List ℕ → Given
+givesWith a list = record { answer = a; list = list }
+
+-- The counts of lines 1, 2 and 3 in one minute, without the charge of one ticket, on the station that the calls left.
+pub record Minute : Type 0 where
+  pub without : ℕ
+  pub minute : ℕ
+  pub one : ℕ
+  pub two : ℕ
+  pub three : ℕ
+
+-- an entry: the opening's settings, the calls, and what they have to give; the minutes are those to be counted at the end
+pub record Case : Type 0 where
+  pub settings : Settings
+  pub calls : List Call
+  pub opening : Answer
+  pub given : List Given
+  pub minutes : List Minute
+
+-- what the rules give for an entry
+abbrev pub gave : Result → Given
+gave r = record { answer = r .answer; list = r .list }
+
+-- the station that the last call left
+abbrev pub stateAfter : State → List Result → State
+stateAfter s [] = s
+stateAfter s (r ∷ rs) = stateAfter (r .state) rs
+
+abbrev pub countedIn : List Charge → Minute → Minute
+countedIn cs m =
+    let left : List Charge = keep (λ c. not (eqb (c .ticket) (m .without))) cs in
+    record {
+      without = m .without;
+      minute = m .minute;
+      one = count (loadsOf left) 1 (m .minute);
+      two = count (loadsOf left) 2 (m .minute);
+      three = count (loadsOf left) 3 (m .minute);
+    }
+
+abbrev pub computed : Case → Case
+computed e =
+    let opened : Result = opening (e .settings) in
+    let results : List Result = run (opened .state) (e .calls) in
+    record {
+      settings = e .settings;
+      calls = e .calls;
+      opening = opened .answer;
+      given = map gave results;
+      minutes = map (countedIn (stateAfter (opened .state) results .charges)) (e .minutes);
+    }
+
+-- a report list of 360 places with a 7 in each
+abbrev pub lentList : List ℕ
+lentList = replicate 360 7
+
+-- the answers of orders that get these starts, with tickets from k on
+abbrev pub startsFrom : ℕ → List ℕ → List Given
+startsFrom k [] = []
+startsFrom k (s ∷ ss) = gives (ordered k s) ∷ startsFrom (suc k) ss
+
+-- a clock move that writes xs to that list: "Places after them keep what they held."
+abbrev pub reports : Answer → List ℕ → Given
+reports a xs = givesWith a (xs ++ replicate (360 - length xs) 7)
+
+abbrev pub opens : ℕ → ℕ → Answer → Case
+opens n c a = record { settings = settings n c; calls = []; opening = a; given = []; minutes = [] }
+
+abbrev pub case : ℕ → ℕ → ℕ → List Call → List Given → Case
+case n c d calls given =
+    record { settings = settings n c; calls = calls; opening = opened d; given = given; minutes = [] }

@@ -1,0 +1,7 @@
+pub mod Rooms
+pub mod Sounds
+pub mod Within
+pub mod Unsounds
+pub mod Starts
+pub mod Lowerings
+pub mod Unders

@@ -1,0 +1,48 @@
+-- Three counts within limit and bound, by the largest and the smallest.
+use Prim.Native.Nat.{ℕ, _-_, _≤_, _<_, max, min}
+use mathlib.Core.Path.{_≡_, sym}
+use mathlib.Core.Bool.{false}
+use native.Mathlib.Omega.{arith}
+use borrow.Author.Tests.{le-leb, leb-true}
+use lib.Dec.{leb}
+use Rattle.rules.specs.Load.{Limits, IsLine, soundCounts}
+use Rattle.rules.proofs.Ranges.{same-test, fails}
+use Rattle.rules.proofs.Counts.{Sound, sound-at, sound-all}
+use Rattle.profile.specs.Shows.{ofLines}
+use Rattle.profile.proofs.Lines.{each-line, line-one, line-two, line-three}
+
+module _ (y : Limits) (a b c high : ℕ) (top : high ≡ max a (max b c)) where
+  pub sound-not : y .limit < high → false ≡ soundCounts y (ofLines a b c)
+  sound-not h = sym (fails (soundCounts y (ofLines a b c)) (λ e. above (sound-at y (ofLines a b c) e)))
+    where
+      above : Sound y (ofLines a b c) → ⊥
+      above s = omega (arith, s .limit 1 line-one, s .limit 2 line-two, s .limit 3 line-three)
+
+  module _ (low : ℕ) (bottom : low ≡ min a (min b c)) where
+    between : (l : ℕ) → IsLine l → (low ≤ ofLines a b c l) × (ofLines a b c l ≤ high)
+    between = each-line _ (omega arith, omega arith) (omega arith, omega arith) (omega arith, omega arith)
+
+    pub sound-is : high ≤ y .limit → leb (high - low) (y .bound) ≡ soundCounts y (ofLines a b c)
+    sound-is h =
+        same-test (leb (high - low) (y .bound)) (soundCounts y (ofLines a b c))
+        (λ e. sound-all y (ofLines a b c) (near (leb-true (high - low) (y .bound) e)))
+        (λ e. le-leb (high - low) (y .bound) (apart (sound-at y (ofLines a b c) e)))
+      where
+        near : high - low ≤ y .bound → Sound y (ofLines a b c)
+        near e =
+            record {
+              limit = λ l j. omega (arith, between l j .1);
+              balance = λ l m j i. omega (arith, between l j .1, between m i .0);
+            }
+
+        apart : Sound y (ofLines a b c) → high - low ≤ y .bound
+        apart s =
+            omega (
+              arith,
+              s .balance 1 2 line-one line-two,
+              s .balance 1 3 line-one line-three,
+              s .balance 2 1 line-two line-one,
+              s .balance 2 3 line-two line-three,
+              s .balance 3 1 line-three line-one,
+              s .balance 3 2 line-three line-two,
+            )

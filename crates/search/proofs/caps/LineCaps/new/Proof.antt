@@ -1,0 +1,14 @@
+-- `search::caps::LineCaps::new` meets its contract.
+use borrow.Author.Needs.{needs}
+use Rattle.search.proofs.Lowerings.{level-shown}
+use Rattle.search.proofs.caps.LineCaps.new.Statement.{statement}
+use Rattle.search.proofs.caps.LineCaps.new.Tie as tie
+
+level-requires : tie.Need-level-requires
+level-requires c κs = search needs
+
+returns : tie.Need-returns
+returns c = level-shown _ _ (c .level .ensures)
+
+pub new-spec : {M : Type 1} → statement M
+new-spec = tie.close (tie.spec level-requires returns)

@@ -1,0 +1,83 @@
+-- The caps of the lines, as a list of minutes: place k of a line has the first minute from which on the cap is at most k.
+use Prim.Native.Nat.{ℕ, _*_, _≤_, _<_, min}
+use mathlib.Core.Path.{_≡_}
+use mathlib.Core.Bool.{Bool, false, cond}
+use mathlib.Core.List.{List}
+use lib.Dec.{ltb}
+use lib.ListN.{length, getD}
+use Rattle.rules.specs.Basics.{at}
+use Rattle.rules.specs.Load.{draw, Load, IsLine}
+use Rattle.rules.specs.Search.{Caps, earliestUnder}
+use Rattle.rules.specs.Replan.{lowered}
+use Rattle.profile.specs.Steps.{columns, lineIn}
+use Rattle.profile.specs.Shows.{levelOf, firstMinute, lastMinute, Shows}
+use Rattle.search.specs.Rooms.{hasRoom, Filled, Least}
+use Rattle.profile.specs.declared.Profile.{Profile}
+use Rattle.search.specs.declared.caps.LineCaps.{LineCaps}
+
+-- so many places a line has among the caps: one for each count from 0 to the largest limit, 60
+abbrev pub capPlaces : ℕ
+capPlaces = 61
+
+-- caps from their parts
+abbrev pub capsIn : List ℕ → LineCaps
+capsIn caps = record { caps = caps }
+
+-- the list of line l
+abbrev pub capsOf : LineCaps → ℕ → ℕ → ℕ
+capsOf c l = lineIn (c .caps) l
+
+-- a minute with count k has room for one more load just where k is below the cap
+pub record CapsShown (c : LineCaps) (cap : Caps) : Type 0 where
+  pub size : length (c .caps) ≡ columns * capPlaces
+  pub rooms : (l : ℕ) → IsLine l → (k t : ℕ) → hasRoom (capsOf c l k) t ≡ ltb k (cap l t)
+
+-- the first n numbers have no end
+pub record Level (n : ℕ) (a : List ℕ) : Type 0 where
+  pub size : length a ≡ columns * capPlaces
+  pub each : (k : ℕ) → getD a k 0 ≡ cond (ltb k n) 4294967295 0
+
+-- b is a with the cap of a line from t on at most v
+pub record Lowered (a b : List ℕ) (line t v : ℕ) : Type 0 where
+  pub size : length b ≡ columns * capPlaces
+  pub before : (k : ℕ) → k < v → lineIn b line k ≡ lineIn a line k
+  pub after : (k : ℕ) → v ≤ k → lineIn b line k ≡ min (lineIn a line k) t
+  pub other : (l : ℕ) → IsLine l → (l ≡ line → ⊥) → (k : ℕ) → lineIn b l k ≡ lineIn a l k
+
+-- d is c with the cap of a line from t on at most v: from there on a count of v or more has no room on it, and all else stays
+pub record CapLowered (c d : LineCaps) (line t v : ℕ) : Type 0 where
+  pub size : length (d .caps) ≡ columns * capPlaces
+  pub gone : IsLine line → (k u : ℕ) → v ≤ k → t ≤ u → hasRoom (capsOf d line k) u ≡ false
+  pub kept :
+      (l : ℕ) → IsLine l → (k u : ℕ) → (l ≡ line → v ≤ k → t ≤ u → ⊥) → hasRoom (capsOf d l k) u ≡ hasRoom (capsOf c l k) u
+
+-- whatever caps c shows, d shows them with that of line i from t on at most v
+abbrev pub LoweredAt : LineCaps → LineCaps → ℕ → ℕ → ℕ → Type 0
+LoweredAt c d i t v = (cap : Caps) → CapsShown c cap → CapsShown d (lowered cap i t v)
+
+-- the list is whole
+abbrev pub Whole : LineCaps → Type 0
+Whole c = length (c .caps) ≡ columns * capPlaces
+
+-- the room of each step under a cap
+pub record RoomsUnder (counts caps : ℕ → ℕ) (n : ℕ) (rooms : List ℕ) : Type 0 where
+  pub filled : Filled (λ i. caps (counts i)) n rooms
+
+-- with one more load on the line minute t is still within the cap
+abbrev pub roomUnder : Profile → LineCaps → ℕ → ℕ → Bool
+roomUnder p c line t = hasRoom (capsOf c line (levelOf p line t)) t
+
+-- r is the smallest start, from the first minute on, with room under the cap in all its minutes
+pub record EarliestStartUnder (p : Profile) (c : LineCaps) (line time r : ℕ) : Type 0 where
+  pub least : Least (roomUnder p c line) time (firstMinute p) r
+  pub high : r ≤ lastMinute p
+
+-- a cap is whole and never below 1
+pub record CanCap (c : LineCaps) (l : ℕ) : Type 0 where
+  pub size : length (c .caps) ≡ columns * capPlaces
+  pub some : 4294967295 ≤ capsOf c l 0
+
+-- whatever loads p and caps c show, the answer is the rules' smallest start under the cap
+abbrev pub EarliestUnder : Profile → LineCaps → ℕ → ℕ → ℕ → Type 0
+EarliestUnder p c line time r =
+    (clock : ℕ) (loads : List Load) (cap : Caps) → Shows p clock loads → CapsShown c cap → earliestUnder cap clock loads (draw line time) ≡ at r

@@ -1,0 +1,225 @@
+-- Input that comes in parts is answered as if it came at once.
+use mathlib.Core.Path.{_≡_, refl, sym, ap, _∙_}
+use mathlib.Core.Bool.{Bool, true, false, cond}
+use mathlib.Core.List.{List, [], _∷_, _++_, append-assoc, append-nil}
+use mathlib.Core.Logic.{⊎-elim}
+use Prim.Native.Nat.{ℕ, zero, suc, _+_, _≤_, _<_}
+use native.Mathlib.Omega.{arith}
+use borrow.Author.Tests.{lt-ltb}
+use lib.Dec.{eqb}
+use lib.ListN.{length, take, length-append}
+use lib.Seq.{take-all, take-append-le, take-take, length-take-le}
+use Rattle.rules.specs.Calls.{settings, State, fresh}
+use Rattle.rules.proofs.Ranges.{below-or-not}
+use Rattle.protocol.specs.Words.{joined, split}
+use Rattle.protocol.specs.Requests.{readRequest, error}
+use Rattle.protocol.specs.declared.number.Reason.the-variants.{LineTooLong}
+use Rattle.session.specs.Reply.{Told}
+use Rattle.session.specs.Session.{saying, answered, session, console, Fed, first, enough, served, feed}
+
+-- Requests that are too long
+
+too-long : (request : List ℕ) → 4096 < length request → readRequest request ≡ error LineTooLong
+unfolding readRequest
+too-long request h = rw (lt-ltb 4096 (length request) h)
+
+pub enough-answered :
+    (s : State) (request more : List ℕ) → answered s (enough request ++ more) ≡ answered s (request ++ more)
+unfolding answered
+enough-answered s request more =
+    ⊎-elim
+    (λ h. rw (take-all 4097 request (omega arith)))
+    (λ h. let e : length (enough request) ≡ 4097 = length-take-le 4097 request h in
+    rw (too-long (enough request ++ more) (omega (arith, length-append (enough request) more)), too-long (request ++ more) (omega (arith, length-append request more))))
+    (below-or-not (length request) 4097)
+
+pub enough-kept : (request more : List ℕ) → enough (enough request ++ more) ≡ enough (request ++ more)
+enough-kept request more =
+    ⊎-elim
+    (λ h. rw (take-all 4097 request (omega arith)))
+    (λ h. let e : length (enough request) ≡ 4097 = length-take-le 4097 request h in
+    rw (take-append-le 4097 (enough request) more (omega arith), take-append-le 4097 request more h, take-take 4097 4097 request (omega arith)))
+    (below-or-not (length request) 4097)
+
+enough-same : (s : State) (request : List ℕ) → answered s (enough request) ≡ answered s request
+enough-same s request = rw (append-nil (enough request), append-nil request) at (enough-answered s request [])
+
+-- The requests of a text and of one after it
+
+abbrev Some : List (List ℕ) → Type 0
+Some [] = ⊥
+Some (request ∷ requests) = Unit {0}
+
+-- the last request of those before goes on
+abbrev onto : List (List ℕ) → List (List ℕ) → List (List ℕ)
+onto [] more = more
+onto (request ∷ []) more = joined request more
+onto (request ∷ (next ∷ requests)) more = request ∷ onto (next ∷ requests) more
+
+joined-some : (text : List ℕ) (requests : List (List ℕ)) → Some (joined text requests)
+joined-some text [] = tt
+joined-some text (request ∷ requests) = tt
+
+pub split-some : (b : ℕ) (bytes : List ℕ) → Some (split b bytes)
+unfolding split
+split-some b [] = tt
+split-some b (x ∷ xs) = go (eqb x b)
+  where
+    go : (t : Bool) → Some (cond t ([] ∷ split b xs) (joined (x ∷ []) (split b xs)))
+    go true = tt
+    go false = joined-some (x ∷ []) (split b xs)
+
+joined-none : (requests : List (List ℕ)) → Some requests → joined [] requests ≡ requests
+joined-none [] h = absurd h
+joined-none (request ∷ requests) h = refl
+
+onto-cons : (request : List ℕ) (requests more : List (List ℕ)) → Some requests → onto (request ∷ requests) more ≡ request ∷ onto requests more
+onto-cons request [] more h = absurd h
+onto-cons request (next ∷ requests) more h = refl
+
+joined-joined : (text request : List ℕ) (more : List (List ℕ)) → joined text (joined request more) ≡ joined (text ++ request) more
+joined-joined text request [] = refl
+joined-joined text request (m ∷ ms) = rw (append-assoc text request m)
+
+onto-joined :
+    (text : List ℕ) (requests more : List (List ℕ)) → Some requests → joined text (onto requests more) ≡ onto (joined text requests) more
+onto-joined text [] more h = absurd h
+onto-joined text (request ∷ []) more h = joined-joined text request more
+onto-joined text (request ∷ (next ∷ requests)) more h = refl
+
+split-onto : (b : ℕ) (xs ys : List ℕ) → split b (xs ++ ys) ≡ onto (split b xs) (split b ys)
+unfolding split
+split-onto b [] ys = sym (joined-none (split b ys) (split-some b ys))
+split-onto b (x ∷ xs) ys = go (eqb x b) (split-onto b xs ys)
+  where
+    go :
+        (t : Bool) → split b (xs ++ ys) ≡ onto (split b xs) (split b ys)
+        → cond t ([] ∷ split b (xs ++ ys)) (joined (x ∷ []) (split b (xs ++ ys)))
+        ≡ onto (cond t ([] ∷ split b xs) (joined (x ∷ []) (split b xs))) (split b ys)
+    go true ih = rw (ih, onto-cons [] (split b xs) (split b ys) (split-some b xs))
+    go false ih = rw ih (onto-joined (x ∷ []) (split b xs) (split b ys) (split-some b xs))
+
+-- A request has no line feed
+
+abbrev Whole : List ℕ → Type 0
+Whole request = split 10 request ≡ request ∷ []
+
+abbrev Wholes : List (List ℕ) → Type 0
+Wholes [] = Unit {0}
+Wholes (request ∷ requests) = Whole request × Wholes requests
+
+split-wholes : (bytes : List ℕ) → Wholes (split 10 bytes)
+unfolding split
+split-wholes [] = (refl, tt)
+split-wholes (x ∷ xs) = go (eqb x 10) refl (split-wholes xs)
+  where
+    more : eqb x 10 ≡ false → (requests : List (List ℕ)) → Wholes requests → Wholes (joined (x ∷ []) requests)
+    more e [] h = (rw e, tt)
+    more e (request ∷ requests) h = (rw (e, h .0), h .1)
+
+    go :
+        (t : Bool) → eqb x 10 ≡ t → Wholes (split 10 xs)
+        → Wholes (cond t ([] ∷ split 10 xs) (joined (x ∷ []) (split 10 xs)))
+    go true e ih = (refl, ih)
+    go false e ih = more e (split 10 xs) ih
+
+pub take-whole : (n : ℕ) (request : List ℕ) → Whole request → Whole (take n request)
+unfolding split
+take-whole zero request h = refl
+take-whole (suc n) [] h = refl
+take-whole (suc n) (x ∷ xs) h = go (eqb x 10) refl (take-whole n xs)
+  where
+    inner : (requests : List (List ℕ)) → joined (x ∷ []) requests ≡ (x ∷ xs) ∷ [] → Some requests → requests ≡ xs ∷ []
+    inner [] e o = absurd o
+    inner (request ∷ requests) e o = cc
+
+    go : (t : Bool) → eqb x 10 ≡ t → (Whole xs → Whole (take n xs)) → Whole (x ∷ take n xs)
+    go true e ih =
+        let f : [] ∷ split 10 xs ≡ (x ∷ xs) ∷ [] = rw e at h in let z : _≡_ {A = ℕ} 0 1 = cc in absurd (omega arith)
+    go false e ih =
+        let f : joined (x ∷ []) (split 10 xs) ≡ (x ∷ xs) ∷ [] = rw e at h in
+        rw (e, ih (inner (split 10 xs) f (split-some 10 xs)))
+
+served-whole : (s : State) (requests : List (List ℕ)) → Wholes requests → Whole (served s requests .kept)
+unfolding served split
+served-whole s [] h = refl
+served-whole s (request ∷ []) h = take-whole 4097 request (h .0)
+served-whole s (request ∷ (next ∷ requests)) h = served-whole (answered s request .state) (next ∷ requests) (h .1)
+
+-- Parts of the input
+
+pub served-request :
+    (s : State) (request : List ℕ) (requests : List (List ℕ)) → Some requests
+    → served s (request ∷ requests) ≡ first (answered s request .text) (served (answered s request .state) requests)
+unfolding served
+served-request s request [] h = absurd h
+served-request s request (next ∷ requests) h = refl
+
+onto-some : (requests more : List (List ℕ)) → Some requests → Some (onto requests more)
+onto-some [] more h = absurd h
+onto-some (request ∷ []) more h = joined-some request more
+onto-some (request ∷ (next ∷ requests)) more h = tt
+
+pub first-first : (a b : List ℕ) (o : Fed) → first a (first b o) ≡ first (a ++ b) o
+first-first a b o = rw (append-assoc a b (o .text))
+
+served-joined :
+    (s : State) (request : List ℕ) (more : List (List ℕ)) → Some more
+    → served s (joined request more) ≡ served s (joined (enough request) more)
+unfolding served
+served-joined s request [] h = absurd h
+served-joined s request (m ∷ []) h = rw (enough-kept request m)
+served-joined s request (m ∷ (n ∷ ms)) h = rw (enough-answered s request m)
+
+served-onto :
+    (s : State) (requests more : List (List ℕ)) → Some requests → Some more
+    → served s (onto requests more)
+    ≡ first (served s requests .text) (served (served s requests .state) (joined (served s requests .kept) more))
+unfolding served
+served-onto s [] more h k = absurd h
+served-onto s (request ∷ []) more h k = served-joined s request more k
+served-onto s (request ∷ (next ∷ requests)) more h k =
+    served-request s request (onto (next ∷ requests) more) (onto-some (next ∷ requests) more tt)
+    ∙ ap (first (answered s request .text)) (served-onto (answered s request .state) (next ∷ requests) more tt k)
+    ∙ first-first (answered s request .text) (served (answered s request .state) (next ∷ requests) .text)
+    (served (served (answered s request .state) (next ∷ requests) .state) (joined (served (answered s request .state) (next ∷ requests) .kept) more))
+
+-- Two parts one after the other are as good as both at once.
+pub feed-append :
+    (s : State) (kept a b : List ℕ)
+    → feed s kept (a ++ b)
+    ≡ first (feed s kept a .text) (feed (feed s kept a .state) (feed s kept a .kept) b)
+feed-append s kept a b =
+    let ls : List (List ℕ) = split 10 (kept ++ a) in
+    let k : List ℕ = served s ls .kept in
+    let w : split 10 k ≡ k ∷ [] = served-whole s ls (split-wholes (kept ++ a)) in
+    let e : split 10 (k ++ b) ≡ joined k (split 10 b) = split-onto 10 k b ∙ ap (λ (x : List (List ℕ)). onto x (split 10 b)) w in
+    ap (λ (x : List ℕ). served s (split 10 x)) (sym (append-assoc kept a b))
+    ∙ ap (served s) (split-onto 10 (kept ++ a) b)
+    ∙ served-onto s ls (split 10 b) (split-some 10 (kept ++ a)) (split-some 10 b)
+    ∙ ap (λ (x : List (List ℕ)). first (served s ls .text) (served (served s ls .state) x)) (sym e)
+
+-- The end of the input
+
+-- what was kept is the last request
+abbrev pub finish : Fed → Told
+finish o = saying (o .text) (answered (o .state) (o .kept))
+
+saying-saying : (a b : List ℕ) (t : Told) → saying a (saying b t) ≡ saying (a ++ b) t
+saying-saying a b t = rw (append-assoc a b (t .text))
+
+pub finish-served : (s : State) (request : List ℕ) (requests : List (List ℕ)) → finish (served s (request ∷ requests)) ≡ session s (request ∷ requests)
+unfolding served session
+finish-served s request [] = rw (enough-same s request, append-nil (answered s request .text))
+finish-served s request (next ∷ requests) =
+    sym (saying-saying (answered s request .text) (served (answered s request .state) (next ∷ requests) .text) (answered (served (answered s request .state) (next ∷ requests) .state) (served (answered s request .state) (next ∷ requests) .kept)))
+    ∙ ap (saying (answered s request .text)) (finish-served (answered s request .state) next requests)
+
+finish-requests : (s : State) (requests : List (List ℕ)) → Some requests → finish (served s requests) ≡ session s requests
+finish-requests s [] h = absurd h
+finish-requests s (request ∷ requests) h = finish-served s request requests
+
+-- a whole input as one part
+pub console-fed : (input : List ℕ) → finish (feed (fresh (settings 1 100)) [] input) ≡ console input
+unfolding console
+console-fed input = finish-requests (fresh (settings 1 100)) (split 10 input) (split-some 10 input)

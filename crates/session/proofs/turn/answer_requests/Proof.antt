@@ -1,0 +1,101 @@
+-- `session::answer_requests` meets its contract. The measure is what is left of the block.
+use mathlib.Core.Path.{_≡_, refl, _∙_}
+use Prim.Native.Nat.{_-_}
+use native.Mathlib.Omega.{arith}
+use lib.ListN.{length}
+use Rattle.station.specs.View.{view}
+use Rattle.session.specs.Turns.{Answers}
+use Rattle.session.proofs.Serving.{answers-none, answers-more, stops-done, stops-full}
+use Rattle.session.proofs.turn.answer_requests.Statement.{statement}
+use Rattle.session.proofs.turn.answer_requests.Tie as tie
+
+abbrev Inv-loop : tie.InvT-loop
+Inv-loop block numbers₀ list₀ out₀ replies₀ numbers list out replies = Answers (view (replies₀ .station)) block replies out × (length numbers ≡ length numbers₀) × (length list ≡ length list₀) × (length out ≡ length out₀)
+
+abbrev μ-loop : tie.MeasureT-loop
+μ-loop block numbers₀ list₀ out₀ replies₀ numbers list out replies = length block - replies .from
+
+loop-holds : tie.Need-loop-holds Inv-loop μ-loop
+loop-holds c = (answers-none (c .before .before .before .before .args .station) (c .before .before .before .before .args .block .now) (c .before .before .before .before .args .out .now) (c .before .before .before .before .pre .0), refl, refl, refl)
+
+part-end-requires : tie.Need-part-end-requires Inv-loop μ-loop
+part-end-requires c κs = (c .before .before .loop .inv .0 .within, omega arith)
+
+same-length : tie.Need-same-length Inv-loop μ-loop
+same-length c = c .before .before .before .before .loop .inv .1
+
+same-length-2 : tie.Need-same-length-2 Inv-loop μ-loop
+same-length-2 c = c .before .before .before .before .loop .inv .2
+
+same-length-3 : tie.Need-same-length-3 Inv-loop μ-loop
+same-length-3 c = c .before .before .before .before .loop .inv .3
+
+returns : tie.Need-returns Inv-loop μ-loop
+returns c = (c .before .before .before .before .loop .inv .0, stops-done (c .before .before .before .before .loop .inv .0) (c .before .part-end .ensures) (c .if2 .taken))
+
+sub-reply-request : tie.Need-sub-reply-request Inv-loop μ-loop
+sub-reply-request c = c .before .before .part-end .ensures .low
+
+part-reply-request-start : tie.Need-part-reply-request-start Inv-loop μ-loop
+part-reply-request-start c = c .before .before .part-end .ensures .low
+
+part-reply-request-end : tie.Need-part-reply-request-end Inv-loop μ-loop
+part-reply-request-end c = c .before .before .part-end .ensures .high
+
+reply-request-requires : tie.Need-reply-request-requires Inv-loop μ-loop
+reply-request-requires c κs =
+    let l = c .before .before .before .before .before .before .before .before .before .loop .inv in
+    let room = c .before .before .before .before .before .before .before .before .before .before .before .before .before .before .pre .1 in
+    (l .0 .valid, (omega (arith, l .1, room .numbers-fit), (omega (arith, l .2, room .list-fits), omega (arith, c .before .before .before .before .before .before .before .if1 .taken, l .3, room .out-fits))))
+
+add-t14 : tie.Need-add-t14 Inv-loop μ-loop
+add-t14 c = omega (arith, c .before .before .before .before .before .before .before .before .before .before .before .before .before .if2 .left, c .before .before .before .before .before .before .before .before .before .before .before .before .before .before .part-end .ensures .low, c .before .before .before .before .before .before .before .before .before .before .before .before .before .before .part-end .ensures .high, c .before .before .before .before .before .before .before .before .before .before .before .before .before .before .before .before .before .before .before .before .before .before .good .1 .0 .0)
+
+loop-less : tie.Need-loop-less Inv-loop μ-loop
+loop-less c = omega (arith, c .before .before .before .before .before .before .before .before .before .before .before .before .before .if2 .left, c .before .before .before .before .before .before .before .before .before .before .before .before .before .before .part-end .ensures .low, c .before .before .before .before .before .before .before .before .before .before .before .before .before .before .part-end .ensures .high)
+
+loop-again : tie.Need-loop-again Inv-loop μ-loop
+loop-again c =
+    let l = c .before .before .before .before .before .before .before .before .before .before .before .before .before .before .before .before .before .loop .inv in
+    let r = c .before .before .before .before .before .before .before .reply-request in (
+      answers-more (l .0) (c .before .before .before .before .before .before .before .before .before .before .before .before .before .before .part-end .ensures) (omega (arith, c .before .before .before .before .before .before .before .before .before .before .before .before .before .if2 .left, c .before .before .before .before .before .before .before .before .before .before .before .before .before .before .part-end .ensures .high)) (r .ensures .0),
+      r .kept .1 .1 .0 ∙ l .1,
+      r .kept .1 .1 .1 .0 ∙ l .2,
+      r .kept .1 .1 .1 .1 .0 ∙ l .3,
+    )
+
+same-length-4 : tie.Need-same-length-4 Inv-loop μ-loop
+same-length-4 c = c .before .before .loop .inv .1
+
+same-length-5 : tie.Need-same-length-5 Inv-loop μ-loop
+same-length-5 c = c .before .before .loop .inv .2
+
+same-length-6 : tie.Need-same-length-6 Inv-loop μ-loop
+same-length-6 c = c .before .before .loop .inv .3
+
+returns-2 : tie.Need-returns-2 Inv-loop μ-loop
+returns-2 c = (c .before .before .loop .inv .0, stops-full (c .before .before .before .before .before .before .before .args .block .now) (c .before .before .loop .replies) (omega (arith, c .if1 .left)))
+
+pub answer-requests-spec : {M : Type 1} → statement M
+answer-requests-spec =
+    tie.close
+    (tie.spec
+    Inv-loop
+    μ-loop
+    loop-holds
+    part-end-requires
+    same-length
+    same-length-2
+    same-length-3
+    returns
+    sub-reply-request
+    part-reply-request-start
+    part-reply-request-end
+    reply-request-requires
+    add-t14
+    loop-less
+    loop-again
+    same-length-4
+    same-length-5
+    same-length-6
+    returns-2)

@@ -1,0 +1,33 @@
+-- `session::input_ends` meets its contract, case by case.
+use borrow.Author.Needs.{needs}
+use Rattle.session.proofs.turn.input_ends.Statement.{statement}
+use Rattle.session.proofs.turn.input_ends.Tie as tie
+
+enum-told : tie.Need-enum-told
+enum-told c = search needs
+
+enum-told-2 : tie.Need-enum-told-2
+enum-told-2 c = search needs
+
+enum-told-3 : tie.Need-enum-told-3
+enum-told-3 c = search needs
+
+returns : tie.Need-returns
+returns c = rw (c .enum-told .given .1)
+
+returns-2 : tie.Need-returns-2
+returns-2 c = search needs
+
+returns-3 : tie.Need-returns-3
+returns-3 c = search needs
+
+pub input-ends-spec : {M : Type 1} → statement M
+input-ends-spec =
+    tie.close
+    (tie.spec
+    enum-told
+    enum-told-2
+    enum-told-3
+    returns
+    returns-2
+    returns-3)

@@ -1,0 +1,18 @@
+-- A small run, by computing: an enquiry, one to pass over, an empty one, and a last one without line feed.
+use Prim.Native.Nat.{ℕ}
+use mathlib.Core.Path.{_≡_, refl}
+use mathlib.Core.List.{List, [], _∷_}
+use Rattle.rules.specs.Calls.{enquiring}
+use Rattle.protocol.specs.Numbers.{valueFrom, numberOf, digitsWithin}
+use Rattle.protocol.specs.Words.{split, sameText}
+use Rattle.protocol.specs.Requests.{readNumbers, readCall, readRequest}
+use Rattle.protocol.specs.Answers.{answerText}
+use Rattle.session.specs.Session.{answered, session, console}
+
+-- "enquire 1", "#", "", "q" are answered "refused 15", "error unknown call"
+small-run :
+    console (101 ∷ 110 ∷ 113 ∷ 117 ∷ 105 ∷ 114 ∷ 101 ∷ 32 ∷ 49 ∷ 10 ∷ 35 ∷ 10 ∷ 10 ∷ 113 ∷ []) .text
+    ≡ 114 ∷ 101 ∷ 102 ∷ 117 ∷ 115 ∷ 101 ∷ 100 ∷ 32 ∷ 49 ∷ 53 ∷ 10
+    ∷ 101 ∷ 114 ∷ 114 ∷ 111 ∷ 114 ∷ 32 ∷ 117 ∷ 110 ∷ 107 ∷ 110 ∷ 111 ∷ 119 ∷ 110 ∷ 32 ∷ 99 ∷ 97 ∷ 108 ∷ 108 ∷ 10 ∷ []
+unfolding console session answered readRequest readCall readNumbers numberOf valueFrom split sameText answerText digitsWithin enquiring
+small-run = refl

@@ -1,0 +1,4 @@
+pub mod Reply
+pub mod Session
+pub mod Turns
+pub mod Cases

@@ -1,0 +1,168 @@
+// The program as a machine without input and output. A turn is handed the bytes that were just read, and hands back the text
+// that is to be written and the next session. The contract of `turn` is an equation with the definition of the program's
+// whole answer (specs/Session.antt), and specs/Turns.antt says what chains of turns come to.
+ghost use mathlib.Core.Path.{_≡_};
+ghost use Prim.Native.Nat.{_+_, _≤_};
+ghost use lib.ListN.{length};
+ghost use Rattle.station.specs.View.{view, Valid};
+ghost use Rattle.session.specs.Turns.{ends, Room, Answers, Stops, KeptTo, LastTurn, Turned};
+use crate::reply::reply_request;
+use station::Station;
+
+// What a session needs before it can go on: more bytes of the input, room in the buffer for further answers, or nothing,
+// since the input has ended and all is answered.
+pub enum Wants {
+    Bytes,
+    Room,
+    Nothing,
+}
+
+// What is kept from turn to turn: the station, how many bytes that are not yet answered stand at the front of the block, and
+// what is wanted.
+pub struct Session {
+    pub station: Station,
+    pub held: usize,
+    pub wants: Wants,
+}
+
+// The next session, and the end of the text that is to be written.
+pub struct Next {
+    pub session: Session,
+    pub at: usize,
+}
+
+// The station after some requests of a block, the place after them, and the end of the text that answers them.
+struct Replies {
+    station: Station,
+    from: usize,
+    at: usize,
+}
+
+// Answers the requests of a block that have ended, one after another, as long as the buffer has room for any answer.
+fn answer_requests(
+    station: Station,
+    block: &[u8],
+    numbers: &mut [u32],
+    list: &mut [u32],
+    out: &mut [u8],
+) -> Replies
+    requires { ⌜ Valid station × Room (now numbers) (now list) (now out) ⌝ }
+    ensures { λ r. ⌜ Answers (view station) (now (block .entry)) r (now (out .exit)) ⌝ }
+    ensures { λ r. ⌜ Stops (now (block .entry)) r ⌝ }
+{
+    let mut replies = Replies {
+        station,
+        from: 0,
+        at: 0,
+    };
+    while replies.at <= 57000 {
+        let from = replies.from;
+        let end = protocol::part_end(block, from, block.len(), 10);
+        if end == block.len() {
+            return replies;
+        }
+        let present = replies.station;
+        let at = replies.at;
+        let reply = reply_request(present, &block[from..end], numbers, list, out, at);
+        let after = reply.station;
+        replies = Replies {
+            station: after,
+            from: end + 1,
+            at: reply.at,
+        };
+    }
+    replies
+}
+
+// Of a request that goes on no more is kept than shows that it is too long.
+fn kept_to(from: usize, filled: usize) -> usize
+    requires { ⌜ from ≤ filled ⌝ }
+    ensures { λ r. ⌜ KeptTo from filled r ⌝ }
+{
+    if filled - from > 4097 {
+        from + 4097
+    } else {
+        filled
+    }
+}
+
+fn input_ends(wants: Wants, count: usize) -> bool
+    ensures { λ r. ⌜ r ≡ ends wants count ⌝ }
+{
+    match wants {
+        Wants::Bytes => count == 0,
+        Wants::Room => false,
+        Wants::Nothing => true,
+    }
+}
+
+// The input has ended: what is held is its last request, which has no line feed.
+fn last_turn(
+    session: Session,
+    block: &[u8],
+    numbers: &mut [u32],
+    list: &mut [u32],
+    out: &mut [u8],
+) -> Next
+    requires { ⌜ Valid (session .station) × ((session .held ≤ length (now block)) × Room (now numbers) (now list) (now out)) ⌝ }
+    ensures { λ r. ⌜ LastTurn session (now (block .entry)) r (now (out .exit)) ⌝ }
+{
+    let station = session.station;
+    let held = session.held;
+    let reply = reply_request(station, &block[..held], numbers, list, out, 0);
+    let last = reply.station;
+    let over = Session {
+        station: last,
+        held: 0,
+        wants: Wants::Nothing,
+    };
+    Next {
+        session: over,
+        at: reply.at,
+    }
+}
+
+// One turn. After the bytes that are held stand `count` bytes that were read; none, where some were wanted, are the end of
+// the input. The bytes that are not yet answered move to the front of the block.
+pub fn turn(
+    session: Session,
+    count: usize,
+    block: &mut [u8],
+    numbers: &mut [u32],
+    list: &mut [u32],
+    out: &mut [u8],
+) -> Next
+    requires { ⌜ Valid (session .station) × ((session .held + count ≤ length (now block)) × Room (now numbers) (now list) (now out)) ⌝ }
+    ensures { λ r. ⌜ Turned session count (now (block .entry)) r (now (block .exit)) (now (out .exit)) ⌝ }
+{
+    let wants = session.wants;
+    if input_ends(wants, count) {
+        return last_turn(session, block, numbers, list, out);
+    }
+    let station = session.station;
+    let filled = session.held + count;
+    let replies = answer_requests(station, &block[..filled], numbers, list, out);
+    let after = replies.station;
+    let from = replies.from;
+    let at = replies.at;
+    if at > 57000 {
+        let held = protocol::carry(block, from, filled);
+        let full = Session {
+            station: after,
+            held,
+            wants: Wants::Room,
+        };
+        return Next { session: full, at };
+    }
+    let to = kept_to(from, filled);
+    let held = protocol::carry(block, from, to);
+    let waiting = Session {
+        station: after,
+        held,
+        wants: Wants::Bytes,
+    };
+    Next {
+        session: waiting,
+        at,
+    }
+}

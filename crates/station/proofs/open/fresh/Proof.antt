@@ -1,0 +1,20 @@
+use native.Mathlib.Omega.{arith}
+use Rattle.station.specs.Answers.{settingsOf}
+use Rattle.station.proofs.Opened.{opens, product-most, view-fresh}
+use borrow.Author.Needs.{needs}
+use Rattle.station.proofs.open.fresh.Statement.{statement}
+use Rattle.station.proofs.open.fresh.Tie as tie
+
+mul-t4 : tie.Need-mul-t4
+mul-t4 c =
+    let granted = opens (settingsOf (c .args .settings)) (c .pre) in
+    omega (arith, product-most (c .args .settings .limit) (c .args .settings .percent) (granted .limit-high) (granted .percent-high))
+
+none-requires : tie.Need-none-requires
+none-requires c κs = search needs
+
+returns : tie.Need-returns
+returns c = (view-fresh _ _ _ (c .none .ensures), c .none .ensures .columns)
+
+pub fresh-spec : {M : Type 1} → statement M
+fresh-spec = tie.close (tie.spec mul-t4 none-requires returns)

@@ -1,0 +1,22 @@
+// The calls of which the theorem in specs/Theorem.antt speaks: the checker holds it here to the contracts of `open` and `apply`.
+use station::Station;
+use station::calls::Applied;
+use station::calls::Call;
+use station::open::Opening;
+use station::open::Settings;
+ghost use Rattle.station.specs.View.{Valid};
+ghost use Rattle.station.specs.Answers.{settingsOf};
+ghost use Rattle.theorem.specs.Theorem.{MeetsOpen, MeetsApply, made};
+
+pub fn open(settings: Settings) -> Opening
+    ensures { λ r. ⌜ MeetsOpen (settingsOf settings) (r .answer) (r .station) ⌝ }
+{
+    Station::open(settings)
+}
+
+pub fn apply(station: Station, call: Call, starts: &[u32], report: &mut [u32]) -> Applied
+    requires { ⌜ Valid station ⌝ }
+    ensures { λ r. ⌜ MeetsApply station (made call (now (starts .entry)) (now (report .entry)) (now (report .exit)) r) ⌝ }
+{
+    station.apply(call, starts, report)
+}
