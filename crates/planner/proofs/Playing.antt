@@ -37,7 +37,7 @@ use Rattle.planner.proofs.Asking.{round-balanced, round-ends, round-low
 
 module _ {limit bound clock : ℕ} {c : Charges} {caps : LineCaps} {r : Placement} (ready : Ready clock limit bound c)
     (w : Capped caps) (plan : LinesUnder caps clock c r) where
-  abbrev some-plan : AllPlaced (linesPlaced (w .cap) clock c) clock c (r .profile) (r .starts)
+  abbrev some-plan : AllPlaced (linesPlaced (w .cap) clock c) clock c (r .profile) (r .«by_place»)
   some-plan = plan (w .cap) (w .shown)
 
   pub round-formed : Formed (r .profile)
@@ -52,7 +52,7 @@ module _ {limit bound clock : ℕ} {c : Charges} {caps : LineCaps} {r : Placemen
     pub plays-balanced :
         {listed : List ℕ}
         → u ≡ Never
-        → WaitingStarts clock c (r .starts) listed
+        → WaitingStarts clock c (r .«by_place») listed
         → Plays limit bound clock c caps (record { outcome = Ends; proposed = record { cause = 0; starts = listed } })
     plays-balanced e s =
         record {

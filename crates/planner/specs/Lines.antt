@@ -32,4 +32,4 @@ pub record Capped (caps : LineCaps) : Type 0 where
 -- every waiting charge is placed under the caps, whatever they are
 abbrev pub LinesUnder : LineCaps → ℕ → Charges → Placement → Type 0
 LinesUnder caps clock c r =
-    (cap : Caps) → CapsShown caps cap → AllPlaced (linesPlaced cap clock c) clock c (r .profile) (r .starts)
+    (cap : Caps) → CapsShown caps cap → AllPlaced (linesPlaced cap clock c) clock c (r .profile) (r .«by_place»)

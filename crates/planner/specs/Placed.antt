@@ -13,15 +13,15 @@ use Rattle.planner.specs.Starts.{Stored}
 use Rattle.planner.specs.Ready.{begunOf}
 
 -- the plan of the begun charges and those placed so far
-pub record PlanShown (clock : ℕ) (c : Charges) (placed : List Charge) (p : Profile) (starts : List ℕ) : Type 0 where
+pub record PlanShown (clock : ℕ) (c : Charges) (placed : List Charge) (p : Profile) (byPlace : List ℕ) : Type 0 where
   pub shows : Shows p clock (loadsOf (begunOf clock c ++ placed))
-  pub stored : Stored c starts placed
-  pub size : length starts ≡ 180
+  pub stored : Stored c byPlace placed
+  pub size : length byPlace ≡ 180
   pub ends : max clock (lastUntil (loadsOf (begunOf clock c ++ placed))) ≤ 100001440 + 1440 * length placed
 
 -- every waiting charge is placed, as the rules place them
-pub record AllPlaced (result : Placed) (clock : ℕ) (c : Charges) (p : Profile) (starts : List ℕ) : Type 0 where
+pub record AllPlaced (result : Placed) (clock : ℕ) (c : Charges) (p : Profile) (byPlace : List ℕ) : Type 0 where
   pub placed : List Charge
   pub gives : result ≡ all placed
   pub few : length (begunOf clock c) + length placed ≤ 180
-  pub plan : PlanShown clock c placed p starts
+  pub plan : PlanShown clock c placed p byPlace

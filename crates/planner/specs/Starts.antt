@@ -14,12 +14,12 @@ waitingCount clock c = length (waitingCharges clock (chargesOf c))
 
 -- the start of each placed charge stands at its place, and 0 where a charge is not placed
 abbrev pub Stored : Charges → List ℕ → List Charge → Type 0
-Stored c starts placed = (i : ℕ) → i < c .held → startIn placed (chargeAt c i .ticket) ≡ getD starts i 0
+Stored c byPlace placed = (i : ℕ) → i < c .held → startIn placed (chargeAt c i .ticket) ≡ getD byPlace i 0
 
 -- the starts of the waiting charges, in ticket order, and 0 in the places behind them
-pub record WaitingStarts (clock : ℕ) (c : Charges) (starts r : List ℕ) : Type 0 where
+pub record WaitingStarts (clock : ℕ) (c : Charges) (byPlace r : List ℕ) : Type 0 where
   pub filled : Filled (waitingCount clock c) r
   pub gives :
       (placed : List Charge)
-      → Stored c starts placed
+      → Stored c byPlace placed
       → startsIn placed (waitingCharges clock (chargesOf c)) ≡ take (waitingCount clock c) r

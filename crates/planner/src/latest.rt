@@ -24,7 +24,7 @@ pub fn latest(charges: Charges, clock: u32, limit: u32, bound: u32) -> Proposed
     let mut steps = begun.steps;
     let mut at = begun.at;
     let mut counts = begun.counts;
-    let mut placed = [0; PLACES];
+    let mut by_place = [0; PLACES];
     for k in 0..n {
         let i = queue.places[k];
         let line = charges.lines[i];
@@ -34,8 +34,8 @@ pub fn latest(charges: Charges, clock: u32, limit: u32, bound: u32) -> Proposed
             return Proposed::none(1);
         };
         steps = add(&mut at, &mut counts, steps, line, time, start);
-        placed[i] = start;
+        by_place[i] = start;
     }
-    let starts = waiting_starts(charges, clock, placed);
+    let starts = waiting_starts(charges, clock, by_place);
     Proposed { cause: 0, starts }
 }

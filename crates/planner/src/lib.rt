@@ -27,17 +27,17 @@ impl Proposed {
     }
 }
 
-// The starts of the waiting charges, in ticket order.
-fn waiting_starts(charges: Charges, clock: u32, starts: [u32; PLACES]) -> [u32; 180]
+// The starts of the waiting charges, in ticket order, from those that stand at the charges' places.
+fn waiting_starts(charges: Charges, clock: u32, by_place: [u32; PLACES]) -> [u32; PLACES]
     requires { ⌜ Columns charges ⌝ }
-    ensures { λ r. ⌜ WaitingStarts clock charges starts r ⌝ }
+    ensures { λ r. ⌜ WaitingStarts clock charges «by_place» r ⌝ }
 {
     let n = charges.held;
     let mut listed = [0; PLACES];
     let mut k = 0;
     for i in 0..n {
         if clock <= charges.starts[i] {
-            listed[k] = starts[i];
+            listed[k] = by_place[i];
             k += 1;
         }
     }

@@ -16,7 +16,7 @@ ghost use Rattle.planner.specs.Lines.{Capped, InLines, LinesUnder};
 // The profile of the begun charges and those placed, and the start of each placed one at its place.
 pub struct Placement {
     pub profile: Profile,
-    pub starts: [u32; PLACES],
+    pub by_place: [u32; PLACES],
 }
 
 // Each charge of the queue gets the smallest start with its line's count at or below the cap. A cap is never below 1,
@@ -35,15 +35,15 @@ pub fn place_lines(
     let mut steps = begun.steps;
     let mut at = begun.at;
     let mut counts = begun.counts;
-    let mut starts = [0; PLACES];
+    let mut by_place = [0; PLACES];
     for k in 0..n {
         let i = queue.places[k];
         let line = charges.lines[i];
         let time = charges.times[i];
         let start = earliest_under(&at, &counts, steps, &caps.caps, line, time);
         steps = add(&mut at, &mut counts, steps, line, time, start);
-        starts[i] = start;
+        by_place[i] = start;
     }
     let profile = Profile { steps, at, counts };
-    Placement { profile, starts }
+    Placement { profile, by_place }
 }

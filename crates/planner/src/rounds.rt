@@ -72,8 +72,8 @@ fn play(
     let profile = placement.profile;
     let unbalanced = profile.first_unbalanced(bound);
     let When::Minute(minute) = unbalanced else {
-        let placed = placement.starts;
-        let starts = waiting_starts(charges, clock, placed);
+        let by_place = placement.by_place;
+        let starts = waiting_starts(charges, clock, by_place);
         let proposed = Proposed { cause: 0, starts };
         return Round {
             outcome: Outcome::Ends,

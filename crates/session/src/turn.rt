@@ -4,6 +4,7 @@
 ghost use mathlib.Core.Path.{_≡_};
 ghost use Prim.Native.Nat.{_+_, _≤_};
 ghost use lib.ListN.{length};
+ghost use Rattle.protocol.specs.Words.{PartEnd};
 ghost use Rattle.station.specs.View.{view, Valid};
 ghost use Rattle.session.specs.Turns.{ends, Room, Answers, Stops, KeptTo, LastTurn, Turned};
 use crate::reply::reply_request;
@@ -38,6 +39,14 @@ struct Replies {
     at: usize,
 }
 
+// Where the request ends that starts at `from`: at its line feed, or at the block's end where it goes on.
+fn request_end(block: &[u8], from: usize) -> usize
+    requires { ⌜ from ≤ length (now block) ⌝ }
+    ensures { λ r. ⌜ PartEnd 10 (now (block .entry)) from (length (now (block .entry))) r ⌝ }
+{
+    protocol::part_end(block, from, block.len(), 10)
+}
+
 // Answers the requests of a block that have ended, one after another, as long as the buffer has room for any answer.
 fn answer_requests(
     station: Station,
@@ -57,7 +66,7 @@ fn answer_requests(
     };
     while replies.at <= 57000 {
         let from = replies.from;
-        let end = protocol::part_end(block, from, block.len(), 10);
+        let end = request_end(block, from);
         if end == block.len() {
             return replies;
         }

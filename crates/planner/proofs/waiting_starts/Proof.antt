@@ -6,10 +6,10 @@ use Rattle.planner.proofs.waiting_starts.Statement.{statement}
 use Rattle.planner.proofs.waiting_starts.Tie as tie
 
 abbrev Inv-loop : tie.InvT-loop
-Inv-loop clock charges starts n listed₀ k₀ i₀ listed k i = (i ≤ n) × (k ≤ i) × Collecting clock charges starts i listed k
+Inv-loop clock charges byPlace n listed₀ k₀ i₀ listed k i = (i ≤ n) × (k ≤ i) × Collecting clock charges byPlace i listed k
 
 abbrev μ-loop : tie.MeasureT-loop
-μ-loop clock charges starts n listed₀ k₀ i₀ listed k i = n - i
+μ-loop clock charges byPlace n listed₀ k₀ i₀ listed k i = n - i
 
 loop-holds : tie.Need-loop-holds Inv-loop μ-loop
 loop-holds c = (omega arith, omega arith, collecting-start (c .args .clock) (c .args .t1) (c .args .t3))

@@ -15,12 +15,12 @@ use Rattle.planner.proofs.latest.latest.Statement.{statement}
 use Rattle.planner.proofs.latest.latest.Tie as tie
 
 abbrev Inv-loop : tie.InvT-loop
-Inv-loop clock limit bound charges queue n steps₀ at₀ counts₀ placed₀ k₀ steps at counts placed k =
+Inv-loop clock limit bound charges queue n steps₀ at₀ counts₀ byPlace₀ k₀ steps at counts byPlace k =
     (k ≤ n)
-    × PlacedSoFar (soundStart (limits limit bound) clock (begunOf clock charges)) clock charges queue k (profileOf steps at counts) placed
+    × PlacedSoFar (soundStart (limits limit bound) clock (begunOf clock charges)) clock charges queue k (profileOf steps at counts) byPlace
 
 abbrev μ-loop : tie.MeasureT-loop
-μ-loop clock limit bound charges queue n steps₀ at₀ counts₀ placed₀ k₀ steps at counts placed k = n - k
+μ-loop clock limit bound charges queue n steps₀ at₀ counts₀ byPlace₀ k₀ steps at counts byPlace k = n - k
 
 by-latest-start-requires : tie.Need-by-latest-start-requires Inv-loop μ-loop
 by-latest-start-requires c κs = search needs
@@ -88,11 +88,11 @@ add-requires c κs =
     sound-can-add r (queue-latest-start (r .listed) (c .before .before .before .before .before .before .before .before .before .before .before .before .before .before .before .before .by-latest-start .ensures)) (c .before .before .before .before .before .before .before .before .before .before .before .before .loop .inv .1)
     (c .before .before .before .before .before .before .before .before .before .before .before .loop-test .taken) _ (c .before .before .before .before .before .earliest .ensures) (c .before .before .before .found .given .1)
 
-mul-placed : tie.Need-mul-placed Inv-loop μ-loop
-mul-placed c = omega (arith, next-below (c .before .before .before .before .before .before .before .before .before .before .before .before .before .before .before .before .before .before .pre .listed) (c .before .before .before .before .before .before .before .before .before .before .before .before .before .before .before .before .before .by-latest-start .ensures .places) (c .before .before .before .before .before .before .before .before .before .before .before .before .loop-test .taken))
+mul-by-place : tie.Need-mul-by-place Inv-loop μ-loop
+mul-by-place c = omega (arith, next-below (c .before .before .before .before .before .before .before .before .before .before .before .before .before .before .before .before .before .before .pre .listed) (c .before .before .before .before .before .before .before .before .before .before .before .before .before .before .before .before .before .by-latest-start .ensures .places) (c .before .before .before .before .before .before .before .before .before .before .before .before .loop-test .taken))
 
-array-write-placed : tie.Need-array-write-placed Inv-loop μ-loop
-array-write-placed c = omega (arith, next-below (c .before .before .before .before .before .before .before .before .before .before .before .before .before .before .before .before .before .before .pre .listed) (c .before .before .before .before .before .before .before .before .before .before .before .before .before .before .before .before .before .by-latest-start .ensures .places) (c .before .before .before .before .before .before .before .before .before .before .before .before .loop-test .taken))
+array-write-by-place : tie.Need-array-write-by-place Inv-loop μ-loop
+array-write-by-place c = omega (arith, next-below (c .before .before .before .before .before .before .before .before .before .before .before .before .before .before .before .before .before .before .pre .listed) (c .before .before .before .before .before .before .before .before .before .before .before .before .before .before .before .before .before .by-latest-start .ensures .places) (c .before .before .before .before .before .before .before .before .before .before .before .before .loop-test .taken))
 
 add-k : tie.Need-add-k Inv-loop μ-loop
 add-k c =
@@ -146,8 +146,8 @@ latest-spec =
     none-requires
     returns
     add-requires
-    mul-placed
-    array-write-placed
+    mul-by-place
+    array-write-by-place
     add-k
     loop-less
     loop-again

@@ -14,14 +14,14 @@ use Rattle.planner.proofs.lines.place_lines.Statement.{statement}
 use Rattle.planner.proofs.lines.place_lines.Tie as tie
 
 abbrev Inv-loop : tie.InvT-loop
-Inv-loop clock charges queue caps n steps₀ at₀ counts₀ starts₀ k₀ steps at counts starts k =
+Inv-loop clock charges queue caps n steps₀ at₀ counts₀ byPlace₀ k₀ steps at counts byPlace k =
     (k ≤ n)
     × ((cap : Caps)
     → CapsShown caps cap
-    → PlacedSoFar (cappedStart cap clock (begunOf clock charges)) clock charges queue k (profileOf steps at counts) starts)
+    → PlacedSoFar (cappedStart cap clock (begunOf clock charges)) clock charges queue k (profileOf steps at counts) byPlace)
 
 abbrev μ-loop : tie.MeasureT-loop
-μ-loop clock charges queue caps n steps₀ at₀ counts₀ starts₀ k₀ steps at counts starts k = n - k
+μ-loop clock charges queue caps n steps₀ at₀ counts₀ byPlace₀ k₀ steps at counts byPlace k = n - k
 
 loop-holds : tie.Need-loop-holds Inv-loop μ-loop
 loop-holds c =
@@ -67,11 +67,11 @@ add-requires c κs =
     capped-can-add (w .shown) (s .pre .0) (queue-line-by-line (s .pre .0) (s .pre .2)) (c .before .before .before .before .before .before .before .before .before .before .before .loop .inv .1 (w .cap) (w .shown))
     (c .before .before .before .before .before .before .before .before .before .before .loop-test .taken) (c .before .before .earliest-under .ensures)
 
-mul-starts : tie.Need-mul-starts Inv-loop μ-loop
-mul-starts c = omega (arith, next-below (c .before .before .before .before .before .before .before .before .before .before .before .before .before .before .before .pre .0) (c .before .before .before .before .before .before .before .before .before .before .before .before .before .before .before .pre .2 .places) (c .before .before .before .before .before .before .before .before .before .before .before .loop-test .taken))
+mul-by-place : tie.Need-mul-by-place Inv-loop μ-loop
+mul-by-place c = omega (arith, next-below (c .before .before .before .before .before .before .before .before .before .before .before .before .before .before .before .pre .0) (c .before .before .before .before .before .before .before .before .before .before .before .before .before .before .before .pre .2 .places) (c .before .before .before .before .before .before .before .before .before .before .before .loop-test .taken))
 
-array-write-starts : tie.Need-array-write-starts Inv-loop μ-loop
-array-write-starts c = omega (arith, next-below (c .before .before .before .before .before .before .before .before .before .before .before .before .before .before .before .pre .0) (c .before .before .before .before .before .before .before .before .before .before .before .before .before .before .before .pre .2 .places) (c .before .before .before .before .before .before .before .before .before .before .before .loop-test .taken))
+array-write-by-place : tie.Need-array-write-by-place Inv-loop μ-loop
+array-write-by-place c = omega (arith, next-below (c .before .before .before .before .before .before .before .before .before .before .before .before .before .before .before .pre .0) (c .before .before .before .before .before .before .before .before .before .before .before .before .before .before .before .pre .2 .places) (c .before .before .before .before .before .before .before .before .before .before .before .loop-test .taken))
 
 add-k : tie.Need-add-k Inv-loop μ-loop
 add-k c = let s = c .before .before .before .before .before .before .before .before .before .before .before .before .before .before .before in omega (arith, c .before .before .before .before .before .before .before .before .before .before .before .loop-test .taken, queue-line-by-line (s .pre .0) (s .pre .2) .room)
@@ -109,8 +109,8 @@ place-lines-spec =
     element-copy-out-time
     earliest-under-requires
     add-requires
-    mul-starts
-    array-write-starts
+    mul-by-place
+    array-write-by-place
     add-k
     loop-less
     loop-again

@@ -18,8 +18,8 @@ abbrev μ-loop : tie.MeasureT-loop
 loop-holds : tie.Need-loop-holds Inv-loop μ-loop
 loop-holds c = (answers-none (c .before .before .before .before .args .station) (c .before .before .before .before .args .block .now) (c .before .before .before .before .args .out .now) (c .before .before .before .before .pre .0), refl, refl, refl)
 
-part-end-requires : tie.Need-part-end-requires Inv-loop μ-loop
-part-end-requires c κs = (c .before .before .loop .inv .0 .within, omega arith)
+request-end-requires : tie.Need-request-end-requires Inv-loop μ-loop
+request-end-requires c κs = c .before .before .loop .inv .0 .within
 
 same-length : tie.Need-same-length Inv-loop μ-loop
 same-length c = c .before .before .before .before .loop .inv .1
@@ -31,16 +31,16 @@ same-length-3 : tie.Need-same-length-3 Inv-loop μ-loop
 same-length-3 c = c .before .before .before .before .loop .inv .3
 
 returns : tie.Need-returns Inv-loop μ-loop
-returns c = (c .before .before .before .before .loop .inv .0, stops-done (c .before .before .before .before .loop .inv .0) (c .before .part-end .ensures) (c .if2 .taken))
+returns c = (c .before .before .before .before .loop .inv .0, stops-done (c .before .before .before .before .loop .inv .0) (c .before .request-end .ensures) (c .if2 .taken))
 
 sub-reply-request : tie.Need-sub-reply-request Inv-loop μ-loop
-sub-reply-request c = c .before .before .part-end .ensures .low
+sub-reply-request c = c .before .before .request-end .ensures .low
 
 part-reply-request-start : tie.Need-part-reply-request-start Inv-loop μ-loop
-part-reply-request-start c = c .before .before .part-end .ensures .low
+part-reply-request-start c = c .before .before .request-end .ensures .low
 
 part-reply-request-end : tie.Need-part-reply-request-end Inv-loop μ-loop
-part-reply-request-end c = c .before .before .part-end .ensures .high
+part-reply-request-end c = c .before .before .request-end .ensures .high
 
 reply-request-requires : tie.Need-reply-request-requires Inv-loop μ-loop
 reply-request-requires c κs =
@@ -49,16 +49,16 @@ reply-request-requires c κs =
     (l .0 .valid, (omega (arith, l .1, room .numbers-fit), (omega (arith, l .2, room .list-fits), omega (arith, c .before .before .before .before .before .before .before .if1 .taken, l .3, room .out-fits))))
 
 add-t14 : tie.Need-add-t14 Inv-loop μ-loop
-add-t14 c = omega (arith, c .before .before .before .before .before .before .before .before .before .before .before .before .before .if2 .left, c .before .before .before .before .before .before .before .before .before .before .before .before .before .before .part-end .ensures .low, c .before .before .before .before .before .before .before .before .before .before .before .before .before .before .part-end .ensures .high, c .before .before .before .before .before .before .before .before .before .before .before .before .before .before .before .before .before .before .before .before .before .before .good .1 .0 .0)
+add-t14 c = omega (arith, c .before .before .before .before .before .before .before .before .before .before .before .before .before .if2 .left, c .before .before .before .before .before .before .before .before .before .before .before .before .before .before .request-end .ensures .low, c .before .before .before .before .before .before .before .before .before .before .before .before .before .before .request-end .ensures .high, c .before .before .before .before .before .before .before .before .before .before .before .before .before .before .before .before .before .before .before .before .before .before .good .1 .0 .0)
 
 loop-less : tie.Need-loop-less Inv-loop μ-loop
-loop-less c = omega (arith, c .before .before .before .before .before .before .before .before .before .before .before .before .before .if2 .left, c .before .before .before .before .before .before .before .before .before .before .before .before .before .before .part-end .ensures .low, c .before .before .before .before .before .before .before .before .before .before .before .before .before .before .part-end .ensures .high)
+loop-less c = omega (arith, c .before .before .before .before .before .before .before .before .before .before .before .before .before .if2 .left, c .before .before .before .before .before .before .before .before .before .before .before .before .before .before .request-end .ensures .low, c .before .before .before .before .before .before .before .before .before .before .before .before .before .before .request-end .ensures .high)
 
 loop-again : tie.Need-loop-again Inv-loop μ-loop
 loop-again c =
     let l = c .before .before .before .before .before .before .before .before .before .before .before .before .before .before .before .before .before .loop .inv in
     let r = c .before .before .before .before .before .before .before .reply-request in (
-      answers-more (l .0) (c .before .before .before .before .before .before .before .before .before .before .before .before .before .before .part-end .ensures) (omega (arith, c .before .before .before .before .before .before .before .before .before .before .before .before .before .if2 .left, c .before .before .before .before .before .before .before .before .before .before .before .before .before .before .part-end .ensures .high)) (r .ensures .0),
+      answers-more (l .0) (c .before .before .before .before .before .before .before .before .before .before .before .before .before .before .request-end .ensures) (omega (arith, c .before .before .before .before .before .before .before .before .before .before .before .before .before .if2 .left, c .before .before .before .before .before .before .before .before .before .before .before .before .before .before .request-end .ensures .high)) (r .ensures .0),
       r .kept .1 .1 .0 ∙ l .1,
       r .kept .1 .1 .1 .0 ∙ l .2,
       r .kept .1 .1 .1 .1 .0 ∙ l .3,
@@ -83,7 +83,7 @@ answer-requests-spec =
     Inv-loop
     μ-loop
     loop-holds
-    part-end-requires
+    request-end-requires
     same-length
     same-length-2
     same-length-3
