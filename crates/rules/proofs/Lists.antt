@@ -109,6 +109,9 @@ each-keep P f (a ∷ l) e = go (f a) refl (each-keep P f l (e .1))
     go true p r = ((e .0, p), r)
     go false p r = r
 
+pub keep-each : {A : Type 0} (P : A → Type 0) (f : A → Bool) (l : List A) → Each P l → Each P (keep f l)
+keep-each P f l e = each-map (λ a. P a × (f a ≡ true)) P (λ a p. p .0) (keep f l) (each-keep P f l e)
+
 -- what each member of a list made by place has, each place has, and the other way round
 pub each-tabulate :
     {A : Type 0} (P : A → Type 0) (f : ℕ → A) (k a : ℕ)

@@ -81,7 +81,7 @@ plan-valid s ss v m =
     = restarted-is (s .clock) (s .charges) ss (m .none-early) in
     still-valid s (s .clock) (s .next) new v (v .clock-high) (v .next-low) (v .next-high)
     (rw (restarted-length r) (v .few))
-    (restarted-each (ValidCharge (s .clock) (s .next))
+    (restarted-each (ValidCharge (limitsOf s) (s .clock) (s .next))
     (λ c u h p.
     record {
       ticket-low = p .ticket-low;
@@ -93,6 +93,10 @@ plan-valid s ss v m =
       ordered = p .ordered;
       not-early = omega (arith, p .ordered);
       unfinished = omega (arith, p .time-low);
+      rate-low = p .rate-low;
+      rate-high = p .rate-high;
+      within-limit = p .within-limit;
+      within-bound = p .within-bound;
     })
     r (v .each))
     (restarted-rising 1 r (v .rising))

@@ -77,12 +77,12 @@ pub step-valid : (s : State) (c : Call) → ValidState s → ValidState (step s 
 unfolding ordering moving offering replanningLatest replanningLines enquiring
 step-valid s (order line p d) v =
     answering-valid (firstOf (refusals s (order line p d))) s [] _ v
-    (λ e. go e (earliest (limitsOf s) (s .clock) (loadsOf (s .charges)) (draw line p)) refl)
+    (λ e. go e (earliest (limitsOf s) (s .clock) (loadsOf (s .charges)) (draw line p 1)) refl)
   where
     go :
         firstOf (refusals s (order line p d)) ≡ 0
         → (f : Found)
-        → earliest (limitsOf s) (s .clock) (loadsOf (s .charges)) (draw line p) ≡ f
+        → earliest (limitsOf s) (s .clock) (loadsOf (s .charges)) (draw line p 1) ≡ f
         → ValidState (orderedAt s (newCharge s line p d) f .state)
     go e (at start) f =
         order-valid s line p d start v (order-granted s line p d (refusals-none s (order line p d) e)) f
@@ -106,6 +106,6 @@ step-valid s (enquire ticket) v =
 pub order-found :
     (s : State) (line p : ℕ)
     → ValidState s
-    → (start : ℕ) × (earliest (limitsOf s) (s .clock) (loadsOf (s .charges)) (draw line p) ≡ at start)
+    → (start : ℕ) × (earliest (limitsOf s) (s .clock) (loadsOf (s .charges)) (draw line p 1) ≡ at start)
 order-found s line p v =
-    earliest-found (limitsOf s) (s .clock) (loadsOf (s .charges)) (draw line p) (v .limit-low) (v .bound-low) (v .sound-on)
+    earliest-found (limitsOf s) (s .clock) (loadsOf (s .charges)) (draw line p 1) (v .limit-low) (v .bound-low) (v .sound-on)

@@ -165,7 +165,7 @@ refusals s (enquire ticket) =
 -- "The order minute is the clock."
 abbrev pub newCharge : State → ℕ → ℕ → ℕ → ℕ → Charge
 newCharge s line p d start =
-    record { ticket = s .next; line = line; orderMinute = s .clock; time = p; due = d; start = start }
+    record { ticket = s .next; line = line; orderMinute = s .clock; time = p; due = d; start = start; rate = 1 }
 
 -- "No other start moves. .. Tickets rise by one."
 abbrev pub taking : State → Charge → State
