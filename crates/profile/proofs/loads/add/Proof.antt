@@ -17,13 +17,13 @@ larger-requires : tie.Need-larger-requires
 larger-requires c κs = search needs
 
 returns : tie.Need-returns
-returns c = add-none _ _ _ _ (c .before .before .before .pre .formed) (omega (arith, c .if1 .taken, c .before .larger .ensures))
+returns c = add-none _ _ _ _ _ (c .before .before .before .pre .formed) (omega (arith, c .if1 .taken, c .before .larger .ensures))
 
 returns-2 : tie.Need-returns-2
-returns-2 c = add-other _ _ _ _ (c .before .before .before .before .pre .formed) (λ h. omega (arith, h .low, c .if2 .taken))
+returns-2 c = add-other _ _ _ _ _ (c .before .before .before .before .pre .formed) (λ h. omega (arith, h .low, c .if2 .taken))
 
 returns-3 : tie.Need-returns-3
-returns-3 c = add-other _ _ _ _ (c .before .before .before .before .before .pre .formed) (λ h. omega (arith, h .high, c .if3 .taken))
+returns-3 c = add-other _ _ _ _ _ (c .before .before .before .before .before .pre .formed) (λ h. omega (arith, h .high, c .if3 .taken))
 
 split-requires : tie.Need-split-requires
 split-requires c κs = search needs
