@@ -1,6 +1,6 @@
 -- What the orders of held charges need of their numbers.
 use Prim.Native.Nat.{ℕ, _+_, _≤_, _<_}
-use Rattle.rules.specs.Load.{IsLine}
+use Rattle.rules.specs.Load.{IsLine, IsRate}
 use Rattle.rules.specs.Charge.{Charge}
 use Rattle.charges.specs.declared.Charges.{Charges}
 use Rattle.charges.specs.Arrays.{chargeAt, Columns}
@@ -9,14 +9,13 @@ use Rattle.charges.specs.Arrays.{chargeAt, Columns}
 abbrev pub Rising : Charges → Type 0
 Rising c = (i : ℕ) → i + 1 < c .held → chargeAt c i .ticket < chargeAt c (i + 1) .ticket
 
--- "No held time reaches 100,000,000.", and a rate is 1 or 2
+-- "No held time reaches 100,000,000."
 pub record Small (x : Charge) : Type 0 where
   pub on-line : IsLine (x .line)
   pub time-most : x .time ≤ 1440
   pub due-most : x .due ≤ 2000000
   pub start-most : x .start < 100000000
-  pub rate-low : 1 ≤ x .rate
-  pub rate-most : x .rate ≤ 2
+  pub is-rate : IsRate (x .rate)
 
 -- what the orders need of the charges, whatever the clock
 pub record Listed (c : Charges) : Type 0 where

@@ -10,7 +10,7 @@ use lib.ListN.{length, getD, set, replicate, length-set, length-append}
 use lib.Seq.{getD-set-same, getD-set-other}
 use borrow.Author.Tests.{eqb-true, eqb-false}
 use Rattle.rules.specs.Basics.{Found, at, nothing}
-use Rattle.rules.specs.Load.{lastUntil}
+use Rattle.rules.specs.Load.{IsRate, lastUntil}
 use Rattle.rules.specs.Charge.{Charge, starting, drawOf, loadsOf}
 use Rattle.rules.specs.Search.{added}
 use Rattle.rules.specs.Replan.{stuck, placeAll, startIn}
@@ -102,6 +102,9 @@ module _ {find : List Charge → Charge → Found} {clock : ℕ} {c : Charges} {
           u .room,
         )
 
+    next-rated : IsRate (chargeIn c q k .rate)
+    next-rated = h .small (placeAt q k) (next-inside h (u .places) low) .is-rate
+
     pub next-can-start : CanStart p (chargeIn c q k .time)
     next-can-start =
         shown-can-start (v .plan .shows) (chargeIn c q k .time) plan-few
@@ -112,9 +115,9 @@ module _ {find : List Charge → Charge → Found} {clock : ℕ} {c : Charges} {
         v .whole ∙ rw turn (place-stuck find (v .placed) (chargeIn c q k) (queueFrom c q (k + 1)) e)
 
     module _ (near : Near clock (begunOf clock c) find) {s : ℕ} (found : find (v .placed) (chargeIn c q k) ≡ at s) where
-      pub next-can-add : CanAdd p (chargeIn c q k .time) s
+      pub next-can-add : CanAdd p (chargeIn c q k .time) (chargeIn c q k .rate) s
       next-can-add =
-          shown-can-add (v .plan .shows) (chargeIn c q k .time) s plan-few
+          shown-can-add (v .plan .shows) (chargeIn c q k .time) (chargeIn c q k .rate) s plan-few next-rated
           (omega (
             arith,
             near (v .placed) (chargeIn c q k) s found,
@@ -158,7 +161,7 @@ module _ {find : List Charge → Charge → Found} {clock : ℕ} {c : Charges} {
 
       pub next-placed :
           {p′ : Profile}
-          → LoadAdded p p′ (chargeIn c q k .line) (chargeIn c q k .time) s
+          → LoadAdded p p′ (chargeIn c q k .line) (chargeIn c q k .time) (chargeIn c q k .rate) s
           → PlacedSoFar find clock c q (k + 1) p′ (set starts (placeAt q k) s)
       next-placed a =
           let many : length (v .placed ++ (starting (chargeIn c q k) s ∷ [])) ≡ length (v .placed) + 1 =
@@ -171,7 +174,7 @@ module _ {find : List Charge → Charge → Found} {clock : ℕ} {c : Charges} {
             many = many ∙ ap (λ (m : ℕ). m + 1) (v .many);
             plan =
                 record {
-                  shows = rw grown (added-shows a clock (loadsOf (begunOf clock c ++ v .placed)) (v .plan .shows));
+                  shows = rw grown (added-shows next-rated a clock (loadsOf (begunOf clock c ++ v .placed)) (v .plan .shows));
                   stored = stored-on;
                   size = length-set starts (placeAt q k) s ∙ v .plan .size;
                   ends =

@@ -129,7 +129,7 @@ module _ {p p₁ q : Profile} {time rate start from i j : ℕ} (can : CanAdd p t
     pub raise-can :
         (length (q .counts) ≡ columns * mostSteps) × IsLine line × (i ≤ j) × (j ≤ mostSteps) × ((m : ℕ) → m < j → lineOf q line m + rate < 2 ^ 32)
     raise-can =
-        (s₂ .formed .counts-size, hl, order, omega (arith, s₂ .below, s₂ .formed .fits), λ m a. omega (arith, can .rate-fits, small line hl m (omega (arith, s₂ .below))))
+        (s₂ .formed .counts-size, hl, order, omega (arith, s₂ .below, s₂ .formed .fits), λ m a. omega (arith, can .is-rate .high, small line hl m (omega (arith, s₂ .below))))
 
   module _ (line : ℕ) (r : Profile) (en : r .steps ≡ q .steps) (ea : r .at ≡ q .at) {on : ℕ} (raised : RaisedIn (q .counts) (r .counts) on rate i j) (same : on ≡ line) where
     ra : RaisedIn (q .counts) (r .counts) line rate i j

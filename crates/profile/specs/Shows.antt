@@ -6,7 +6,7 @@ use mathlib.Core.List.{List}
 use lib.Dec.{eqb}
 use lib.ListN.{length, getD}
 use Rattle.rules.specs.Basics.{Found, at, nothing, Each}
-use Rattle.rules.specs.Load.{draw, Load, loadFrom, IsLine, draws, count, lastUntil}
+use Rattle.rules.specs.Load.{draw, Load, loadFrom, IsLine, IsRate, draws, count, lastUntil}
 use Rattle.rules.specs.Search.{added}
 use Rattle.profile.specs.Steps.{mostSteps, columns, levelAt, lineIn, Rising}
 use Rattle.profile.specs.declared.Profile.{Profile}
@@ -52,13 +52,12 @@ pub record Formed (p : Profile) : Type 0 where
 abbrev pub mostDrawn : ℕ
 mostDrawn = 360
 
--- "Each order states a rate, 1 or 2."
-abbrev pub Light : Load → Type 0
-Light x = x .rate ≤ 2
+abbrev pub Rated : Load → Type 0
+Rated x = IsRate (x .rate)
 
 pub record Shows (p : Profile) (clock : ℕ) (loads : List Load) : Type 0 where
   pub formed : Formed p
-  pub light : Each Light loads
+  pub rated : Each Rated loads
   pub few : p .steps ≤ 1 + 2 * length loads
   pub starts : getD (p .at) 0 0 ≡ clock
   pub ends : (i : ℕ) → i < p .steps → getD (p .at) i 0 ≤ max clock (lastUntil loads)
@@ -95,7 +94,7 @@ pub record CanAdd (p : Profile) (time rate start : ℕ) : Type 0 where
   pub formed : Formed p
   pub small : Small p
   pub room : p .steps + 2 ≤ mostSteps
-  pub rate-fits : rate ≤ 2
+  pub is-rate : IsRate rate
   pub ends-fit : start + time < 2 ^ 32
 
 -- q is p with one more load: each line has its level and what the load draws, in every minute from the first on

@@ -69,8 +69,7 @@ valid-later y clock later next more c h j unfinished v =
       ordered = omega (arith, v .ordered);
       not-early = v .not-early;
       unfinished = unfinished;
-      rate-low = v .rate-low;
-      rate-high = v .rate-high;
+      rate = v .rate;
       within-limit = v .within-limit;
       within-bound = v .within-bound;
     }
@@ -102,8 +101,7 @@ order-valid s line p d start v g f =
         ordered = omega arith;
         not-early = low;
         unfinished = omega (arith, g .time-low);
-        rate-low = omega arith;
-        rate-high = omega arith;
+        rate = record { low = omega arith; high = omega arith };
         within-limit = v .limit-low;
         within-bound = v .bound-low;
       },

@@ -93,8 +93,7 @@ plan-valid s ss v m =
       ordered = p .ordered;
       not-early = omega (arith, p .ordered);
       unfinished = omega (arith, p .time-low);
-      rate-low = p .rate-low;
-      rate-high = p .rate-high;
+      rate = p .rate;
       within-limit = p .within-limit;
       within-bound = p .within-bound;
     })

@@ -65,6 +65,11 @@ pub record IsLine (l : ℕ) : Type 0 where
   pub low : 1 ≤ l
   pub high : l ≤ 3
 
+-- "Each order states a rate, 1 or 2."
+pub record IsRate (r : ℕ) : Type 0 where
+  pub low : 1 ≤ r
+  pub high : r ≤ 2
+
 -- f holds on lines 1 to 3
 abbrev pub onLines : (ℕ → Bool) → Bool
 onLines f = throughout f 3 1

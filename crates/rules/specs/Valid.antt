@@ -6,7 +6,7 @@ use mathlib.Core.Bool.{true}
 use mathlib.Core.List.{List, [], _∷_}
 use lib.ListN.{length}
 use Rattle.rules.specs.Basics.{Each}
-use Rattle.rules.specs.Load.{IsLine, Limits, sound}
+use Rattle.rules.specs.Load.{Limits, IsLine, IsRate, sound}
 use Rattle.rules.specs.Charge.{Charge, endOf, loadsOf, lastEnd}
 use Rattle.rules.specs.Calls.{places, State, boundOf, limitsOf}
 
@@ -21,8 +21,7 @@ pub record ValidCharge (y : Limits) (clock next : ℕ) (c : Charge) : Type 0 whe
   pub ordered : c .orderMinute ≤ clock
   pub not-early : c .orderMinute ≤ c .start
   pub unfinished : clock < endOf c
-  pub rate-low : 1 ≤ c .rate
-  pub rate-high : c .rate ≤ 2
+  pub rate : IsRate (c .rate)
   pub within-limit : c .rate ≤ y .limit
   pub within-bound : c .rate ≤ y .bound
 

@@ -8,7 +8,7 @@ use profile::counts::smaller;
 ghost use mathlib.Core.Path.{_≡_};
 ghost use mathlib.Core.Bool.{cond};
 ghost use Prim.Native.Nat.{_+_, _*_, _≤_};
-ghost use Rattle.rules.specs.Load.{IsLine, share, limits, soundCounts};
+ghost use Rattle.rules.specs.Load.{IsLine, IsRate, share, limits, soundCounts};
 ghost use Rattle.profile.specs.Steps.{mostSteps, columns, lineIn};
 ghost use Rattle.profile.specs.Shows.{ofLines};
 ghost use lib.ListN.{length};
@@ -53,7 +53,7 @@ pub fn rooms_within<'a>(
     line: u32,
     rate: u32,
 ) -> [u32; STEPS]
-    requires { ⌜ (n ≤ mostSteps) × SmallSteps (now counts) n × (rate ≤ 2) ⌝ }
+    requires { ⌜ (n ≤ mostSteps) × SmallSteps (now counts) n × IsRate rate ⌝ }
     ensures { λ r. ⌜ RoomsWithin (now (counts .entry)) n limit bound line rate r ⌝ }
 {
     let mut rooms = [0u32; STEPS];

@@ -12,7 +12,7 @@ use profile::counts::larger;
 use profile::counts::smaller;
 ghost use mathlib.Core.Path.{_≡_};
 ghost use Prim.Native.Nat.{_-_, _≤_, max};
-ghost use Rattle.rules.specs.Load.{IsLine};
+ghost use Rattle.rules.specs.Load.{IsLine, IsRate};
 ghost use Rattle.profile.specs.Shows.{profileOf, Formed};
 ghost use Rattle.search.specs.Starts.{EndsEmpty, CanStart, UnsoundWithin, EarliestStart};
 ghost use Rattle.search.specs.Caps.{capsIn, CanCap, EarliestStartUnder};
@@ -72,7 +72,7 @@ pub fn earliest<'a>(
     time: u32,
     rate: u32,
 ) -> When
-    requires { ⌜ CanStart (profileOf n (now at) (now counts)) time × (rate ≤ 2) × (rate ≤ limit) × (rate ≤ bound) ⌝ }
+    requires { ⌜ CanStart (profileOf n (now at) (now counts)) time × IsRate rate × (rate ≤ limit) × (rate ≤ bound) ⌝ }
     ensures { λ r. ⌜ EarliestStart (profileOf n (now (at .entry)) (now (counts .entry))) limit bound line time rate r ⌝ }
 {
     let clock = at[0];
