@@ -97,31 +97,32 @@ abbrev pub begunBelow : ℕ → Charges → ℕ → List Charge
 begunBelow before c i = begunCharges before (tabulate (chargeAt c) i 0)
 
 module _ (before : ℕ) (c : Charges) (i : ℕ) {clock : ℕ} {p : Profile} (s : Shows p clock (loadsOf (begunBelow before c i))) where
-  pub begun-can-add : c .held ≤ 180 → EndsFit c → Rated c → i < c .held → CanAdd p (chargeAt c i .time) (chargeAt c i .rate) (chargeAt c i .start)
-  begun-can-add few ends rated low =
-      shown-can-add s (chargeAt c i .time) (chargeAt c i .rate) (chargeAt c i .start)
+  pub begun-can-add : {rate : ℕ} → c .held ≤ 180 → EndsFit c → IsRate rate → i < c .held → CanAdd p (chargeAt c i .time) rate (chargeAt c i .start)
+  begun-can-add {rate} few ends rated low =
+      shown-can-add s (chargeAt c i .time) rate (chargeAt c i .start)
       (omega (
         arith,
         length-loads-of (begunBelow before c i),
         keep-length (isBegun before) (tabulate (chargeAt c) i 0),
         length-tabulate (chargeAt c) i 0,
       ))
-      (rated i low) (ends i low)
+      rated (ends i low)
 
   pub begun-on :
-      {q r : Profile}
+      {q r : Profile} {rate : ℕ}
       → IsRate (chargeAt c i .rate)
       → chargeAt c i .start < before
-      → LoadAdded p q (chargeAt c i .line) (chargeAt c i .time) (chargeAt c i .rate) (chargeAt c i .start)
+      → LoadAdded p q (chargeAt c i .line) (chargeAt c i .time) rate (chargeAt c i .start)
+      → rate ≡ chargeAt c i .rate
       → r ≡ q
       → Shows r clock (loadsOf (begunBelow before c (i + 1)))
-  begun-on rated j a e =
+  begun-on rated j a whole e =
       rw (
         e,
         keep-hit (isBegun before) (chargeAt c) i (lt-ltb (chargeAt c i .start) before j),
         loads-append (begunBelow before c i) (chargeAt c i ∷ []),
       )
-      (added-shows rated a clock (loadsOf (begunBelow before c i)) s)
+      (added-shows rated (rw whole at a) clock (loadsOf (begunBelow before c i)) s)
 
   pub begun-past : {r : Profile} → before ≤ chargeAt c i .start → r ≡ p → Shows r clock (loadsOf (begunBelow before c (i + 1)))
   begun-past j e = rw (e, keep-miss (isBegun before) (chargeAt c) i (le-ltb (chargeAt c i .start) before j)) s

@@ -124,16 +124,16 @@ module _ {p p₁ q : Profile} {time rate start from i j : ℕ} (can : CanAdd p t
       small-step q (s₂ .formed)
       (λ l hl t a. omega (arith, same-level l hl t (omega (arith, s₁ .starts, s₂ .starts)), can .small l hl t (omega (arith, s₁ .starts, s₂ .starts))))
 
-  module _ {line : ℕ} (hl : IsLine line) where
+  module _ {line more : ℕ} (hl : IsLine line) (few : more ≤ 2) where
     -- the line of q may be raised
     pub raise-can :
-        (length (q .counts) ≡ columns * mostSteps) × IsLine line × (i ≤ j) × (j ≤ mostSteps) × ((m : ℕ) → m < j → lineOf q line m + rate < 2 ^ 32)
+        (length (q .counts) ≡ columns * mostSteps) × IsLine line × (i ≤ j) × (j ≤ mostSteps) × ((m : ℕ) → m < j → lineOf q line m + more < 2 ^ 32)
     raise-can =
-        (s₂ .formed .counts-size, hl, order, omega (arith, s₂ .below, s₂ .formed .fits), λ m a. omega (arith, can .is-rate .high, small line hl m (omega (arith, s₂ .below))))
+        (s₂ .formed .counts-size, hl, order, omega (arith, s₂ .below, s₂ .formed .fits), λ m a. omega (arith, small line hl m (omega (arith, s₂ .below))))
 
-  module _ (line : ℕ) (r : Profile) (en : r .steps ≡ q .steps) (ea : r .at ≡ q .at) {on : ℕ} (raised : RaisedIn (q .counts) (r .counts) on rate i j) (same : on ≡ line) where
+  module _ (line : ℕ) (r : Profile) (en : r .steps ≡ q .steps) (ea : r .at ≡ q .at) {on by : ℕ} (raised : RaisedIn (q .counts) (r .counts) on by i j) (same : on ≡ line) (whole : by ≡ rate) where
     ra : RaisedIn (q .counts) (r .counts) line rate i j
-    ra = rw (← same) raised
+    ra = rw (← same, ← whole) raised
 
     -- clipped to the clock, the load is the same in every minute from there on
     clipped : (u : ℕ) → getD (p .at) 0 0 ≤ u → leb from u ≡ leb start u

@@ -137,8 +137,8 @@ smaller-room p t u h =
 pub caps-other : (c : LineCaps) (line t v : ℕ) → Whole c → (IsLine line → ⊥) → CapLowered c c line t v
 caps-other c line t v size not = record { size = size; gone = λ h. absurd (not h); kept = λ l h k u n. refl }
 
-pub caps-lowered : {c d : LineCaps} {line t v on : ℕ} → t < 4294967295 → Lowered (c .caps) (d .caps) on t (v + 1) → on ≡ line → CapLowered c d line t v
-caps-lowered {c} {d} {line} {t} {v} small done same =
+pub caps-lowered : {c d : LineCaps} {line t v on above : ℕ} → t < 4294967295 → Lowered (c .caps) (d .caps) on t above → on ≡ line → above ≡ v + 1 → CapLowered c d line t v
+caps-lowered {c} {d} {line} {t} {v} small done same next =
     record {
       size = x .size;
       gone = λ h k u a b. ap (λ (y : ℕ). hasRoom y u) (x .after k (omega arith)) ∙ room-after (min (capsOf c line k) t) u (omega arith) (omega arith);
@@ -150,7 +150,7 @@ caps-lowered {c} {d} {line} {t} {v} small done same =
     }
   where
     x : Lowered (c .caps) (d .caps) line t (v + 1)
-    x = rw (← same) done
+    x = rw (← same, ← next) done
 
     own : (k u : ℕ) → (v < k → t ≤ u → ⊥) → (v < k) ⊎ (k ≤ v) → (u < t) ⊎ (t ≤ u) → hasRoom (capsOf d line k) u ≡ hasRoom (capsOf c line k) u
     own k u n (inr a) b = ap (λ (y : ℕ). hasRoom y u) (x .before k (omega arith))

@@ -26,9 +26,9 @@ pub under-none : (counts caps : ℕ → ℕ) (rate : ℕ) (rooms : List ℕ) →
 under-none counts caps rate rooms h = record { filled = record { size = h; each = λ i b. absurd (omega arith) } }
 
 pub under-more :
-    {counts caps : ℕ → ℕ} {rate : ℕ} {rooms : List ℕ} {n v : ℕ} → RoomsUnder counts caps rate n rooms → n < mostSteps → v ≡ caps (counts n + rate) →
+    {counts caps : ℕ → ℕ} {rate : ℕ} {rooms : List ℕ} {n v k : ℕ} → RoomsUnder counts caps rate n rooms → n < mostSteps → v ≡ caps k → k ≡ counts n + rate →
     RoomsUnder counts caps rate (n + 1) (set rooms n v)
-under-more w h e = record { filled = filled-more (w .filled) h e }
+under-more {caps = caps} w h e same = record { filled = filled-more (w .filled) h (e ∙ ap caps same) }
 
 module _ {p : Profile} {c : LineCaps} {line time rate : ℕ} {rooms : List ℕ} (can : CanStart p time) (h : IsLine line) (full : CanCap c line rate)
     (w : RoomsUnder (lineOf p line) (capsOf c line) rate (p .steps) rooms) where

@@ -8,7 +8,7 @@ use Rattle.profile.specs.Shows.{profileOf}
 use Rattle.planner.specs.Ready.{begunOf}
 use Rattle.planner.proofs.Showing.{listed-ends, listed-rates}
 use Rattle.planner.proofs.Queueing.{queue-latest-start}
-use Rattle.planner.proofs.Plans.{PlacedSoFar, placed-start, placed-end, next-inside, next-below, next-can-start}
+use Rattle.planner.proofs.Plans.{PlacedSoFar, placed-start, placed-end, next-inside, next-below, next-rated, next-can-start}
 use Rattle.planner.proofs.Finding.{sound-stuck, sound-can-add, sound-placed}
 use Rattle.planner.proofs.Proposing.{latest-none, latest-starts}
 use Rattle.planner.proofs.latest.latest.Statement.{statement}
@@ -67,7 +67,7 @@ earliest-requires c κs =
     let low = c .before .before .before .before .before .before .loop-test .taken in
     let inside = next-inside (r .listed) (u .places) low in (
       next-can-start (r .listed) u (c .before .before .before .before .before .before .before .loop .inv .1) low,
-      r .listed .small _ inside .is-rate,
+      next-rated (r .listed) (u .places) low,
       r .within-limit _ inside,
       r .within-bound _ inside,
     )
@@ -95,7 +95,7 @@ add-requires : tie.Need-add-requires Inv-loop μ-loop
 add-requires c κs =
     let r = c .before .before .before .before .before .before .before .before .before .before .before .before .before .before .before .before .before .before .pre in
     sound-can-add r (queue-latest-start (r .listed) (c .before .before .before .before .before .before .before .before .before .before .before .before .before .before .before .before .before .by-latest-start .ensures)) (c .before .before .before .before .before .before .before .before .before .before .before .before .before .loop .inv .1)
-    (c .before .before .before .before .before .before .before .before .before .before .before .before .loop-test .taken) _ (c .before .before .before .before .before .earliest .ensures) (c .before .before .before .found .given .1)
+    (c .before .before .before .before .before .before .before .before .before .before .before .before .loop-test .taken) _ (c .before .before .before .before .before .earliest .ensures) (c .before .before .before .found .given .1) (omega (arith, next-rated (r .listed) (c .before .before .before .before .before .before .before .before .before .before .before .before .before .before .before .before .before .by-latest-start .ensures .places) (c .before .before .before .before .before .before .before .before .before .before .before .before .loop-test .taken)))
 
 mul-by-place : tie.Need-mul-by-place Inv-loop μ-loop
 mul-by-place c = omega (arith, next-below (c .before .before .before .before .before .before .before .before .before .before .before .before .before .before .before .before .before .before .before .pre .listed) (c .before .before .before .before .before .before .before .before .before .before .before .before .before .before .before .before .before .before .by-latest-start .ensures .places) (c .before .before .before .before .before .before .before .before .before .before .before .before .before .loop-test .taken))
@@ -120,7 +120,7 @@ loop-again c =
     let r = c .before .before .before .before .before .before .before .before .before .before .before .before .before .before .before .before .before .before .before .pre in (
       omega (arith, c .before .before .before .before .before .before .before .before .before .before .before .before .before .loop-test .taken),
       sound-placed r (queue-latest-start (r .listed) (c .before .before .before .before .before .before .before .before .before .before .before .before .before .before .before .before .before .before .by-latest-start .ensures)) (c .before .before .before .before .before .before .before .before .before .before .before .before .before .before .loop .inv .1)
-          (c .before .before .before .before .before .before .before .before .before .before .before .before .before .loop-test .taken) _ (c .before .before .before .before .before .before .earliest .ensures) (c .before .before .before .before .found .given .1) (c .add .ensures),
+          (c .before .before .before .before .before .before .before .before .before .before .before .before .before .loop-test .taken) _ (c .before .before .before .before .before .before .earliest .ensures) (c .before .before .before .before .found .given .1) (c .add .ensures) (omega arith),
     )
 
 waiting-starts-requires : tie.Need-waiting-starts-requires Inv-loop μ-loop

@@ -8,7 +8,7 @@ use Rattle.search.specs.Caps.{CapsShown}
 use Rattle.search.proofs.Lowerings.{can-cap}
 use Rattle.planner.specs.Ready.{begunOf}
 use Rattle.planner.proofs.Queueing.{queue-line-by-line, queue-whole}
-use Rattle.planner.proofs.Plans.{PlacedSoFar, placed-start, placed-end, next-inside, next-below, next-can-start}
+use Rattle.planner.proofs.Plans.{PlacedSoFar, placed-start, placed-end, next-inside, next-below, next-rated, next-can-start}
 use Rattle.planner.proofs.Finding.{capped-can-add, capped-placed}
 use Rattle.planner.proofs.lines.place_lines.Statement.{statement}
 use Rattle.planner.proofs.lines.place_lines.Tie as tie
@@ -72,7 +72,7 @@ add-requires c κs =
     let s = c .before .before .before .before .before .before .before .before .before .before .before .before .before .before .before in
     let w = s .pre .4 in
     capped-can-add (w .shown) (s .pre .0) (queue-line-by-line (s .pre .0) (s .pre .2)) (c .before .before .before .before .before .before .before .before .before .before .before .before .loop .inv .1 (w .cap) (w .shown))
-    (c .before .before .before .before .before .before .before .before .before .before .before .loop-test .taken) (c .before .before .earliest-under .ensures)
+    (c .before .before .before .before .before .before .before .before .before .before .before .loop-test .taken) (c .before .before .earliest-under .ensures) (omega (arith, next-rated (s .pre .0) (s .pre .2 .places) (c .before .before .before .before .before .before .before .before .before .before .before .loop-test .taken)))
 
 mul-by-place : tie.Need-mul-by-place Inv-loop μ-loop
 mul-by-place c = omega (arith, next-below (c .before .before .before .before .before .before .before .before .before .before .before .before .before .before .before .before .pre .0) (c .before .before .before .before .before .before .before .before .before .before .before .before .before .before .before .before .pre .2 .places) (c .before .before .before .before .before .before .before .before .before .before .before .before .loop-test .taken))
@@ -92,7 +92,7 @@ loop-again c =
       omega (arith, c .before .before .before .before .before .before .before .before .before .before .before .before .loop-test .taken),
       λ cap shown.
           capped-placed shown (s .pre .0) (queue-line-by-line (s .pre .0) (s .pre .2)) (c .before .before .before .before .before .before .before .before .before .before .before .before .before .loop .inv .1 cap shown)
-          (c .before .before .before .before .before .before .before .before .before .before .before .before .loop-test .taken) (c .before .before .before .earliest-under .ensures) (c .add .ensures),
+          (c .before .before .before .before .before .before .before .before .before .before .before .before .loop-test .taken) (c .before .before .before .earliest-under .ensures) (c .add .ensures) (omega arith),
     )
 
 returns : tie.Need-returns Inv-loop μ-loop

@@ -1,6 +1,6 @@
 -- `search::room::rooms_under` meets its contract. The invariant: the first i places are as they should be.
-use Prim.Native.Nat.{ℕ, _+_, _-_, _≤_}
-use mathlib.Core.Path.{_≡_, refl, _∙_, ap, subst}
+use Prim.Native.Nat.{ℕ, _-_, _≤_}
+use mathlib.Core.Path.{_≡_, refl, subst}
 use native.Mathlib.Omega.{arith}
 use Rattle.profile.specs.Steps.{lineIn}
 use Rattle.search.specs.Caps.{RoomsUnder}
@@ -36,7 +36,7 @@ loop-less : tie.Need-loop-less Inv-loop μ-loop
 loop-less c = omega arith
 
 loop-again : tie.Need-loop-again Inv-loop μ-loop
-loop-again c = (omega arith, under-more (c .before .before .before .loop .inv .1) (omega arith) (c .under .ensures ∙ ap (λ (x : ℕ). lineIn (c .before .before .before .before .args .caps .now) (c .before .before .before .before .args .line) (x + c .before .before .before .before .args .rate)) (c .before .count-of .ensures)))
+loop-again c = (omega arith, under-more (c .before .before .before .loop .inv .1) (omega arith) (c .under .ensures) (omega (arith, c .before .count-of .ensures)))
 
 returns : tie.Need-returns Inv-loop μ-loop
 returns c =

@@ -18,7 +18,7 @@ lower-requires : tie.Need-lower-requires
 lower-requires c κs = search needs
 
 returns-3 : tie.Need-returns-3
-returns-3 c = caps-lowered (c .before .before .before .before .pre .1) (c .lower .ensures) (omega arith)
+returns-3 c = caps-lowered (c .before .before .before .before .pre .1) (c .lower .ensures) (omega arith) (omega arith)
 
 pub lower-spec : {M : Type 1} → statement M
 lower-spec = tie.close (tie.spec returns returns-2 add-lower lower-requires returns-3)
