@@ -16,3 +16,4 @@ pub mod Ends
 pub mod Changes
 pub mod Restarts
 pub mod Validity
+pub mod Earlier

@@ -5,7 +5,9 @@ pub mod Search
 pub mod Replan
 pub mod Judgement
 pub mod Calls
+pub mod Earlier
 pub mod Valid
 pub mod Entry
 pub mod CasesAToL
 pub mod CasesAtEdges
+pub mod CasesPreviewed
