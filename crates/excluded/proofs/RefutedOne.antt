@@ -13,7 +13,7 @@ use Rattle.rules.proofs.Granted.{refusals-none}
 use Rattle.guarantee.specs.Past.{Gives}
 use Rattle.guarantee.specs.DemandOne.{DemandOne, DemandOneOpening}
 use Rattle.excluded.specs.WrongOrders.{shownAsWaiting, anySoundStart, shownIgnored}
-use Rattle.excluded.specs.WrongRefusals.{lineAccepted, highestNumber, shownFirst, otherNumber, alwaysFull, standstillRefused, ticketUsedUp, listCleared, ticketNotSaid, smallProduct, openedAsAsked, openingWrites, limitSaid, percentLost}
+use Rattle.excluded.specs.WrongRefusals.{lineAccepted, highestNumber, shownFirst, otherNumber, alwaysFull, hurryRefused, standstillRefused, ticketUsedUp, listCleared, ticketNotSaid, smallProduct, openedAsAsked, openingWrites, limitSaid, percentLost}
 use Rattle.excluded.specs.Stations.{station}
 use Rattle.guarantee.proofs.Tables.{firstOf-is, is-firstOf}
 
@@ -73,6 +73,12 @@ shown-first d =
 always-full : DemandOne alwaysFull station (preview 1 10 60) → ⊥
 always-full d =
     let h : _≡_ {A = ℕ} 0 13 = is-firstOf 13 (refusals station (preview 1 10 60)) (d .refused-by .number 13 .0 refl) in
+    omega arith
+
+-- `number`: no condition looks at how soon a charge is due
+hurry-refused : DemandOne hurryRefused station (preview 1 10 9) → ⊥
+hurry-refused d =
+    let h : _≡_ {A = ℕ} 0 7 = is-firstOf 7 (refusals station (preview 1 10 9)) (d .refused-by .number 7 .0 refl) in
     omega arith
 
 -- `number`: the target is not below the clock

@@ -3,7 +3,7 @@ use mathlib.Core.List.{List, [], _∷_, _++_, map}
 use Rattle.rules.specs.Entry.{lentList}
 use Rattle.rules.specs.Calls.{settings, preview, commit, move, opening, step}
 use Rattle.excluded.specs.WrongOrders.{shownAsWaiting, anySoundStart, shownIgnored}
-use Rattle.excluded.specs.WrongRefusals.{lineAccepted, highestNumber, shownFirst, otherNumber, alwaysFull, standstillRefused, ticketUsedUp, listCleared, ticketNotSaid, smallProduct, openedAsAsked, openingWrites, limitSaid, percentLost}
+use Rattle.excluded.specs.WrongRefusals.{lineAccepted, highestNumber, shownFirst, otherNumber, alwaysFull, hurryRefused, standstillRefused, ticketUsedUp, listCleared, ticketNotSaid, smallProduct, openedAsAsked, openingWrites, limitSaid, percentLost}
 use Rattle.excluded.specs.Stations.{station}
 use Rattle.excluded.specs.Breaks.{Entry, computedBy, onlyOf}
 use Rattle.excluded.specs.FieldsOne.{Field, number, same-station, same-list, answered, fields, place, Trial, calledOn, openedBy, tested}
@@ -28,6 +28,7 @@ wrongCalls =
     ∷ only (calledOn shownFirst station (commit 4 10 60 3)) (number ∷ [])
     -- a call that is refused where no condition applies has no answer of its own kind either
     ∷ only (calledOn alwaysFull station (preview 1 10 60)) (number ∷ answered ∷ [])
+    ∷ only (calledOn hurryRefused station (preview 1 10 9)) (number ∷ answered ∷ [])
     ∷ only (calledOn standstillRefused station (move 0 lentList)) (number ∷ answered ∷ [])
     ∷ only (calledOn ticketUsedUp station (commit 4 10 60 0)) (same-station ∷ [])
     ∷ only (calledOn listCleared station (move 0 (7 ∷ []))) (same-list ∷ [])

@@ -1,12 +1,12 @@
 -- Wrong stations: refusals and openings that differ from the rules in one thing.
-use Prim.Native.Nat.{ℕ, suc}
+use Prim.Native.Nat.{ℕ, suc, _+_}
 use mathlib.Core.Bool.{Bool, cond, _||_}
 use mathlib.Core.List.{List, [], _∷_, _++_, map}
 use lib.Dec.{ltb, eqb}
 use Rattle.rules.specs.Basics.{firstOf, keep, sortedBy}
-use Rattle.rules.specs.Calls.{Settings, settings, State, refused, opened, waiting, Result, answering, boundOf, fresh, openRefusals, opening, refusals, committing, moving, step}
+use Rattle.rules.specs.Calls.{Settings, settings, State, refused, opened, waiting, Result, answering, boundOf, fresh, openRefusals, opening, refusals, previewing, committing, moving, step}
 use Rattle.guarantee.specs.Past.{Gives, isRefused}
-use Rattle.excluded.specs.Parts.{withRefusals, withCommits, withMoves, unnumbered, saying, leaving, writing, ticketing}
+use Rattle.excluded.specs.Parts.{withRefusals, withPreviews, withCommits, withMoves, unnumbered, saying, leaving, writing, ticketing}
 
 -- line 4 is accepted
 abbrev pub lineAccepted : Gives
@@ -27,6 +27,13 @@ otherNumber = withRefusals (λ s c. map (λ row. (row .0, cond (eqb (row .1) 16)
 -- a station full from the start
 abbrev pub alwaysFull : Gives
 alwaysFull = withRefusals (λ s c. map (λ row. (eqb (row .1) 13 || row .0, row .1)) (refusals s c))
+
+-- a due minute that cannot be met is refused, with the number that has ended
+abbrev pub hurryRefused : Gives
+hurryRefused =
+    withPreviews
+    (λ s line p d.
+    cond (ltb d (s .clock + p)) (record { answer = refused 7; state = s; list = [] }) (previewing s line p d))
 
 -- a refusal that no condition names: a move to the clock itself
 abbrev pub standstillRefused : Gives

@@ -1,6 +1,6 @@
 -- What holds of a call to which no refusal applies, read by name.
 use mathlib.Core.Path.{_≡_, refl, sym, ap}
-use Prim.Native.Nat.{ℕ, _+_, _*_, _≤_, _<_}
+use Prim.Native.Nat.{ℕ, _*_, _≤_, _<_}
 use mathlib.Core.Bool.{true, false, not, true≢false}
 use mathlib.Core.List.{List, [], _∷_}
 use native.Mathlib.Omega.{arith}
@@ -56,12 +56,11 @@ pub record OrderGranted (s : State) (line p d : ℕ) : Type 0 where
   pub time-low : 1 ≤ p
   pub time-high : p ≤ 1440
   pub due-high : d ≤ 2000000
-  pub in-time : s .clock + p ≤ d
   pub room : length (s .charges) < 180
   pub ticket-left : s .next ≤ 65535
 
 pub order-granted : (s : State) (line p d : ℕ) → NoneHolds (orderRefusals s line p d) → OrderGranted s line p d
-order-granted s line p d (on, (time, (due, (soon, (full, (given, end)))))) =
+order-granted s line p d (on, (time, (due, (full, (given, end))))) =
     record {
       is-line =
           record {
@@ -71,7 +70,6 @@ order-granted s line p d (on, (time, (due, (soon, (full, (given, end)))))) =
       time-low = ltb-false p 1 (or-left (ltb p 1) (ltb 1440 p) time);
       time-high = ltb-false 1440 p (or-right (ltb p 1) (ltb 1440 p) time);
       due-high = ltb-false 2000000 d due;
-      in-time = ltb-false d (s .clock + p) soon;
       room = leb-false 180 (length (s .charges)) full;
       ticket-left = ltb-false 65535 (s .next) given;
     }

@@ -10,6 +10,7 @@ pub mod Judgements
 pub mod Rounds
 pub mod Tickets
 pub mod ThenTicket
+pub mod LatestStarts
 pub mod Queues
 pub mod Reporting
 pub mod Ends

@@ -52,3 +52,23 @@ firstOf-front (row ∷ rows) more k e = go (row .0) e (firstOf-front rows more k
         → cond b (row .1) (firstOf (rows ++ more)) ≡ suc k
     go true u later = u
     go false u later = later u
+
+-- a row whose number is not given can be left out
+pub row-left-out :
+    (before : List (Bool × ℕ)) (row : Bool × ℕ) (after : List (Bool × ℕ))
+    → (firstOf (before ++ (row ∷ after)) ≡ row .1 → ⊥)
+    → firstOf (before ++ after) ≡ firstOf (before ++ (row ∷ after))
+row-left-out [] row after h = go (row .0) h
+  where
+    go : (b : Bool) → (cond b (row .1) (firstOf after) ≡ row .1 → ⊥) → firstOf after ≡ cond b (row .1) (firstOf after)
+    go true k = absurd (k refl)
+    go false k = refl
+row-left-out (first ∷ before) row after h = go (first .0) h (row-left-out before row after)
+  where
+    go :
+        (b : Bool)
+        → (cond b (first .1) (firstOf (before ++ (row ∷ after))) ≡ row .1 → ⊥)
+        → ((firstOf (before ++ (row ∷ after)) ≡ row .1 → ⊥) → firstOf (before ++ after) ≡ firstOf (before ++ (row ∷ after)))
+        → cond b (first .1) (firstOf (before ++ after)) ≡ cond b (first .1) (firstOf (before ++ (row ∷ after)))
+    go true k later = refl
+    go false k later = later k

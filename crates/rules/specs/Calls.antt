@@ -1,5 +1,5 @@
 -- The station, its calls, their refusals and answers (docs/RULES.md, sections 2 and 3).
-use Prim.Native.Nat.{ℕ, zero, suc, _+_, _-_, _*_, _/_}
+use Prim.Native.Nat.{ℕ, zero, suc, _-_, _*_, _/_}
 use mathlib.Core.Bool.{Bool, false, cond, not, _&&_, _||_}
 use mathlib.Core.List.{List, [], _∷_, _++_}
 use lib.Dec.{ltb, leb, eqb}
@@ -152,7 +152,7 @@ isStart nothing shown = false
 
 -- Refusals
 
--- "Both meet the order's refusals"
+-- "Both meet the order's refusals". "Refusal 7 ends": no other condition gets this number.
 abbrev pub orderRefusals : State → ℕ → ℕ → ℕ → List (Bool × ℕ)
 orderRefusals s line p d =
     -- "line not 1 to 3"
@@ -161,8 +161,6 @@ orderRefusals s line p d =
     ∷ (ltb p 1 || ltb 1440 p, 5)
     -- "d above 2,000,000"
     ∷ (ltb 2000000 d, 6)
-    -- "d below clock + p"
-    ∷ (ltb d (s .clock + p), 7)
     -- "180 charges held"
     ∷ (leb places (length (s .charges)), 13)
     -- "65,535 tickets given"

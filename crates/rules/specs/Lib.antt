@@ -10,4 +10,5 @@ pub mod Valid
 pub mod Entry
 pub mod CasesAToL
 pub mod CasesAtEdges
+pub mod CasesInAHurry
 pub mod CasesPreviewed
