@@ -1,6 +1,5 @@
 pub mod Each
 pub mod Tables
-pub mod Lowest
 pub mod History
 pub mod Reports
 pub mod Tickets

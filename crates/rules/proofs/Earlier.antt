@@ -1,0 +1,75 @@
+-- What was promised of calls as they were before a request, on every station, valid or not.
+use mathlib.Core.Logic.{inl, inr}
+use mathlib.Core.Path.{_≡_, refl, ap, subst}
+use Prim.Native.Nat.{ℕ, zero, suc, _+_, _≤_}
+use mathlib.Core.Bool.{Bool, false, not, _||_}
+use mathlib.Core.List.{List, [], _∷_}
+use lib.Dec.{ltb, leb}
+use lib.ListN.{length}
+use borrow.Author.Tests.{le-ltb}
+use Rattle.rules.specs.Basics.{Found, at, nothing, firstOf}
+use Rattle.rules.specs.Calls.{places, State, Result, answering, preview, commit, drawFor, startFor, isStart, orderRefusals, refusals, previewedAt, previewing, committing, step}
+use Rattle.rules.specs.Earlier.{orderedAt, ordering, Together, earlierRefusals, earlierOrder}
+use Rattle.rules.proofs.Tables.{none-firstOf, row-left-out}
+use Rattle.rules.proofs.Granted.{refusals-none, granted-commit}
+
+-- N2: "The order becomes a preview .. and a commit": both together give what the order gave.
+pub same-as-order : (s : State) (line p d : ℕ) → Together line p d (step s (preview line p d)) (ordering s line p d)
+unfolding previewing committing
+same-as-order s line p d = go (firstOf (orderRefusals s line p d)) refl (startFor s (drawFor s line p)) refl
+  where
+    go :
+        (i : ℕ)
+        → firstOf (orderRefusals s line p d) ≡ i
+        → (f : Found)
+        → startFor s (drawFor s line p) ≡ f
+        → Together line p d (answering i s [] (previewedAt s f)) (answering i s [] (orderedAt s line p d f))
+    go zero e (at start) q =
+        let free = granted-commit s line p d start (refusals-none s (preview line p d) e) q in
+        inl (start, refl, rw (none-firstOf (refusals s (commit line p d start)) free))
+    go zero e nothing q = inr (0, refl, refl)
+    go (suc i) e f q = inr (suc i, refl, refl)
+
+-- N1: "From the same station, orders that were taken before get the same answers." Every order but those that were refused
+-- with 7, taken or not, gives what it gave.
+pub same-as-before :
+    (s : State) (line p d : ℕ)
+    → (firstOf (earlierRefusals s line p d) ≡ 7 → ⊥)
+    → Together line p d (step s (preview line p d)) (earlierOrder s line p d)
+same-as-before s line p d h =
+    subst (λ (r : Result). Together line p d (step s (preview line p d)) r)
+    (ap (λ k. answering k s [] (orderedAt s line p d (startFor s (drawFor s line p))))
+    (row-left-out
+    ((ltb line 1 || ltb 3 line, 4) ∷ (ltb p 1 || ltb 1440 p, 5) ∷ (ltb 2000000 d, 6) ∷ [])
+    (ltb d (s .clock + p), 7)
+    ((leb places (length (s .charges)), 13) ∷ (ltb 65535 (s .next), 14) ∷ [])
+    h))
+    (same-as-order s line p d)
+
+-- N1: "Such an order is taken like any other": as long as it is not above 2,000,000, the due minute has no part in the answers.
+pub like-any-other :
+    (s : State) (line p d e : ℕ)
+    → d ≤ 2000000
+    → e ≤ 2000000
+    → (step s (preview line p d) ≡ step s (preview line p e))
+    × ((shown : ℕ) → step s (commit line p d shown) .answer ≡ step s (commit line p e shown) .answer)
+unfolding previewing committing
+like-any-other s line p d e h k =
+    rw (le-ltb 2000000 d h, le-ltb 2000000 e k) (refl, (λ shown. refused-or shown (firstOf (rows shown))))
+  where
+    rows : ℕ → List (Bool × ℕ)
+    rows shown =
+        (ltb line 1 || ltb 3 line, 4)
+        ∷ (ltb p 1 || ltb 1440 p, 5)
+        ∷ (false, 6)
+        ∷ (leb places (length (s .charges)), 13)
+        ∷ (ltb 65535 (s .next), 14)
+        ∷ (not (isStart (startFor s (drawFor s line p)) shown), 16)
+        ∷ []
+
+    refused-or :
+        (shown number : ℕ)
+        → answering number s [] (committing s line p d shown) .answer
+        ≡ answering number s [] (committing s line p e shown) .answer
+    refused-or shown zero = refl
+    refused-or shown (suc k) = refl
