@@ -74,14 +74,14 @@ valid-later y clock later next more c h j unfinished v =
     }
 
 pub commit-valid :
-    (s : State) (line p d start : ℕ)
+    (s : State) (line p d rate start : ℕ)
     → ValidState s
-    → OrderGranted s line p d
-    → startFor s (drawFor s line p) ≡ at start
-    → ValidState (taking s (newCharge s line p d start))
-commit-valid s line p d start v g f =
-    let new : Charge = newCharge s line p d start in
-    let r = earliest-first (limitsOf s) (s .clock) (loadsOf (s .charges)) (drawFor s line p) start f in
+    → OrderGranted s line p d rate
+    → startFor s (drawFor s line p rate) ≡ at start
+    → ValidState (taking s (newCharge s line p d rate start))
+commit-valid s line p d rate start v g f =
+    let new : Charge = newCharge s line p d rate start in
+    let r = earliest-first (limitsOf s) (s .clock) (loadsOf (s .charges)) (drawFor s line p rate) start f in
     let low : s .clock ≤ start = r .low in
     let high : start < s .clock + suc (lastUntil (loadsOf (s .charges)) - s .clock) = r .high in
     still-valid s (s .clock) (suc (s .next)) (taking s new .charges) v (v .clock-high) (omega arith) (omega (arith, g .ticket-left))
@@ -100,9 +100,9 @@ commit-valid s line p d start v g f =
         ordered = omega arith;
         not-early = low;
         unfinished = omega (arith, g .time-low);
-        rate = record { low = omega arith; high = omega arith };
-        within-limit = v .limit-low;
-        within-bound = v .bound-low;
+        rate = g .is-rate;
+        within-limit = g .within-limit;
+        within-bound = g .within-bound;
       },
       tt,
     ))

@@ -1,6 +1,6 @@
 -- An opening gives a valid station, every call leaves one, and an order on one always gets a start.
 use mathlib.Core.Path.{_≡_, refl}
-use Prim.Native.Nat.{ℕ, zero, suc}
+use Prim.Native.Nat.{ℕ, zero, suc, _≤_}
 use mathlib.Core.List.{List, []}
 use native.Mathlib.Omega.{arith}
 use Rattle.rules.specs.Basics.{Found, at, nothing, firstOf}
@@ -74,17 +74,17 @@ tested-valid s rounds (none cause) list v = v
 
 pub step-valid : (s : State) (c : Call) → ValidState s → ValidState (step s c .state)
 unfolding previewing committing moving offering replanningLatest replanningLines enquiring
-step-valid s (preview line p d) v =
-    answering-valid (firstOf (refusals s (preview line p d))) s [] _ v (λ e. go (startFor s (drawFor s line p)))
+step-valid s (preview line p d rate) v =
+    answering-valid (firstOf (refusals s (preview line p d rate))) s [] _ v (λ e. go (startFor s (drawFor s line p rate)))
   where
     go : (f : Found) → ValidState (previewedAt s f .state)
     go (at start) = v
     go nothing = v
-step-valid s (commit line p d shown) v =
-    answering-valid (firstOf (refusals s (commit line p d shown))) s [] _ v
+step-valid s (commit line p d rate shown) v =
+    answering-valid (firstOf (refusals s (commit line p d rate shown))) s [] _ v
     (λ e.
-    let g = commit-granted s line p d shown (refusals-none s (commit line p d shown) e) in
-    commit-valid s line p d shown v (order-granted s line p d (g .0)) (g .1))
+    let g = commit-granted s line p d rate shown (refusals-none s (commit line p d rate shown) e) in
+    commit-valid s line p d rate shown v (order-granted s line p d rate (g .0)) (g .1))
 step-valid s (move target list) v =
     answering-valid (firstOf (refusals s (move target list))) s list _ v
     (λ e.
@@ -100,7 +100,12 @@ step-valid s (replanLines allowance) v =
 step-valid s (enquire ticket) v =
     answering-valid (firstOf (refusals s (enquire ticket))) s [] _ v (λ e. v)
 
--- an order on a valid station gets a start
-pub order-found : (s : State) (line p : ℕ) → ValidState s → (start : ℕ) × (startFor s (drawFor s line p) ≡ at start)
-order-found s line p v =
-    earliest-found (limitsOf s) (s .clock) (loadsOf (s .charges)) (drawFor s line p) (v .limit-low) (v .bound-low) (v .sound-on)
+-- an order whose rate is above neither N nor D gets a start on a valid station
+pub order-found :
+    (s : State) (line p rate : ℕ)
+    → ValidState s
+    → rate ≤ s .limit
+    → rate ≤ s .bound
+    → (start : ℕ) × (startFor s (drawFor s line p rate) ≡ at start)
+order-found s line p rate v n d =
+    earliest-found (limitsOf s) (s .clock) (loadsOf (s .charges)) (drawFor s line p rate) n d (v .sound-on)

@@ -12,3 +12,4 @@ pub mod CasesAToL
 pub mod CasesAtEdges
 pub mod CasesInAHurry
 pub mod CasesPreviewed
+pub mod CasesOfTwoRates
