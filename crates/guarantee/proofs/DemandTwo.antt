@@ -20,7 +20,7 @@ use Rattle.rules.proofs.Ranges.{and-left, and-right, and-both, below-or-not}
 use Rattle.rules.proofs.Lists.{each-map}
 use Rattle.rules.proofs.Counts.{sound-from, sound-true}
 use Rattle.rules.proofs.Tables.{none-firstOf, firstOf-more}
-use Rattle.rules.proofs.Granted.{refusals-none, offer-granted}
+use Rattle.rules.proofs.Granted.{refusals-none, order-granted, offer-granted}
 use Rattle.rules.proofs.Searches.{earliest-first}
 use Rattle.rules.proofs.Judgements.{Meets, judged-meets, meets-judged}
 use Rattle.rules.proofs.Restarts.{Restarted, restarted-is, restarted-each}
@@ -74,7 +74,7 @@ module _ (s : State) (valid : ValidState s) (ss : List ℕ) where
             (restarted-each (λ c. (c .orderMinute ≤ s .clock) × (c .orderMinute ≤ c .start))
             (λ c u h p. (p .0, omega (arith, p .0)))
             (restarted-is (s .clock) (s .charges) ss (m .none-early))
-            (each-map (ValidCharge (s .clock) (s .next)) (λ c. (c .orderMinute ≤ s .clock) × (c .orderMinute ≤ c .start))
+            (each-map (ValidCharge (limitsOf s) (s .clock) (s .next)) (λ c. (c .orderMinute ≤ s .clock) × (c .orderMinute ≤ c .start))
             (λ c v. (v .ordered, v .not-early))
             (s .charges)
             (valid .each)));
@@ -247,22 +247,27 @@ module _ (s : State) (a : Draw) where
   earliest-same : (t u : ℕ) → EarliestStart s a t → EarliestStart s a u → t ≡ u
   earliest-same t u e f = omega (arith, e .earliest u (f .not-early) (f .sound), f .earliest t (e .not-early) (e .sound))
 
-preview-start : (s : State) (line p d : ℕ) → ValidState s → PreviewStart s line p d (step s (preview line p d))
+preview-start :
+    (s : State) (line p d rate : ℕ) → ValidState s → PreviewStart s line p d rate (step s (preview line p d rate))
 unfolding previewing
-preview-start s line p d v =
-    let f = order-found s line p v in
-    rw (f .1) (go (f .0) (found-earliest s (drawFor s line p) (f .0) (f .1)) (firstOf (refusals s (preview line p d))) refl)
+preview-start s line p d rate v = go (firstOf (refusals s (preview line p d rate))) refl
   where
     go :
-        (start : ℕ)
-        → EarliestStart s (drawFor s line p) start
-        → (i : ℕ)
-        → firstOf (refusals s (preview line p d)) ≡ i
-        → PreviewStart s line p d (answering i s [] (previewedAt s (at start)))
-    go start e zero q = record { answer = λ free. (start, refl, e); same-station = refl; same-list = refl }
-    go start e (suc i) q =
+        (i : ℕ)
+        → firstOf (refusals s (preview line p d rate)) ≡ i
+        → PreviewStart s line p d rate (answering i s [] (previewing s line p d rate))
+    go zero q =
+        let g = order-granted s line p d rate (refusals-none s (preview line p d rate) q) in
+        let f = order-found s line p d rate v g in
+        rw (f .1)
+        (record {
+          answer = λ free. (f .0, refl, found-earliest s (drawFor s line p rate) (f .0) (f .1));
+          same-station = refl;
+          same-list = refl;
+        })
+    go (suc i) q =
         record {
-          answer = λ free. absurd (apart q (none-firstOf (refusals s (preview line p d)) free));
+          answer = λ free. absurd (apart q (none-firstOf (refusals s (preview line p d rate)) free));
           same-station = refl;
           same-list = refl;
         }
@@ -271,25 +276,25 @@ preview-start s line p d v =
         apart x y = omega arith
 
 commit-start :
-    (s : State) (line p d shown : ℕ)
+    (s : State) (line p d rate shown : ℕ)
     → ValidState s
-    → NoneApplies (refusals s (preview line p d))
-    → CommitStart s line p d shown (step s (commit line p d shown))
+    → NoneApplies (refusals s (preview line p d rate))
+    → CommitStart s line p d rate shown (step s (commit line p d rate shown))
 unfolding committing
-commit-start s line p d shown v q =
-    let f = order-found s line p v in
-    rw (firstOf-more (orderRefusals s line p d) ((not (isStart (startFor s (drawFor s line p)) shown), 16) ∷ []) q, f .1)
-    (go (f .0) (found-earliest s (drawFor s line p) (f .0) (f .1)) (eqb (f .0) shown) refl)
+commit-start s line p d rate shown v q =
+    let f = order-found s line p d rate v (order-granted s line p d rate q) in
+    rw (firstOf-more (orderRefusals s line p d rate) ((not (isStart (startFor s (drawFor s line p rate)) shown), 16) ∷ []) q, f .1)
+    (go (f .0) (found-earliest s (drawFor s line p rate) (f .0) (f .1)) (eqb (f .0) shown) refl)
   where
     go :
         (start : ℕ)
-        → EarliestStart s (drawFor s line p) start
+        → EarliestStart s (drawFor s line p rate) start
         → (b : Bool)
         → eqb start shown ≡ b
-        → CommitStart s line p d shown (answering (cond (not b) 16 0) s [] (committing s line p d shown))
+        → CommitStart s line p d rate shown (answering (cond (not b) 16 0) s [] (committing s line p d rate shown))
     go start e true h =
-        let now : EarliestStart s (drawFor s line p) shown
-        = subst (EarliestStart s (drawFor s line p)) (eqb-true start shown h) e in
+        let now : EarliestStart s (drawFor s line p rate) shown
+        = subst (EarliestStart s (drawFor s line p rate)) (eqb-true start shown h) e in
         record { answer = ((λ x. now), (λ w. refl)); refusal = λ n. absurd (n now); others-same = λ w. refl }
     go start e false h =
         record {
@@ -301,8 +306,8 @@ commit-start s line p d shown v q =
         apart : refused 16 ≡ committed (s .next) shown → ⊥
         apart x = let z : _≡_ {A = ℕ} 0 1 = cc in omega arith
 
-        other : EarliestStart s (drawFor s line p) shown → ⊥
-        other w = eqb-false start shown h (earliest-same s (drawFor s line p) start shown e w)
+        other : EarliestStart s (drawFor s line p rate) shown → ⊥
+        other w = eqb-false start shown h (earliest-same s (drawFor s line p rate) start shown e w)
 
 -- The demand
 
@@ -310,8 +315,8 @@ valid-demand-two : (s : State) → ValidState s → DemandTwo step s
 unfolding offering replanningLatest replanningLines
 valid-demand-two s v =
     record {
-      previews = λ line p d. preview-start s line p d v;
-      commits = λ line p d shown q. commit-start s line p d shown v q;
+      previews = λ line p d rate. preview-start s line p d rate v;
+      commits = λ line p d rate shown q. commit-start s line p d rate shown v q;
       offers =
           λ ss.
           call-tested s (offer ss) (starts ss) 0

@@ -1,6 +1,6 @@
 -- An opening gives a valid station, every call leaves one, and an order on one always gets a start.
 use mathlib.Core.Path.{_≡_, refl}
-use Prim.Native.Nat.{ℕ, zero, suc, _≤_}
+use Prim.Native.Nat.{ℕ, zero, suc}
 use mathlib.Core.List.{List, []}
 use native.Mathlib.Omega.{arith}
 use Rattle.rules.specs.Basics.{Found, at, nothing, firstOf}
@@ -11,7 +11,7 @@ use Rattle.rules.specs.Judgement.{judged}
 use Rattle.rules.specs.Calls.{Settings, settings, State, limitsOf, Result, answering, opened, fresh, boundOf, openRefusals, opening, Call, preview, commit, move, offer, replanLatest, replanLines, enquire, drawFor, startFor, refusals, previewedAt, previewing, committing, moving, decided, tested, offering, replanningLatest, replanningLines, enquiring, step}
 use Rattle.rules.specs.Valid.{ValidState}
 use Rattle.rules.proofs.Tables.{firstOf-none}
-use Rattle.rules.proofs.Granted.{refusals-none, openRefusals-numbered, OpenGranted, open-granted, order-granted, commit-granted, move-granted}
+use Rattle.rules.proofs.Granted.{refusals-none, openRefusals-numbered, OpenGranted, open-granted, OrderGranted, order-granted, commit-granted, move-granted}
 use Rattle.rules.proofs.Searches.{earliest-found}
 use Rattle.rules.proofs.Judgements.{judged-meets}
 use Rattle.rules.proofs.Changes.{commit-valid, move-valid}
@@ -100,12 +100,12 @@ step-valid s (replanLines allowance) v =
 step-valid s (enquire ticket) v =
     answering-valid (firstOf (refusals s (enquire ticket))) s [] _ v (λ e. v)
 
--- an order whose rate is above neither N nor D gets a start on a valid station
+-- an order that is not refused gets a start on a valid station: its rate is above neither N nor D
 pub order-found :
-    (s : State) (line p rate : ℕ)
+    (s : State) (line p d rate : ℕ)
     → ValidState s
-    → rate ≤ s .limit
-    → rate ≤ s .bound
+    → OrderGranted s line p d rate
     → (start : ℕ) × (startFor s (drawFor s line p rate) ≡ at start)
-order-found s line p rate v n d =
-    earliest-found (limitsOf s) (s .clock) (loadsOf (s .charges)) (drawFor s line p rate) n d (v .sound-on)
+order-found s line p d rate v g =
+    earliest-found (limitsOf s) (s .clock) (loadsOf (s .charges)) (drawFor s line p rate) (g .within-limit) (g .within-bound)
+    (v .sound-on)
