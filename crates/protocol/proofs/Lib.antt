@@ -1,6 +1,3 @@
-pub mod Values
-pub mod Splitting
 pub mod Reading
-pub mod Printing
-pub mod Blocks
+pub mod Answering
 pub mod Lending

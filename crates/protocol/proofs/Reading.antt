@@ -9,8 +9,13 @@ use borrow.Author.Tests.{lt-ltb, le-ltb, eq-eqb, ne-eqb}
 use lib.Dec.{ltb}
 use lib.ListN.{length, take, getD, set, length-set}
 use lib.Seq.{slice, sets, take-length, take-take, length-take-le, take-suc-set}
-use Rattle.protocol.specs.Numbers.{numberOf}
-use Rattle.protocol.specs.Words.{split, partsAfter, PartEnd, named}
+use Rattle.text.specs.Numbers.{numberOf}
+use Rattle.text.specs.Parts.{split, partsAfter, PartEnd}
+use Rattle.text.specs.declared.number.Number.{Number}
+use Rattle.text.specs.declared.number.Number.the-variants.{Value}
+use Rattle.text.proofs.Printing.{sets-join}
+use Rattle.text.proofs.Splitting.{first-part}
+use Rattle.protocol.specs.Words.{named}
 use Rattle.protocol.specs.Requests.{
   nothing,
   error,
@@ -35,12 +40,8 @@ use Rattle.protocol.specs.Requests.{
   TakesNumbers,
   Asks,
 }
-use Rattle.protocol.proofs.Printing.{sets-join}
-use Rattle.protocol.proofs.Splitting.{first-part}
-use Rattle.protocol.specs.declared.number.Reason.{Reason}
-use Rattle.protocol.specs.declared.number.Reason.the-variants.{UnknownCall, MissingNumber, ExtraNumber, LineTooLong}
-use Rattle.protocol.specs.declared.number.Number.{Number}
-use Rattle.protocol.specs.declared.number.Number.the-variants.{Value, Wrong}
+use Rattle.protocol.specs.declared.request.Reason.{Reason}
+use Rattle.protocol.specs.declared.request.Reason.the-variants.{UnknownCall, MissingNumber, ExtraNumber, LineTooLong}
 use Rattle.protocol.specs.declared.word.CallName.{CallName}
 use Rattle.protocol.specs.declared.request.Takes.the-variants.{Between, NoCall}
 use Rattle.protocol.specs.declared.request.Request as declared
@@ -146,11 +147,17 @@ module _ {text : List ℕ} {from least most : ℕ} {lent list : List ℕ} {at co
           let e : most - count ≡ suc (most - (count + 1)) = omega arith in
           rw (e, parts-left)
 
+      -- a word that is no number
       pub reads-wrong :
-          (reason : Reason) → numberOf (slice (at + 1) end text) ≡ Wrong reason
+          (word : Number) (reason : Reason) → ((rest : Numbers) → followed word rest ≡ wrong reason)
+          → ((ns : List ℕ) → before word ns ≡ []) → numberOf (slice (at + 1) end text) ≡ word
           → TakesNumbers least most words lent list (told.Wrong reason)
-      reads-wrong reason q =
-          record { numbers-are = sym (reads-word ∙ rw q); few = tt; list-is = list-done (value-word ∙ rw q) }
+      reads-wrong word reason none-follows none-before q =
+          record {
+            numbers-are = sym (reads-word ∙ rw (q, none-follows _));
+            few = tt;
+            list-is = list-done (value-word ∙ rw (q, none-before _));
+          }
 
       pub reads-more :
           (n : ℕ) → most ≤ length list → numberOf (slice (at + 1) end text) ≡ Value n

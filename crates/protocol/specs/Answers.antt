@@ -1,31 +1,11 @@
--- The answers as text, and what it means that a text is printed into a buffer.
-use Prim.Native.Nat.{ℕ, _+_, _*_, _≤_}
-use mathlib.Core.Path.{_≡_}
+-- The answers as text.
+use Prim.Native.Nat.{ℕ, _*_}
 use mathlib.Core.List.{List, [], _∷_, _++_}
-use lib.ListN.{length, take}
-use lib.Seq.{sets}
+use lib.ListN.{take}
 use Rattle.rules.specs.Calls.{Answer, refused, opened, ordered, moved, planned, waiting, charging}
-use Rattle.protocol.specs.Numbers.{decimal}
-use Rattle.protocol.specs.declared.number.Reason.{Reason}
-use Rattle.protocol.specs.declared.number.Reason.the-variants.{UnknownCall, NotANumber, NumberTooLarge, MissingNumber, ExtraNumber, LineTooLong}
-
--- The text stands in the buffer from place `at` on, whole, every other byte is kept, and `next` is the place after it.
-pub record Printed (text before : List ℕ) (at : ℕ) (after : List ℕ) (next : ℕ) : Type 0 where
-  pub bytes : after ≡ sets before at text
-  pub place : next ≡ at + length text
-  pub within : next ≤ length before
-
--- a text and a number after it
-abbrev pub field : List ℕ → ℕ → List ℕ
-field text n = text ++ decimal n
-
-abbrev pub spaced : ℕ → List ℕ
-spaced n = field (32 ∷ []) n
-
--- each number after a space
-abbrev pub listed : List ℕ → List ℕ
-listed [] = []
-listed (n ∷ ns) = spaced n ++ listed ns
+use Rattle.text.specs.Printed.{field, spaced, listed}
+use Rattle.protocol.specs.declared.request.Reason.{Reason}
+use Rattle.protocol.specs.declared.request.Reason.the-variants.{UnknownCall, NotANumber, NumberTooLarge, MissingNumber, ExtraNumber, LineTooLong}
 
 abbrev pub lineFeed : List ℕ
 lineFeed = 10 ∷ []

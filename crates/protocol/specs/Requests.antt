@@ -7,12 +7,13 @@ use lib.Dec.{ltb, eqb}
 use lib.ListN.{length, getD, take, replicate}
 use lib.Seq.{sets}
 use Rattle.rules.specs.Calls.{Settings, settings, Call, order, move, offer, replanLatest, replanLines, enquire}
-use Rattle.protocol.specs.Numbers.{numberOf}
-use Rattle.protocol.specs.Words.{split, named}
-use Rattle.protocol.specs.declared.number.Reason.{Reason}
-use Rattle.protocol.specs.declared.number.Reason.the-variants.{UnknownCall, MissingNumber, ExtraNumber, LineTooLong}
-use Rattle.protocol.specs.declared.number.Number.{Number}
-use Rattle.protocol.specs.declared.number.Number.the-variants.{Value, Wrong}
+use Rattle.text.specs.Numbers.{numberOf}
+use Rattle.text.specs.Parts.{split}
+use Rattle.text.specs.declared.number.Number.{Number}
+use Rattle.text.specs.declared.number.Number.the-variants as number
+use Rattle.protocol.specs.Words.{named}
+use Rattle.protocol.specs.declared.request.Reason.{Reason}
+use Rattle.protocol.specs.declared.request.Reason.the-variants.{UnknownCall, NotANumber, NumberTooLarge, MissingNumber, ExtraNumber, LineTooLong}
 use Rattle.protocol.specs.declared.word.CallName.{CallName}
 use Rattle.protocol.specs.declared.word.CallName.the-variants.{Open, Order, Move, Offer, Latest, Lines, Enquire, Unknown}
 use Rattle.station.specs.Answers.{settingsOf}
@@ -54,9 +55,10 @@ AtMost k NoCall = Unit {0}
 
 -- a number in front of those that follow it; the first word that is wrong decides
 abbrev pub followed : Number → Numbers → Numbers
-followed (Wrong reason) rest = wrong reason
-followed (Value n) (wrong reason) = wrong reason
-followed (Value n) (numbers ns) = numbers (n ∷ ns)
+followed number.NotANumber rest = wrong NotANumber
+followed number.TooLarge rest = wrong NumberTooLarge
+followed (number.Value n) (wrong reason) = wrong reason
+followed (number.Value n) (numbers ns) = numbers (n ∷ ns)
 
 -- at least `least` and at most `most` numbers, from the left
 unfoldable pub readNumbers : ℕ → ℕ → List (List ℕ) → Numbers
@@ -66,8 +68,9 @@ readNumbers least (suc most) (word ∷ words) = followed (numberOf word) (readNu
 
 -- the numbers that stand in the list lent for them, at its front: those from the left, up to the first word that is none
 abbrev pub before : Number → List ℕ → List ℕ
-before (Wrong reason) ns = []
-before (Value n) ns = n ∷ ns
+before number.NotANumber ns = []
+before number.TooLarge ns = []
+before (number.Value n) ns = n ∷ ns
 
 unfoldable pub valuesRead : ℕ → List (List ℕ) → List ℕ
 valuesRead most [] = []

@@ -6,17 +6,18 @@ ghost use lib.ListN.{length};
 ghost use Rattle.rules.specs.Calls.{refused, moved as movedAnswer};
 ghost use Rattle.station.specs.Answers.{openAnswer, enquiryAnswer};
 ghost use Rattle.station.specs.Applied.{answerOf};
-ghost use Rattle.protocol.specs.Answers.{Printed, one, two, four, answerText, pairsOf, errorText};
-use crate::number::Reason;
-use crate::printer::print_field;
-use crate::printer::print_list;
-use crate::printer::print_text;
+ghost use Rattle.text.specs.Printed.{Printed};
+ghost use Rattle.protocol.specs.Answers.{one, two, four, answerText, pairsOf, errorText};
+use crate::request::Reason;
 use station::calls::Answer;
 use station::clock::MoveAnswer;
 use station::enquiry::EnquiryAnswer;
 use station::open::OpenAnswer;
 use station::order::OrderAnswer;
 use station::plan::PlanAnswer;
+use text::print_field;
+use text::print_list;
+use text::print_text;
 
 // One number, after a text.
 fn print_one(text: &[u8], n: u64, buffer: &mut [u8], at: usize) -> usize

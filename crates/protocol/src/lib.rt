@@ -2,19 +2,14 @@
 //
 // No contract speaks of input or output: everything here is a function on slices.
 mod answer;
-mod block;
-mod number;
-mod printer;
 mod request;
 mod word;
 
 pub use answer::print_answer;
 pub use answer::print_error;
 pub use answer::print_opening;
-pub use block::carry;
-pub use number::Reason;
+pub use request::Reason;
 pub use request::Request;
 pub use request::fill_lent;
 pub use request::places_lent;
 pub use request::read_request;
-pub use word::part_end;

@@ -3,16 +3,25 @@ ghost use mathlib.Core.Path.{_≡_};
 ghost use Prim.Native.Nat.{_≤_, min};
 ghost use mathlib.Core.List.{_++_};
 ghost use lib.ListN.{length, drop, getD, replicate};
-ghost use Rattle.protocol.specs.Words.{partsAfter};
+ghost use Rattle.text.specs.Parts.{partsAfter};
 ghost use Rattle.protocol.specs.Requests.{taken, AtMost, Calls, readCall, callValues, readRequest, requestValues, TakesNumbers, Asks};
-use crate::number::Number;
-use crate::number::Reason;
-use crate::number::read_number;
 use crate::word::CallName;
 use crate::word::call_named;
-use crate::word::part_end;
 use station::calls::Call;
 use station::open::Settings;
+use text::Number;
+use text::part_end;
+use text::read_number;
+
+// Why a request is no call.
+pub enum Reason {
+    UnknownCall,
+    NotANumber,
+    NumberTooLarge,
+    MissingNumber,
+    ExtraNumber,
+    LineTooLong,
+}
 
 // What a line of text asks for. The starts of an offer stand at the front of the list that was lent for reading, and a clock
 // move asks for so many places to report to; any other call has none of either.
@@ -75,7 +84,8 @@ fn read_numbers(text: &[u8], from: usize, least: usize, most: usize, numbers: &m
         let end = part_end(text, start, text.len(), 32);
         let number = read_number(text, start, end);
         match number {
-            Number::Wrong(reason) => return Numbers::Wrong(reason),
+            Number::NotANumber => return Numbers::Wrong(Reason::NotANumber),
+            Number::TooLarge => return Numbers::Wrong(Reason::NumberTooLarge),
             Number::Value(value) => {
                 numbers[count] = value;
                 count += 1;

@@ -8,7 +8,7 @@ use borrow.Author.Tests.{eqb-true}
 use lib.ListN.{length, take, length-take}
 use lib.Seq.{slice, slice-empty, take-all}
 use Rattle.rules.specs.Calls.{settings, State, Answer, Result, fresh, opening}
-use Rattle.protocol.specs.Words.{split}
+use Rattle.text.specs.Parts.{split}
 use Rattle.station.specs.declared.Station.{Station}
 use Rattle.station.specs.Answers.{Gives}
 use Rattle.station.specs.View.{view}

@@ -51,7 +51,8 @@ use Rattle.rules.specs.Calls.{
 }
 use Rattle.rules.proofs.Lists.{length-keep}
 use Rattle.charges.proofs.Sorting.{length-sorted}
-use Rattle.protocol.specs.Answers.{Printed, answerText, pairsOf}
+use Rattle.text.specs.Printed.{Printed}
+use Rattle.protocol.specs.Answers.{answerText, pairsOf}
 use Rattle.protocol.specs.Requests.{readRequest, meaning, lentList, Lent, Asks}
 use Rattle.protocol.specs.declared.request.Request.{Request}
 use Rattle.station.specs.declared.Station.{Station}

@@ -6,7 +6,8 @@ use lib.Seq.{sets}
 use Rattle.rules.specs.Calls.{State, Call, order, move, offer, replanLatest, replanLines, enquire, Result}
 use Rattle.rules.specs.Calls as calls
 use Rattle.protocol.specs.Requests.{Asked, nothing, opening, call, error}
-use Rattle.protocol.specs.Answers.{Printed, answerText, errorText}
+use Rattle.text.specs.Printed.{Printed}
+use Rattle.protocol.specs.Answers.{answerText, errorText}
 use Rattle.station.specs.declared.Station.{Station}
 use Rattle.station.specs.View.{view, Valid}
 

@@ -3,7 +3,7 @@ use Prim.Native.Nat.{ℕ}
 use mathlib.Core.List.{List, [], _∷_, _++_}
 use lib.ListN.{take}
 use Rattle.rules.specs.Calls.{settings, State, fresh}
-use Rattle.protocol.specs.Words.{split}
+use Rattle.text.specs.Parts.{split}
 use Rattle.protocol.specs.Requests.{readRequest}
 use Rattle.session.specs.Reply.{Told, reply}
 

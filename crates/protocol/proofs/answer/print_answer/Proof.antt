@@ -1,6 +1,6 @@
 -- `protocol::print_answer` meets its contract, case by case.
 use Rattle.protocol.specs.Answers.{answerText}
-use Rattle.protocol.proofs.Printing.{enquiry-line}
+use Rattle.protocol.proofs.Answering.{enquiry-line}
 use borrow.Author.Needs.{needs}
 use Rattle.protocol.proofs.answer.print_answer.Statement.{statement}
 use Rattle.protocol.proofs.answer.print_answer.Tie as tie

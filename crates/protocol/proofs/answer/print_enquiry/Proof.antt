@@ -1,6 +1,6 @@
 -- `protocol::print_enquiry` meets its contract, case by case.
 use Rattle.protocol.specs.Answers.{answerText}
-use Rattle.protocol.proofs.Printing.{refused-left}
+use Rattle.protocol.proofs.Answering.{refused-left}
 use borrow.Author.Needs.{needs}
 use Rattle.protocol.proofs.answer.print_enquiry.Statement.{statement}
 use Rattle.protocol.proofs.answer.print_enquiry.Tie as tie

@@ -1,6 +1,6 @@
 -- `protocol::print_moved` meets its contract: its parts are printed one after another.
 use Rattle.protocol.specs.Answers.{answerText}
-use Rattle.protocol.proofs.Printing.{printed-then}
+use Rattle.text.proofs.Printing.{printed-then}
 use borrow.Author.Needs.{needs}
 use Rattle.protocol.proofs.answer.print_moved.Statement.{statement}
 use Rattle.protocol.proofs.answer.print_moved.Tie as tie

@@ -1,5 +1,5 @@
 -- `protocol::print_one` meets its contract: its parts are printed one after another.
-use Rattle.protocol.proofs.Printing.{printed-then}
+use Rattle.text.proofs.Printing.{printed-then}
 use borrow.Author.Needs.{needs}
 use Rattle.protocol.proofs.answer.print_one.Statement.{statement}
 use Rattle.protocol.proofs.answer.print_one.Tie as tie

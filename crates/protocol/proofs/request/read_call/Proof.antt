@@ -4,7 +4,7 @@ use Prim.Native.Nat.{_≤_}
 use native.Mathlib.Omega.{arith}
 use lib.ListN.{length}
 use lib.Seq.{length-take-le}
-use Rattle.protocol.specs.Words.{partsAfter}
+use Rattle.text.specs.Parts.{partsAfter}
 use Rattle.protocol.specs.Requests.{taken}
 use Rattle.protocol.specs.declared.request.Takes.the-variants.{Between}
 use Rattle.protocol.proofs.Reading.{call-unknown, call-wrong, call-read}

@@ -5,7 +5,7 @@ use lib.Seq.{length-take-le}
 use Rattle.station.specs.View.{view}
 use Rattle.protocol.specs.Requests.{Fits}
 use Rattle.protocol.specs.declared.request.Request.the-variants.{Call}
-use Rattle.protocol.proofs.Printing.{printed-none}
+use Rattle.text.proofs.Printing.{printed-none}
 use Rattle.session.proofs.Replies.{as-read, as-listed}
 use borrow.Author.Needs.{needs}
 use Rattle.session.proofs.reply.reply_request.Statement.{statement}
