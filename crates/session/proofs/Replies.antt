@@ -52,9 +52,9 @@ use Rattle.rules.specs.Calls.{
 use Rattle.rules.proofs.Lists.{length-keep}
 use Rattle.charges.proofs.Sorting.{length-sorted}
 use Rattle.text.specs.Printed.{Printed}
-use Rattle.protocol.specs.Answers.{answerText, pairsOf}
-use Rattle.protocol.specs.Requests.{readRequest, meaning, lentList, Lent, Asks}
-use Rattle.protocol.specs.declared.request.Request.{Request}
+use Rattle.answers.specs.Answers.{answerText, pairsOf}
+use Rattle.requests.specs.Requests.{readRequest, meaning, lentList, Lent, Asks}
+use Rattle.requests.specs.declared.request.Request.{Request}
 use Rattle.station.specs.declared.Station.{Station}
 use Rattle.station.specs.declared.calls.Call.{Call}
 use Rattle.station.specs.declared.calls.Call.the-variants.{Order, Move, Offer, ReplanLatest, ReplanLines, Enquire}

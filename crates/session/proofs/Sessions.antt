@@ -12,8 +12,8 @@ use lib.Seq.{take-all, take-append-le, take-take, length-take-le}
 use Rattle.rules.specs.Calls.{settings, State, fresh}
 use Rattle.rules.proofs.Ranges.{below-or-not}
 use Rattle.text.specs.Parts.{joined, split}
-use Rattle.protocol.specs.Requests.{readRequest, error}
-use Rattle.protocol.specs.declared.request.Reason.the-variants.{LineTooLong}
+use Rattle.requests.specs.Requests.{readRequest, error}
+use Rattle.requests.specs.declared.request.Reason.the-variants.{LineTooLong}
 use Rattle.session.specs.Reply.{Told}
 use Rattle.session.specs.Session.{saying, answered, session, console, Fed, first, enough, served, feed}
 

@@ -5,8 +5,8 @@ use mathlib.Core.List.{List, [], _∷_}
 use Rattle.rules.specs.Calls.{enquiring}
 use Rattle.text.specs.Numbers.{valueFrom, numberOf, digitsWithin}
 use Rattle.text.specs.Parts.{split, sameText}
-use Rattle.protocol.specs.Requests.{readNumbers, readCall, readRequest}
-use Rattle.protocol.specs.Answers.{answerText}
+use Rattle.requests.specs.Requests.{readNumbers, readCall, readRequest}
+use Rattle.answers.specs.Answers.{answerText}
 use Rattle.session.specs.Session.{answered, session, console}
 
 -- "enquire 1", "#", "", "q" are answered "refused 15", "error unknown call"

@@ -5,9 +5,9 @@ use mathlib.Core.List.{List, []}
 use lib.Seq.{sets}
 use Rattle.rules.specs.Calls.{State, Call, order, move, offer, replanLatest, replanLines, enquire, Result}
 use Rattle.rules.specs.Calls as calls
-use Rattle.protocol.specs.Requests.{Asked, nothing, opening, call, error}
+use Rattle.requests.specs.Requests.{Asked, nothing, opening, call, error}
 use Rattle.text.specs.Printed.{Printed}
-use Rattle.protocol.specs.Answers.{answerText, errorText}
+use Rattle.answers.specs.Answers.{answerText, errorText}
 use Rattle.station.specs.declared.Station.{Station}
 use Rattle.station.specs.View.{view, Valid}
 

@@ -4,7 +4,7 @@ use mathlib.Core.List.{List, [], _∷_, _++_}
 use lib.ListN.{take}
 use Rattle.rules.specs.Calls.{settings, State, fresh}
 use Rattle.text.specs.Parts.{split}
-use Rattle.protocol.specs.Requests.{readRequest}
+use Rattle.requests.specs.Requests.{readRequest}
 use Rattle.session.specs.Reply.{Told, reply}
 
 -- a text in front of all that follows it

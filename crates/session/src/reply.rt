@@ -4,13 +4,13 @@ ghost use Prim.Native.Nat.{_+_, _≤_};
 ghost use lib.ListN.{length};
 ghost use lib.Seq.{sets};
 ghost use Rattle.rules.specs.Calls.{opening, step};
-ghost use Rattle.protocol.specs.Requests.{readRequest, requestValues, lentList, Lent};
+ghost use Rattle.requests.specs.Requests.{readRequest, requestValues, lentList, Lent};
 ghost use Rattle.station.specs.View.{view, Valid};
 ghost use Rattle.station.specs.Answers.{settingsOf};
 ghost use Rattle.station.specs.Applied.{callOf, lends};
 ghost use Rattle.session.specs.Reply.{told, reportOf, requestReport, Replied, Lists};
 ghost use Rattle.session.specs.Session.{answered};
-use protocol::Request;
+use requests::Request;
 use station::Station;
 use station::calls::Call;
 use station::open::Settings;
@@ -28,7 +28,7 @@ fn reply_open(settings: Settings, out: &mut [u8], at: usize) -> Reply
     let opened = Station::open(settings);
     let station = opened.station;
     let answer = opened.answer;
-    let next = protocol::print_opening(answer, out, at);
+    let next = answers::print_opening(answer, out, at);
     Reply { station, at: next }
 }
 
@@ -47,12 +47,12 @@ fn reply_call(
     ensures { λ r. ⌜ Replied (told (step (view station) (callOf call (now (starts .entry)) (lentList places)))) (r .station) (now (out .entry)) at (now (out .exit)) (r .at) ⌝ }
     ensures { λ r. ⌜ now (list .exit) ≡ sets (now (list .entry)) 0 (reportOf (view station) (callOf call (now (starts .entry)) (lentList places))) ⌝ }
 {
-    let lent = protocol::places_lent(places);
-    protocol::fill_lent(list, lent);
+    let lent = requests::places_lent(places);
+    requests::fill_lent(list, lent);
     let applied = station.apply(call, starts, &mut list[..lent]);
     let after = applied.station;
     let answer = applied.answer;
-    let next = protocol::print_answer(answer, &list[..lent], out, at);
+    let next = answers::print_answer(answer, &list[..lent], out, at);
     Reply {
         station: after,
         at: next,
@@ -73,7 +73,7 @@ pub fn reply_request(
     ensures { λ r. ⌜ Replied (answered (view station) (now (text .entry))) (r .station) (now (out .entry)) at (now (out .exit)) (r .at) ⌝ }
     ensures { λ r. ⌜ Lists (requestValues (now (text .entry))) (requestReport (view station) (readRequest (now (text .entry)))) (now (numbers .entry)) (now (numbers .exit)) (now (list .entry)) (now (list .exit)) ⌝ }
 {
-    let read = protocol::read_request(text, numbers);
+    let read = requests::read_request(text, numbers);
     match read {
         Request::Nothing => Reply { station, at },
         Request::Open { settings } => reply_open(settings, out, at),
@@ -83,7 +83,7 @@ pub fn reply_request(
             places,
         } => reply_call(station, call, &numbers[..starts], places, list, out, at),
         Request::Error(reason) => {
-            let next = protocol::print_error(reason, out, at);
+            let next = answers::print_error(reason, out, at);
             Reply { station, at: next }
         }
     }

@@ -5,7 +5,7 @@ use Prim.Native.Nat.{ℕ, min}
 use native.Mathlib.Omega.{arith}
 use lib.ListN.{length, take, drop, length-replicate}
 use lib.Seq.{length-take-le, take-at}
-use Rattle.protocol.specs.Requests.{lentList}
+use Rattle.requests.specs.Requests.{lentList}
 use Rattle.station.specs.View.{view}
 use Rattle.station.specs.Applied.{Applies}
 use Rattle.session.proofs.Replies.{lent-front, few-told, call-replied, list-left}

@@ -3,8 +3,8 @@ use mathlib.Core.Path.{sym, refl}
 use native.Mathlib.Omega.{arith}
 use lib.Seq.{length-take-le}
 use Rattle.station.specs.View.{view}
-use Rattle.protocol.specs.Requests.{Fits}
-use Rattle.protocol.specs.declared.request.Request.the-variants.{Call}
+use Rattle.requests.specs.Requests.{Fits}
+use Rattle.requests.specs.declared.request.Request.the-variants.{Call}
 use Rattle.text.proofs.Printing.{printed-none}
 use Rattle.session.proofs.Replies.{as-read, as-listed}
 use borrow.Author.Needs.{needs}
