@@ -12,8 +12,8 @@ use Rattle.text.specs.Parts.{split}
 use Rattle.station.specs.declared.Station.{Station}
 use Rattle.station.specs.Answers.{Gives}
 use Rattle.station.specs.View.{view}
-use Rattle.session.specs.Reply.{Told}
-use Rattle.session.specs.Session.{answered, console, Fed, first, served, feed}
+use Rattle.reply.specs.Reply.{Told, answered}
+use Rattle.session.specs.Session.{console, Fed, first, served, feed}
 use Rattle.session.specs.declared.turn.Wants.{Wants}
 use Rattle.session.specs.declared.turn.Wants.the-variants.{Bytes, Room as Space, Nothing}
 use Rattle.session.specs.declared.turn.Session.{Session}

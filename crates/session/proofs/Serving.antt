@@ -16,8 +16,8 @@ use Rattle.text.specs.Printed.{Printed}
 use Rattle.text.proofs.Splitting.{take-slice}
 use Rattle.station.specs.declared.Station.{Station}
 use Rattle.station.specs.View.{view, Valid}
-use Rattle.session.specs.Reply.{Told, Replied}
-use Rattle.session.specs.Session.{answered, first, enough, served, feed}
+use Rattle.reply.specs.Reply.{Told, Replied, answered}
+use Rattle.session.specs.Session.{first, enough, served, feed}
 use Rattle.session.specs.declared.turn.Wants.the-variants.{Bytes, Room as Space, Nothing}
 use Rattle.session.specs.declared.turn.Session.{Session}
 use Rattle.session.specs.declared.turn.Next.{Next}

@@ -14,8 +14,8 @@ use Rattle.rules.proofs.Ranges.{below-or-not}
 use Rattle.text.specs.Parts.{joined, split}
 use Rattle.requests.specs.Requests.{readRequest, error}
 use Rattle.requests.specs.declared.request.Reason.the-variants.{LineTooLong}
-use Rattle.session.specs.Reply.{Told}
-use Rattle.session.specs.Session.{saying, answered, session, console, Fed, first, enough, served, feed}
+use Rattle.reply.specs.Reply.{Told, answered}
+use Rattle.session.specs.Session.{saying, session, console, Fed, first, enough, served, feed}
 
 -- Requests that are too long
 

@@ -7,7 +7,8 @@ use Rattle.text.specs.Numbers.{valueFrom, numberOf, digitsWithin}
 use Rattle.text.specs.Parts.{split, sameText}
 use Rattle.requests.specs.Requests.{readNumbers, readCall, readRequest}
 use Rattle.answers.specs.Answers.{answerText}
-use Rattle.session.specs.Session.{answered, session, console}
+use Rattle.reply.specs.Reply.{answered}
+use Rattle.session.specs.Session.{session, console}
 
 -- "enquire 1", "#", "", "q" are answered "refused 15", "error unknown call"
 small-run :

@@ -7,7 +7,7 @@ ghost use lib.ListN.{length};
 ghost use Rattle.text.specs.Parts.{PartEnd};
 ghost use Rattle.station.specs.View.{view, Valid};
 ghost use Rattle.session.specs.Turns.{ends, Room, Answers, Stops, KeptTo, LastTurn, Turned};
-use crate::reply::reply_request;
+use reply::reply_request;
 use station::Station;
 
 // What a session needs before it can go on: more bytes of the input, room in the buffer for further answers, or nothing,

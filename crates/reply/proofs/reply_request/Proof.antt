@@ -1,4 +1,4 @@
--- `session::reply_request` meets its contract: what the text asks for is answered, and the lent lists are those of what was read.
+-- `reply::reply_request` meets its contract: what the text asks for is answered, and the lent lists are those of what was read.
 use mathlib.Core.Path.{sym, refl}
 use native.Mathlib.Omega.{arith}
 use lib.Seq.{length-take-le}
@@ -6,10 +6,10 @@ use Rattle.station.specs.View.{view}
 use Rattle.requests.specs.Requests.{Fits}
 use Rattle.requests.specs.declared.request.Request.the-variants.{Call}
 use Rattle.text.proofs.Printing.{printed-none}
-use Rattle.session.proofs.Replies.{as-read, as-listed}
+use Rattle.reply.proofs.Replies.{as-read, as-listed}
 use borrow.Author.Needs.{needs}
-use Rattle.session.proofs.reply.reply_request.Statement.{statement}
-use Rattle.session.proofs.reply.reply_request.Tie as tie
+use Rattle.reply.proofs.reply_request.Statement.{statement}
+use Rattle.reply.proofs.reply_request.Tie as tie
 
 -- what is lent beside the call that was read
 fit : (c : tie.After-read2) → Fits 2048 (Call (c .read2 .given .0 .0) (c .read2 .given .0 .1 .0) (c .read2 .given .0 .1 .1 .0))

@@ -1,4 +1,4 @@
--- `session::reply_call` meets its contract: the list that is lent, what the call leaves there, and its front as it is printed.
+-- `reply::reply_call` meets its contract: the list that is lent, what the call leaves there, and its front as it is printed.
 use mathlib.Core.Path.{_≡_, sym, ap, subst, _∙_}
 use mathlib.Core.List.{List, _++_}
 use Prim.Native.Nat.{ℕ, min}
@@ -8,10 +8,10 @@ use lib.Seq.{length-take-le, take-at}
 use Rattle.requests.specs.Requests.{lentList}
 use Rattle.station.specs.View.{view}
 use Rattle.station.specs.Applied.{Applies}
-use Rattle.session.proofs.Replies.{lent-front, few-told, call-replied, list-left}
+use Rattle.reply.proofs.Replies.{lent-front, few-told, call-replied, list-left}
 use borrow.Author.Needs.{needs}
-use Rattle.session.proofs.reply.reply_call.Statement.{statement}
-use Rattle.session.proofs.reply.reply_call.Tie as tie
+use Rattle.reply.proofs.reply_call.Statement.{statement}
+use Rattle.reply.proofs.reply_call.Tie as tie
 
 -- the call keeps the length of the list that it is lent
 long : (c : tie.After-apply) → length (c .apply .last .1 .1 .1 .0) ≡ c .before .before .before .before .before .before .places-lent .result

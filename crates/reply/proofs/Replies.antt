@@ -62,8 +62,8 @@ use Rattle.station.specs.declared.calls.Answer as code
 use Rattle.station.specs.View.{view, Valid}
 use Rattle.station.specs.Answers.{Gives}
 use Rattle.station.specs.Applied.{callOf, Lends, none, starts, report, lends, lentOf, answerOf, Applies}
-use Rattle.session.specs.Reply.{told, reply, reportOf, requestReport, Replied, Lists}
-use Rattle.session.specs.Session.{answered}
+use Rattle.reply.specs.Reply.{told, reply, reportOf, requestReport, Replied, Lists}
+use Rattle.reply.specs.Reply.{answered}
 
 pub replied :
     {r : Result} {a : Answer} {s : Station} {list before : List ℕ} {at : ℕ} {after : List ℕ} {next : ℕ}

@@ -5,7 +5,7 @@ use mathlib.Core.List.{List, []}
 use lib.Seq.{sets}
 use Rattle.rules.specs.Calls.{State, Call, order, move, offer, replanLatest, replanLines, enquire, Result}
 use Rattle.rules.specs.Calls as calls
-use Rattle.requests.specs.Requests.{Asked, nothing, opening, call, error}
+use Rattle.requests.specs.Requests.{Asked, nothing, opening, call, error, readRequest}
 use Rattle.text.specs.Printed.{Printed}
 use Rattle.answers.specs.Answers.{answerText, errorText}
 use Rattle.station.specs.declared.Station.{Station}
@@ -25,6 +25,11 @@ reply s nothing = record { state = s; text = [] }
 reply s (opening x) = told (calls.opening x)
 reply s (call c) = told (calls.step s c)
 reply s (error reason) = record { state = s; text = errorText reason }
+
+-- What a request is answered. An empty request and one that begins with `#` have no answer; one of more than 4,096 bytes is
+-- answered `error line too long`, and leaves the station as it is (`readRequest`).
+unfoldable pub answered : State → List ℕ → Told
+answered s request = reply s (readRequest request)
 
 -- what a call leaves at the front of the list that is lent for reports: a clock move alone reports
 abbrev pub reportOf : State → Call → List ℕ

@@ -1,8 +1,8 @@
--- `session::reply_open` meets its contract: what the call gives is printed.
-use Rattle.session.proofs.Replies.{replied}
+-- `reply::reply_open` meets its contract: what the call gives is printed.
+use Rattle.reply.proofs.Replies.{replied}
 use borrow.Author.Needs.{needs}
-use Rattle.session.proofs.reply.reply_open.Statement.{statement}
-use Rattle.session.proofs.reply.reply_open.Tie as tie
+use Rattle.reply.proofs.reply_open.Statement.{statement}
+use Rattle.reply.proofs.reply_open.Tie as tie
 
 open-requires : tie.Need-open-requires
 open-requires c κs = search needs
