@@ -1,8 +1,8 @@
 -- Demand 2.
 use mathlib.Core.Logic.{_⊎_, inl, inr, _↔_}
-use mathlib.Core.Path.{_≡_, refl, sym, subst, _∙_}
+use mathlib.Core.Path.{_≡_, refl, sym, ap, subst, _∙_}
 use Prim.Native.Nat.{ℕ, zero, suc, _≤_, _<_}
-use mathlib.Core.Bool.{Bool, true, false, cond, not, true≢false}
+use mathlib.Core.Bool.{Bool, true, false, true≢false}
 use mathlib.Core.List.{List, [], _∷_}
 use native.Mathlib.Omega.{arith}
 use lib.Dec.{ltb, leb, eqb}
@@ -14,17 +14,18 @@ use Rattle.rules.specs.Charge.{Charge, endOf, loadsOf, waitingCharges, lateness
 use Rattle.rules.specs.Search.{added}
 use Rattle.rules.specs.Replan.{Proposal, starts, none, latest, Replanned, byLines}
 use Rattle.rules.specs.Judgement.{restarted, judged}
-use Rattle.rules.specs.Calls.{Settings, State, limitsOf, refused, committed, planned, Result, answering, Call, preview, commit, offer, replanLatest, replanLines, lent, drawFor, startFor, isStart, orderRefusals, refusals, previewedAt, previewing, committing, decided, tested, offering, replanningLatest, replanningLines, granted, step}
+use Rattle.rules.specs.Calls.{Settings, State, limitsOf, refused, committed, planned, Result, answering, Call, preview, commit, offer, replanLatest, replanLines, lent, drawFor, startFor, refusals, previewedAt, previewing, committing, decided, tested, offering, replanningLatest, replanningLines, granted, step}
 use Rattle.rules.specs.Valid.{ValidCharge, ValidState}
 use Rattle.rules.proofs.Ranges.{and-left, and-right, and-both, below-or-not}
 use Rattle.rules.proofs.Lists.{each-map}
 use Rattle.rules.proofs.Counts.{sound-from, sound-true}
-use Rattle.rules.proofs.Tables.{none-firstOf, firstOf-more}
+use Rattle.rules.proofs.Tables.{none-firstOf}
 use Rattle.rules.proofs.Granted.{refusals-none, order-granted, offer-granted}
 use Rattle.rules.proofs.Searches.{earliest-first}
 use Rattle.rules.proofs.Judgements.{Meets, judged-meets, meets-judged}
 use Rattle.rules.proofs.Restarts.{Restarted, restarted-is, restarted-each}
 use Rattle.rules.proofs.Validity.{order-found}
+use Rattle.rules.proofs.Shown.{commit-other, commit-taken}
 use Rattle.guarantee.specs.DemandOne.{NoneApplies}
 use Rattle.guarantee.specs.DemandTwo.{SoundPlan, Unbroken, Better, Taken, GivenStarts, causeOf, Tested, EarliestStart, PreviewStart, CommitStart, DemandTwo}
 use Rattle.guarantee.specs.Demands.{reached}
@@ -283,25 +284,27 @@ commit-start :
 unfolding committing
 commit-start s line p d rate shown v q =
     let f = order-found s line p d rate v (order-granted s line p d rate q) in
-    rw (firstOf-more (orderRefusals s line p d rate) ((not (isStart (startFor s (drawFor s line p rate)) shown), 16) ∷ []) q, f .1)
-    (go (f .0) (found-earliest s (drawFor s line p rate) (f .0) (f .1)) (eqb (f .0) shown) refl)
+    go (f .0) (f .1) (found-earliest s (drawFor s line p rate) (f .0) (f .1)) (eqb (f .0) shown) refl
   where
     go :
         (start : ℕ)
+        → startFor s (drawFor s line p rate) ≡ at start
         → EarliestStart s (drawFor s line p rate) start
         → (b : Bool)
         → eqb start shown ≡ b
-        → CommitStart s line p d rate shown (answering (cond (not b) 16 0) s [] (committing s line p d rate shown))
-    go start e true h =
-        let now : EarliestStart s (drawFor s line p rate) shown
-        = subst (EarliestStart s (drawFor s line p rate)) (eqb-true start shown h) e in
-        record { answer = ((λ x. now), (λ w. refl)); refusal = λ n. absurd (n now); others-same = λ w. refl }
-    go start e false h =
-        record {
+        → CommitStart s line p d rate shown (step s (commit line p d rate shown))
+    go start f e true h =
+        let same : start ≡ shown = eqb-true start shown h in
+        let now : EarliestStart s (drawFor s line p rate) shown = subst (EarliestStart s (drawFor s line p rate)) same e in
+        rw (commit-taken s line p d rate q shown (f ∙ ap at same))
+        (record { answer = ((λ x. now), (λ w. refl)); refusal = λ n. absurd (n now); others-same = λ w. refl })
+    go start f e false h =
+        rw (commit-other s line p d rate q start shown f (eqb-false start shown h))
+        (record {
           answer = ((λ x. absurd (apart x)), (λ w. absurd (other w)));
           refusal = λ n. refl;
           others-same = λ w. absurd (other w);
-        }
+        })
       where
         apart : refused 16 ≡ committed (s .next) shown → ⊥
         apart x = let z : _≡_ {A = ℕ} 0 1 = cc in omega arith

@@ -8,10 +8,11 @@ use lib.Dec.{ltb, leb}
 use lib.ListN.{length}
 use borrow.Author.Tests.{le-ltb}
 use Rattle.rules.specs.Basics.{Found, at, nothing, firstOf}
-use Rattle.rules.specs.Calls.{places, State, Result, answering, preview, commit, drawFor, startFor, isStart, orderRefusals, refusals, previewedAt, previewing, committing, step}
+use Rattle.rules.specs.Calls.{places, State, Result, answering, preview, commit, drawFor, startFor, isStart, orderRefusals, previewedAt, previewing, committing, step}
 use Rattle.rules.specs.Earlier.{orderedAt, ordering, Together, earlierRefusals, earlierOrder}
-use Rattle.rules.proofs.Tables.{none-firstOf, row-left-out}
-use Rattle.rules.proofs.Granted.{refusals-none, granted-commit}
+use Rattle.rules.proofs.Tables.{row-left-out}
+use Rattle.rules.proofs.Granted.{refusals-none}
+use Rattle.rules.proofs.Shown.{commit-taken}
 
 -- N2: "The order becomes a preview .. and a commit": both together give what the order gave.
 pub same-as-order : (s : State) (line p d rate : ℕ) → Together line p d rate (step s (preview line p d rate)) (ordering s line p d rate)
@@ -25,8 +26,7 @@ same-as-order s line p d rate = go (firstOf (orderRefusals s line p d rate)) ref
         → startFor s (drawFor s line p rate) ≡ f
         → Together line p d rate (answering i s [] (previewedAt s f)) (answering i s [] (orderedAt s line p d rate f))
     go zero e (at start) q =
-        let free = granted-commit s line p d rate start (refusals-none s (preview line p d rate) e) q in
-        inl (start, refl, rw (none-firstOf (refusals s (commit line p d rate start)) free))
+        inl (start, refl, commit-taken s line p d rate (refusals-none s (preview line p d rate) e) start q)
     go zero e nothing q = inr (0, refl, refl)
     go (suc i) e f q = inr (suc i, refl, refl)
 

@@ -1,4 +1,3 @@
-pub mod Replies
 pub mod Serving
 pub mod Sessions
 pub mod Chains

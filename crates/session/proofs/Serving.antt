@@ -11,13 +11,13 @@ use lib.ListN.{length, take, drop, length-append, length-take, take-append-drop}
 use lib.Seq.{slice, sets-eq, length-sets, take-at, take-all, take-take, take-length, length-take-le, length-slice}
 use Rattle.rules.specs.Calls.{State}
 use Rattle.rules.proofs.Ranges.{below-or-not}
-use Rattle.protocol.specs.Words.{split, PartEnd}
-use Rattle.protocol.specs.Answers.{Printed}
-use Rattle.protocol.proofs.Splitting.{take-slice}
+use Rattle.text.specs.Parts.{split, PartEnd}
+use Rattle.text.specs.Printed.{Printed}
+use Rattle.text.proofs.Splitting.{take-slice}
 use Rattle.station.specs.declared.Station.{Station}
 use Rattle.station.specs.View.{view, Valid}
-use Rattle.session.specs.Reply.{Told, Replied}
-use Rattle.session.specs.Session.{answered, first, enough, served, feed}
+use Rattle.reply.specs.Reply.{Told, Replied, answered}
+use Rattle.session.specs.Session.{first, enough, served, feed}
 use Rattle.session.specs.declared.turn.Wants.the-variants.{Bytes, Room as Space, Nothing}
 use Rattle.session.specs.declared.turn.Session.{Session}
 use Rattle.session.specs.declared.turn.Next.{Next}

@@ -11,11 +11,11 @@ use lib.ListN.{length, take, length-append}
 use lib.Seq.{take-all, take-append-le, take-take, length-take-le}
 use Rattle.rules.specs.Calls.{settings, State, fresh}
 use Rattle.rules.proofs.Ranges.{below-or-not}
-use Rattle.protocol.specs.Words.{joined, split}
-use Rattle.protocol.specs.Requests.{readRequest, error}
-use Rattle.protocol.specs.declared.number.Reason.the-variants.{LineTooLong}
-use Rattle.session.specs.Reply.{Told}
-use Rattle.session.specs.Session.{saying, answered, session, console, Fed, first, enough, served, feed}
+use Rattle.text.specs.Parts.{joined, split}
+use Rattle.requests.specs.Requests.{readRequest, error}
+use Rattle.requests.specs.declared.request.Reason.the-variants.{LineTooLong}
+use Rattle.reply.specs.Reply.{Told, answered}
+use Rattle.session.specs.Session.{saying, session, console, Fed, first, enough, served, feed}
 
 -- Requests that are too long
 
