@@ -16,6 +16,14 @@ lineAccepted = withRefusals (λ s c. unnumbered 4 (refusals s c))
 abbrev pub highestNumber : Gives
 highestNumber = withRefusals (λ s c. sortedBy (λ a b. ltb (b .1) (a .1)) (refusals s c))
 
+-- where several apply, the lowest number, in whatever place it stands: 6 before 17
+abbrev pub lowestNumber : Gives
+lowestNumber = withRefusals (λ s c. sortedBy (λ a b. ltb (a .1) (b .1)) (refusals s c))
+
+-- a rate is compared with N alone
+abbrev pub rateAboveBound : Gives
+rateAboveBound = withRefusals (λ s c. refusals (bounding (s .limit) s) c)
+
 -- the start shown is looked at before all else
 abbrev pub shownFirst : Gives
 shownFirst = withRefusals (λ s c. keep (λ row. eqb (row .1) 16) (refusals s c) ++ unnumbered 16 (refusals s c))
@@ -32,8 +40,8 @@ alwaysFull = withRefusals (λ s c. map (λ row. (eqb (row .1) 13 || row .0, row 
 abbrev pub hurryRefused : Gives
 hurryRefused =
     withPreviews
-    (λ s line p d.
-    cond (ltb d (s .clock + p)) (record { answer = refused 7; state = s; list = [] }) (previewing s line p d))
+    (λ s line p d rate.
+    cond (ltb d (s .clock + p)) (record { answer = refused 7; state = s; list = [] }) (previewing s line p d rate))
 
 -- a refusal that no condition names: a move to the clock itself
 abbrev pub standstillRefused : Gives
@@ -56,7 +64,7 @@ listCleared s c =
 
 -- a commit answered as an enquiry is, without a ticket
 abbrev pub ticketNotSaid : Gives
-ticketNotSaid = withCommits (λ s line p d shown. saying (waiting shown) (committing s line p d shown))
+ticketNotSaid = withCommits (λ s line p d rate shown. saying (waiting shown rate) (committing s line p d rate shown))
 
 -- Openings
 
