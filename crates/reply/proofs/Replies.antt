@@ -9,8 +9,7 @@ use borrow.Author.Tests.{ltb-false}
 use lib.ListN.{length, take, drop, replicate, length-replicate}
 use lib.Seq.{sets, sets-eq, take-at, drop-at}
 use Rattle.rules.specs.Basics.{Found, at, nothing, firstOf, keep}
-use Rattle.rules.specs.Charge.{Charge, endOf, isBegun, loadsOf, drawOf}
-use Rattle.rules.specs.Search.{earliest}
+use Rattle.rules.specs.Charge.{Charge, endOf, isBegun}
 use Rattle.rules.specs.Replan as replan
 use Rattle.rules.specs.Replan.{Proposal, latest, byLines}
 use Rattle.rules.specs.Judgement.{judged}
@@ -20,12 +19,14 @@ use Rattle.rules.specs.Calls.{
   Answer,
   refused,
   opened,
-  ordered,
+  previewed,
+  committed,
   moved,
   planned,
   waiting,
   charging,
-  order,
+  preview,
+  commit,
   move,
   offer,
   replanLatest,
@@ -35,11 +36,14 @@ use Rattle.rules.specs.Calls.{
   step,
   refusals,
   answering,
-  orderedAt,
+  drawFor,
+  startFor,
+  previewedAt,
   decided,
   tested,
   limitsOf,
-  ordering,
+  previewing,
+  committing,
   moving,
   offering,
   replanningLatest,
@@ -57,7 +61,7 @@ use Rattle.requests.specs.Requests.{readRequest, meaning, lentList, Lent, Asks}
 use Rattle.requests.specs.declared.request.Request.{Request}
 use Rattle.station.specs.declared.Station.{Station}
 use Rattle.station.specs.declared.calls.Call.{Call}
-use Rattle.station.specs.declared.calls.Call.the-variants.{Order, Move, Offer, ReplanLatest, ReplanLines, Enquire}
+use Rattle.station.specs.declared.calls.Call.the-variants.{Preview, Commit, Move, Offer, ReplanLatest, ReplanLines, Enquire}
 use Rattle.station.specs.declared.calls.Answer as code
 use Rattle.station.specs.View.{view, Valid}
 use Rattle.station.specs.Answers.{Gives}
@@ -82,7 +86,8 @@ pub text-same : (a : Answer) (list other : List ℕ) → pairsOf a ≡ 0 → ans
 unfolding answerText
 text-same (refused k) list other e = refl
 text-same (opened d) list other e = refl
-text-same (ordered t u) list other e = refl
+text-same (previewed u) list other e = refl
+text-same (committed t u) list other e = refl
 text-same (moved k d) list other e = rw e
 text-same (planned c b a k) list other e = refl
 text-same (waiting u) list other e = refl
@@ -92,9 +97,9 @@ refused-none : (i : ℕ) (s : State) (list : List ℕ) (r : Result) → pairsOf 
 refused-none zero s list r e = e
 refused-none (suc k) s list r e = refl
 
-ordered-none : (s : State) (c : ℕ → Charge) (f : Found) → pairsOf (orderedAt s c f .answer) ≡ 0
-ordered-none s c (at start) = refl
-ordered-none s c nothing = refl
+previewed-none : (s : State) (f : Found) → pairsOf (previewedAt s f .answer) ≡ 0
+previewed-none s (at start) = refl
+previewed-none s nothing = refl
 
 decided-none : (s : State) (rounds : ℕ) (ss list : List ℕ) (cause : ℕ) → pairsOf (decided s rounds ss list cause .answer) ≡ 0
 decided-none s rounds ss list zero = refl
@@ -140,9 +145,11 @@ Reports report n places = (n ≤ 180) × (2 * n ≤ places)
 reports :
     (s : State) (c : Call) (ss list : List ℕ) → length (s .charges) ≤ 180
     → Reports (lends c) (pairsOf (step s (callOf c ss list) .answer)) (length list)
-unfolding ordering offering replanningLatest replanningLines enquiring
-reports s (Order line time due) ss list few =
-    refused-none (firstOf (refusals s (order line time due))) s [] (ordering s line time due) (ordered-none s (rules.newCharge s line time due) (earliest (limitsOf s) (s .clock) (loadsOf (s .charges)) (drawOf (rules.newCharge s line time due 0))))
+unfolding previewing committing offering replanningLatest replanningLines enquiring
+reports s (Preview line time due) ss list few =
+    refused-none (firstOf (refusals s (preview line time due))) s [] (previewing s line time due) (previewed-none s (startFor s (drawFor s line time)))
+reports s (Commit line time due shown) ss list few =
+    refused-none (firstOf (refusals s (commit line time due shown))) s [] (committing s line time due shown) refl
 reports s (Move target) ss list few = few-moved s target list few
 reports s Offer ss list few = refused-none (firstOf (refusals s (offer ss))) s ss (offering s ss) (tested-none s 0 (replan.starts ss) ss)
 reports s ReplanLatest ss list few = tested-none s 0 (latest (limitsOf s) (s .clock) (s .charges)) []
@@ -186,7 +193,8 @@ module _ {s : Station} (c : Call) {ss list after : List ℕ} {a : code.Answer} {
 after-report :
     (s : State) (c : Call) (ss after : List ℕ) (places : ℕ) {a : code.Answer} {next : Station} → Lent (lends c) places
     → Applies s c ss (lentList places) after a next → after ≡ reportOf s (callOf c ss (lentList places))
-after-report s (Order line time due) ss after places e p = p .stays ∙ ap lentList e
+after-report s (Preview line time due) ss after places e p = p .stays ∙ ap lentList e
+after-report s (Commit line time due shown) ss after places e p = p .stays ∙ ap lentList e
 after-report s (Move target) ss after places e p = ap (λ (x : Result). x .list) (p .gives .result)
 after-report s Offer ss after places e p = p .stays ∙ ap lentList e
 after-report s ReplanLatest ss after places e p = p .stays ∙ ap lentList e

@@ -10,7 +10,7 @@ use Rattle.rules.specs.Load.{active, counts, Limits, onLines}
 use Rattle.rules.specs.Charge.{Charge, starting, drawOf, loadOf, loadsOf, begunCharges, waitingCharges}
 use Rattle.rules.specs.Search.{earliest, Caps, earliestUnder, firstUnbalanced}
 
--- d − p. "A latest start may now be negative": it is an integer.
+-- d − p as a signed number: "A latest start may now be negative". `subℕ` gives the integer.
 abbrev pub latestStart : Charge → ℤ
 latestStart c = subℕ (c .due) (c .time)
 
