@@ -100,7 +100,14 @@ fn print_enquiry(answer: EnquiryAnswer, buffer: &mut [u8], at: usize) -> usize
     let EnquiryAnswer::Charging { start, end, rate } = answer else {
         return print_refused(15, buffer, at);
     };
-    print_three(b"charging ", start as u64, end as u64, rate as u64, buffer, at)
+    print_three(
+        b"charging ",
+        start as u64,
+        end as u64,
+        rate as u64,
+        buffer,
+        at,
+    )
 }
 
 pub fn print_opening(answer: OpenAnswer, buffer: &mut [u8], at: usize) -> usize
