@@ -8,8 +8,7 @@ ghost use Rattle.requests.specs.Requests.{readRequest, requestValues, lentList,
 ghost use Rattle.station.specs.View.{view, Valid};
 ghost use Rattle.station.specs.Answers.{settingsOf};
 ghost use Rattle.station.specs.Applied.{callOf, lends};
-ghost use Rattle.reply.specs.Reply.{told, reportOf, requestReport, Replied, Lists};
-ghost use Rattle.reply.specs.Reply.{answered};
+ghost use Rattle.reply.specs.Reply.{told, answered, reportOf, requestReport, Replied, Lists};
 use requests::Request;
 use station::Station;
 use station::calls::Call;

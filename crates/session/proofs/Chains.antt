@@ -19,7 +19,7 @@ use Rattle.session.specs.declared.turn.Wants.the-variants.{Bytes, Room a
 use Rattle.session.specs.declared.turn.Session.{Session}
 use Rattle.session.specs.declared.turn.Next.{Next}
 use Rattle.session.specs.Turns.{heldOf, readOf, ends, over, Standing, Turned, Chain, opened, turned, EveryChain, Reached}
-use Rattle.session.proofs.Serving.{not-both}
+use Rattle.session.proofs.Turning.{not-both}
 use Rattle.session.proofs.Sessions.{finish, first-first, feed-append, console-fed}
 
 -- what is known after each turn

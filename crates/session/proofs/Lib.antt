@@ -1,3 +1,5 @@
-pub mod Serving
+pub mod Parting
 pub mod Sessions
+pub mod Serving
+pub mod Turning
 pub mod Chains
