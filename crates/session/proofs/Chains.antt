@@ -8,18 +8,18 @@ use borrow.Author.Tests.{eqb-true}
 use lib.ListN.{length, take, length-take}
 use lib.Seq.{slice, slice-empty, take-all}
 use Rattle.rules.specs.Calls.{settings, State, Answer, Result, fresh, opening}
-use Rattle.protocol.specs.Words.{split}
+use Rattle.text.specs.Parts.{split}
 use Rattle.station.specs.declared.Station.{Station}
 use Rattle.station.specs.Answers.{Gives}
 use Rattle.station.specs.View.{view}
-use Rattle.session.specs.Reply.{Told}
-use Rattle.session.specs.Session.{answered, console, Fed, first, served, feed}
+use Rattle.reply.specs.Reply.{Told, answered}
+use Rattle.session.specs.Session.{console, Fed, first, served, feed}
 use Rattle.session.specs.declared.turn.Wants.{Wants}
 use Rattle.session.specs.declared.turn.Wants.the-variants.{Bytes, Room as Space, Nothing}
 use Rattle.session.specs.declared.turn.Session.{Session}
 use Rattle.session.specs.declared.turn.Next.{Next}
 use Rattle.session.specs.Turns.{heldOf, readOf, ends, over, Standing, Turned, Chain, opened, turned, EveryChain, Reached}
-use Rattle.session.proofs.Serving.{not-both}
+use Rattle.session.proofs.Turning.{not-both}
 use Rattle.session.proofs.Sessions.{finish, first-first, feed-append, console-fed}
 
 -- what is known after each turn

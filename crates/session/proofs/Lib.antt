@@ -1,4 +1,5 @@
-pub mod Replies
-pub mod Serving
+pub mod Parting
 pub mod Sessions
+pub mod Serving
+pub mod Turning
 pub mod Chains

@@ -1,21 +1,20 @@
 -- Input that comes in parts is answered as if it came at once.
 use mathlib.Core.Path.{_≡_, refl, sym, ap, _∙_}
-use mathlib.Core.Bool.{Bool, true, false, cond}
 use mathlib.Core.List.{List, [], _∷_, _++_, append-assoc, append-nil}
 use mathlib.Core.Logic.{⊎-elim}
-use Prim.Native.Nat.{ℕ, zero, suc, _+_, _≤_, _<_}
+use Prim.Native.Nat.{ℕ, _<_}
 use native.Mathlib.Omega.{arith}
 use borrow.Author.Tests.{lt-ltb}
-use lib.Dec.{eqb}
-use lib.ListN.{length, take, length-append}
+use lib.ListN.{length, length-append}
 use lib.Seq.{take-all, take-append-le, take-take, length-take-le}
 use Rattle.rules.specs.Calls.{settings, State, fresh}
 use Rattle.rules.proofs.Ranges.{below-or-not}
-use Rattle.protocol.specs.Words.{joined, split}
-use Rattle.protocol.specs.Requests.{readRequest, error}
-use Rattle.protocol.specs.declared.number.Reason.the-variants.{LineTooLong}
-use Rattle.session.specs.Reply.{Told}
-use Rattle.session.specs.Session.{saying, answered, session, console, Fed, first, enough, served, feed}
+use Rattle.text.specs.Parts.{joined, split}
+use Rattle.requests.specs.Requests.{readRequest, error}
+use Rattle.requests.specs.declared.request.Reason.the-variants.{LineTooLong}
+use Rattle.reply.specs.Reply.{Told, answered}
+use Rattle.session.specs.Session.{saying, session, console, Fed, first, enough, served, feed}
+use Rattle.session.proofs.Parting.{Some, onto, split-some, split-onto, onto-some, Whole, Wholes, split-wholes, take-whole}
 
 -- Requests that are too long
 
@@ -44,101 +43,7 @@ enough-kept request more =
 enough-same : (s : State) (request : List ℕ) → answered s (enough request) ≡ answered s request
 enough-same s request = rw (append-nil (enough request), append-nil request) at (enough-answered s request [])
 
--- The requests of a text and of one after it
-
-abbrev Some : List (List ℕ) → Type 0
-Some [] = ⊥
-Some (request ∷ requests) = Unit {0}
-
--- the last request of those before goes on
-abbrev onto : List (List ℕ) → List (List ℕ) → List (List ℕ)
-onto [] more = more
-onto (request ∷ []) more = joined request more
-onto (request ∷ (next ∷ requests)) more = request ∷ onto (next ∷ requests) more
-
-joined-some : (text : List ℕ) (requests : List (List ℕ)) → Some (joined text requests)
-joined-some text [] = tt
-joined-some text (request ∷ requests) = tt
-
-pub split-some : (b : ℕ) (bytes : List ℕ) → Some (split b bytes)
-unfolding split
-split-some b [] = tt
-split-some b (x ∷ xs) = go (eqb x b)
-  where
-    go : (t : Bool) → Some (cond t ([] ∷ split b xs) (joined (x ∷ []) (split b xs)))
-    go true = tt
-    go false = joined-some (x ∷ []) (split b xs)
-
-joined-none : (requests : List (List ℕ)) → Some requests → joined [] requests ≡ requests
-joined-none [] h = absurd h
-joined-none (request ∷ requests) h = refl
-
-onto-cons : (request : List ℕ) (requests more : List (List ℕ)) → Some requests → onto (request ∷ requests) more ≡ request ∷ onto requests more
-onto-cons request [] more h = absurd h
-onto-cons request (next ∷ requests) more h = refl
-
-joined-joined : (text request : List ℕ) (more : List (List ℕ)) → joined text (joined request more) ≡ joined (text ++ request) more
-joined-joined text request [] = refl
-joined-joined text request (m ∷ ms) = rw (append-assoc text request m)
-
-onto-joined :
-    (text : List ℕ) (requests more : List (List ℕ)) → Some requests → joined text (onto requests more) ≡ onto (joined text requests) more
-onto-joined text [] more h = absurd h
-onto-joined text (request ∷ []) more h = joined-joined text request more
-onto-joined text (request ∷ (next ∷ requests)) more h = refl
-
-split-onto : (b : ℕ) (xs ys : List ℕ) → split b (xs ++ ys) ≡ onto (split b xs) (split b ys)
-unfolding split
-split-onto b [] ys = sym (joined-none (split b ys) (split-some b ys))
-split-onto b (x ∷ xs) ys = go (eqb x b) (split-onto b xs ys)
-  where
-    go :
-        (t : Bool) → split b (xs ++ ys) ≡ onto (split b xs) (split b ys)
-        → cond t ([] ∷ split b (xs ++ ys)) (joined (x ∷ []) (split b (xs ++ ys)))
-        ≡ onto (cond t ([] ∷ split b xs) (joined (x ∷ []) (split b xs))) (split b ys)
-    go true ih = rw (ih, onto-cons [] (split b xs) (split b ys) (split-some b xs))
-    go false ih = rw ih (onto-joined (x ∷ []) (split b xs) (split b ys) (split-some b xs))
-
--- A request has no line feed
-
-abbrev Whole : List ℕ → Type 0
-Whole request = split 10 request ≡ request ∷ []
-
-abbrev Wholes : List (List ℕ) → Type 0
-Wholes [] = Unit {0}
-Wholes (request ∷ requests) = Whole request × Wholes requests
-
-split-wholes : (bytes : List ℕ) → Wholes (split 10 bytes)
-unfolding split
-split-wholes [] = (refl, tt)
-split-wholes (x ∷ xs) = go (eqb x 10) refl (split-wholes xs)
-  where
-    more : eqb x 10 ≡ false → (requests : List (List ℕ)) → Wholes requests → Wholes (joined (x ∷ []) requests)
-    more e [] h = (rw e, tt)
-    more e (request ∷ requests) h = (rw (e, h .0), h .1)
-
-    go :
-        (t : Bool) → eqb x 10 ≡ t → Wholes (split 10 xs)
-        → Wholes (cond t ([] ∷ split 10 xs) (joined (x ∷ []) (split 10 xs)))
-    go true e ih = (refl, ih)
-    go false e ih = more e (split 10 xs) ih
-
-pub take-whole : (n : ℕ) (request : List ℕ) → Whole request → Whole (take n request)
-unfolding split
-take-whole zero request h = refl
-take-whole (suc n) [] h = refl
-take-whole (suc n) (x ∷ xs) h = go (eqb x 10) refl (take-whole n xs)
-  where
-    inner : (requests : List (List ℕ)) → joined (x ∷ []) requests ≡ (x ∷ xs) ∷ [] → Some requests → requests ≡ xs ∷ []
-    inner [] e o = absurd o
-    inner (request ∷ requests) e o = cc
-
-    go : (t : Bool) → eqb x 10 ≡ t → (Whole xs → Whole (take n xs)) → Whole (x ∷ take n xs)
-    go true e ih =
-        let f : [] ∷ split 10 xs ≡ (x ∷ xs) ∷ [] = rw e at h in let z : _≡_ {A = ℕ} 0 1 = cc in absurd (omega arith)
-    go false e ih =
-        let f : joined (x ∷ []) (split 10 xs) ≡ (x ∷ xs) ∷ [] = rw e at h in
-        rw (e, ih (inner (split 10 xs) f (split-some 10 xs)))
+-- Parts of the input
 
 served-whole : (s : State) (requests : List (List ℕ)) → Wholes requests → Whole (served s requests .kept)
 unfolding served split
@@ -146,19 +51,12 @@ served-whole s [] h = refl
 served-whole s (request ∷ []) h = take-whole 4097 request (h .0)
 served-whole s (request ∷ (next ∷ requests)) h = served-whole (answered s request .state) (next ∷ requests) (h .1)
 
--- Parts of the input
-
 pub served-request :
     (s : State) (request : List ℕ) (requests : List (List ℕ)) → Some requests
     → served s (request ∷ requests) ≡ first (answered s request .text) (served (answered s request .state) requests)
 unfolding served
 served-request s request [] h = absurd h
 served-request s request (next ∷ requests) h = refl
-
-onto-some : (requests more : List (List ℕ)) → Some requests → Some (onto requests more)
-onto-some [] more h = absurd h
-onto-some (request ∷ []) more h = joined-some request more
-onto-some (request ∷ (next ∷ requests)) more h = tt
 
 pub first-first : (a b : List ℕ) (o : Fed) → first a (first b o) ≡ first (a ++ b) o
 first-first a b o = rw (append-assoc a b (o .text))

@@ -3,11 +3,12 @@ use Prim.Native.Nat.{ℕ}
 use mathlib.Core.Path.{_≡_, refl}
 use mathlib.Core.List.{List, [], _∷_}
 use Rattle.rules.specs.Calls.{enquiring}
-use Rattle.protocol.specs.Numbers.{valueFrom, numberOf, digitsWithin}
-use Rattle.protocol.specs.Words.{split, sameText}
-use Rattle.protocol.specs.Requests.{readNumbers, readCall, readRequest}
-use Rattle.protocol.specs.Answers.{answerText}
-use Rattle.session.specs.Session.{answered, session, console}
+use Rattle.text.specs.Numbers.{valueFrom, numberOf, digitsWithin}
+use Rattle.text.specs.Parts.{split, sameText}
+use Rattle.requests.specs.Requests.{readNumbers, readCall, readRequest}
+use Rattle.answers.specs.Answers.{answerText}
+use Rattle.reply.specs.Reply.{answered}
+use Rattle.session.specs.Session.{session, console}
 
 -- "enquire 1", "#", "", "q" are answered "refused 15", "error unknown call"
 small-run :

@@ -1,4 +1,3 @@
-pub mod Reply
 pub mod Session
 pub mod Turns
 pub mod Cases

@@ -3,18 +3,12 @@ use Prim.Native.Nat.{ℕ}
 use mathlib.Core.List.{List, [], _∷_, _++_}
 use lib.ListN.{take}
 use Rattle.rules.specs.Calls.{settings, State, fresh}
-use Rattle.protocol.specs.Words.{split}
-use Rattle.protocol.specs.Requests.{readRequest}
-use Rattle.session.specs.Reply.{Told, reply}
+use Rattle.text.specs.Parts.{split}
+use Rattle.reply.specs.Reply.{Told, answered}
 
 -- a text in front of all that follows it
 abbrev pub saying : List ℕ → Told → Told
 saying text t = record { state = t .state; text = text ++ t .text }
-
--- What a request is answered. An empty request and one that begins with `#` have no answer; one of more than 4,096 bytes is
--- answered `error line too long`, and leaves the station as it is (`readRequest`).
-unfoldable pub answered : State → List ℕ → Told
-answered s request = reply s (readRequest request)
 
 -- the answers to the requests, in their order: each request gets the station that the one before it left
 unfoldable pub session : State → List (List ℕ) → Told

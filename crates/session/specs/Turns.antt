@@ -7,9 +7,10 @@ use lib.Dec.{eqb}
 use lib.ListN.{length, take}
 use lib.Seq.{slice}
 use Rattle.rules.specs.Calls.{settings, State, fresh}
-use Rattle.protocol.specs.Words.{split}
+use Rattle.text.specs.Parts.{split}
 use Rattle.station.specs.View.{view, Valid}
-use Rattle.session.specs.Session.{answered, console, first, served, feed}
+use Rattle.reply.specs.Reply.{answered}
+use Rattle.session.specs.Session.{console, first, served, feed}
 use Rattle.session.specs.declared.turn.Wants as declared
 use Rattle.session.specs.declared.turn.Wants.the-variants.{Bytes, Room as Space, Nothing}
 use Rattle.session.specs.declared.turn.Session.{Session}

@@ -4,10 +4,10 @@
 ghost use mathlib.Core.Path.{_≡_};
 ghost use Prim.Native.Nat.{_+_, _≤_};
 ghost use lib.ListN.{length};
-ghost use Rattle.protocol.specs.Words.{PartEnd};
+ghost use Rattle.text.specs.Parts.{PartEnd};
 ghost use Rattle.station.specs.View.{view, Valid};
 ghost use Rattle.session.specs.Turns.{ends, Room, Answers, Stops, KeptTo, LastTurn, Turned};
-use crate::reply::reply_request;
+use reply::reply_request;
 use station::Station;
 
 // What a session needs before it can go on: more bytes of the input, room in the buffer for further answers, or nothing,
@@ -44,7 +44,7 @@ fn request_end(block: &[u8], from: usize) -> usize
     requires { ⌜ from ≤ length (now block) ⌝ }
     ensures { λ r. ⌜ PartEnd 10 (now (block .entry)) from (length (now (block .entry))) r ⌝ }
 {
-    protocol::part_end(block, from, block.len(), 10)
+    text::part_end(block, from, block.len(), 10)
 }
 
 // Answers the requests of a block that have ended, one after another, as long as the buffer has room for any answer.
@@ -155,7 +155,7 @@ pub fn turn(
     let from = replies.from;
     let at = replies.at;
     if at > 57000 {
-        let held = protocol::carry(block, from, filled);
+        let held = text::carry(block, from, filled);
         let full = Session {
             station: after,
             held,
@@ -164,7 +164,7 @@ pub fn turn(
         return Next { session: full, at };
     }
     let to = kept_to(from, filled);
-    let held = protocol::carry(block, from, to);
+    let held = text::carry(block, from, to);
     let waiting = Session {
         station: after,
         held,

@@ -1,7 +1,7 @@
 -- `session::last_turn` meets its contract: what is held is answered.
 use mathlib.Core.Path.{sym}
 use lib.Seq.{length-take-le}
-use Rattle.session.proofs.Serving.{last-request}
+use Rattle.session.proofs.Turning.{last-request}
 use borrow.Author.Needs.{needs}
 use Rattle.session.proofs.turn.last_turn.Statement.{statement}
 use Rattle.session.proofs.turn.last_turn.Tie as tie

@@ -3,7 +3,7 @@ use mathlib.Core.Path.{sym, _∙_}
 use Prim.Native.Nat.{_+_}
 use native.Mathlib.Omega.{arith}
 use lib.Seq.{length-take-le}
-use Rattle.session.proofs.Serving.{turned-last, turned-full, turned-waiting}
+use Rattle.session.proofs.Turning.{turned-last, turned-full, turned-waiting}
 use borrow.Author.Needs.{needs}
 use Rattle.session.proofs.turn.turn.Statement.{statement}
 use Rattle.session.proofs.turn.turn.Tie as tie

@@ -1,0 +1,33 @@
+-- An enquiry's answer.
+use mathlib.Core.Path.{_≡_, refl}
+use mathlib.Core.List.{List, [], _∷_}
+use mathlib.Core.Logic.{_⊎_, ⊎-elim}
+use Prim.Native.Nat.{ℕ}
+use native.Mathlib.Omega.{arith}
+use Rattle.station.specs.Answers.{enquiryAnswer}
+use Rattle.station.specs.declared.enquiry.EnquiryAnswer.{EnquiryAnswer}
+use Rattle.station.proofs.enquiry.EnquiryAnswer.{the-type}
+use Rattle.station.specs.declared.enquiry.EnquiryAnswer.the-variants.{Waiting, Charging, Refused}
+use Rattle.text.specs.Printed.{Printed}
+use Rattle.answers.specs.Answers.{answerText}
+use types.Run.{OneOf}
+use denote.Enum.Declared.{tagOf}
+
+neither : (x k l : ℕ) → (x ≡ k → ⊥) → (x ≡ l → ⊥) → (x ≡ k) ⊎ (x ≡ l) → ⊥
+neither x k l f g h = ⊎-elim f g h
+
+-- what is neither waiting nor charging is refused
+pub refused-left :
+    (a : EnquiryAnswer) → OneOf (1 ∷ 2 ∷ []) (tagOf the-type a) → OneOf (0 ∷ 2 ∷ []) (tagOf the-type a) → a ≡ Refused
+refused-left (Waiting start) p q = absurd (neither 0 1 2 (λ e. omega arith) (λ e. omega arith) p)
+refused-left (Charging start end) p q = absurd (neither 1 0 2 (λ e. omega arith) (λ e. omega arith) q)
+refused-left Refused p q = refl
+
+-- nothing of the lent list is printed
+pub enquiry-line :
+    (a : EnquiryAnswer) (list : List ℕ) {before : List ℕ} {at : ℕ} {after : List ℕ} {next : ℕ}
+    → Printed (answerText (enquiryAnswer a) []) before at after next → Printed (answerText (enquiryAnswer a) list) before at after next
+unfolding answerText
+enquiry-line (Waiting start) list p = p
+enquiry-line (Charging start end) list p = p
+enquiry-line Refused list p = p

@@ -1,0 +1,55 @@
+-- `answers::print_moved` meets its contract: its parts are printed one after another.
+use Rattle.answers.specs.Answers.{answerText}
+use Rattle.text.proofs.Printing.{printed-then}
+use borrow.Author.Needs.{needs}
+use Rattle.answers.proofs.answer.print_moved.Statement.{statement}
+use Rattle.answers.proofs.answer.print_moved.Tie as tie
+
+slice-aggregate-print-field : tie.Need-slice-aggregate-print-field
+slice-aggregate-print-field c = search needs
+
+print-field-requires : tie.Need-print-field-requires
+print-field-requires c κs = search needs
+
+slice-aggregate-print-field-2 : tie.Need-slice-aggregate-print-field-2
+slice-aggregate-print-field-2 c = search needs
+
+print-field-requires-2 : tie.Need-print-field-requires-2
+print-field-requires-2 c κs = search needs
+
+mul-count : tie.Need-mul-count
+mul-count c = search needs
+
+print-list-requires : tie.Need-print-list-requires
+print-list-requires c κs = search needs
+
+slice-aggregate-print-text : tie.Need-slice-aggregate-print-text
+slice-aggregate-print-text c = search needs
+
+print-text-requires : tie.Need-print-text-requires
+print-text-requires c κs = search needs
+
+same-length : tie.Need-same-length
+same-length c = search needs
+
+returns : tie.Need-returns
+unfolding answerText
+returns c =
+    printed-then (c .before .before .before .before .before .before .before .before .before .before .before .before .before .before .before .before .print-field .ensures .0)
+    (printed-then (c .before .before .before .before .before .before .before .before .before .before .before .print-field2 .ensures .0)
+    (printed-then (c .before .before .before .before .before .before .before .print-list .ensures .0) (c .before .before .print-text .ensures)))
+
+pub print-moved-spec : {M : Type 1} → statement M
+print-moved-spec =
+    tie.close
+    (tie.spec
+    slice-aggregate-print-field
+    print-field-requires
+    slice-aggregate-print-field-2
+    print-field-requires-2
+    mul-count
+    print-list-requires
+    slice-aggregate-print-text
+    print-text-requires
+    same-length
+    returns)

@@ -1,0 +1,73 @@
+-- The answers as text.
+use Prim.Native.Nat.{ℕ, _*_}
+use mathlib.Core.List.{List, [], _∷_, _++_}
+use lib.ListN.{take}
+use Rattle.rules.specs.Calls.{Answer, refused, opened, ordered, moved, planned, waiting, charging}
+use Rattle.text.specs.Printed.{field, spaced, listed}
+use Rattle.requests.specs.declared.request.Reason.{Reason}
+use Rattle.requests.specs.declared.request.Reason.the-variants.{UnknownCall, NotANumber, NumberTooLarge, MissingNumber, ExtraNumber, LineTooLong}
+
+abbrev pub lineFeed : List ℕ
+lineFeed = 10 ∷ []
+
+-- one, two and four numbers, each after a text, and the line feed
+abbrev pub one : List ℕ → ℕ → List ℕ
+one text n = field text n ++ lineFeed
+
+abbrev pub two : List ℕ → ℕ → List ℕ → ℕ → List ℕ
+two text n next m = field text n ++ one next m
+
+abbrev pub four : List ℕ → ℕ → ℕ → ℕ → ℕ → List ℕ
+four text a b c d = field text a ++ (spaced b ++ two (32 ∷ []) c (32 ∷ []) d)
+
+-- an answer, with the list that was lent to the call: a move's pairs stand at its front
+unfoldable pub answerText : Answer → List ℕ → List ℕ
+-- "refused "
+answerText (refused k) list = one (114 ∷ 101 ∷ 102 ∷ 117 ∷ 115 ∷ 101 ∷ 100 ∷ 32 ∷ []) k
+-- "open 0 "
+answerText (opened bound) list = one (111 ∷ 112 ∷ 101 ∷ 110 ∷ 32 ∷ 48 ∷ 32 ∷ []) bound
+-- "ticket ", " start "
+answerText (ordered ticket start) list =
+    two (116 ∷ 105 ∷ 99 ∷ 107 ∷ 101 ∷ 116 ∷ 32 ∷ []) ticket (32 ∷ 115 ∷ 116 ∷ 97 ∷ 114 ∷ 116 ∷ 32 ∷ []) start
+-- "moved ", " dropped "
+answerText (moved reported dropped) list =
+    field (109 ∷ 111 ∷ 118 ∷ 101 ∷ 100 ∷ 32 ∷ []) reported
+    ++ (field (32 ∷ 100 ∷ 114 ∷ 111 ∷ 112 ∷ 112 ∷ 101 ∷ 100 ∷ 32 ∷ []) dropped
+    ++ (listed (take (2 * reported) list) ++ lineFeed))
+-- "plan "
+answerText (planned cause before after rounds) list = four (112 ∷ 108 ∷ 97 ∷ 110 ∷ 32 ∷ []) cause before after rounds
+-- "waiting "
+answerText (waiting start) list = one (119 ∷ 97 ∷ 105 ∷ 116 ∷ 105 ∷ 110 ∷ 103 ∷ 32 ∷ []) start
+-- "charging "
+answerText (charging start end) list =
+    two (99 ∷ 104 ∷ 97 ∷ 114 ∷ 103 ∷ 105 ∷ 110 ∷ 103 ∷ 32 ∷ []) start (32 ∷ []) end
+
+-- how many pairs an answer reports
+abbrev pub pairsOf : Answer → ℕ
+pairsOf (refused k) = 0
+pairsOf (opened d) = 0
+pairsOf (ordered t u) = 0
+pairsOf (moved k d) = k
+pairsOf (planned c b a k) = 0
+pairsOf (waiting u) = 0
+pairsOf (charging u v) = 0
+
+abbrev pub reasonText : Reason → List ℕ
+-- "unknown call"
+reasonText UnknownCall = 117 ∷ 110 ∷ 107 ∷ 110 ∷ 111 ∷ 119 ∷ 110 ∷ 32 ∷ 99 ∷ 97 ∷ 108 ∷ 108 ∷ []
+-- "not a number"
+reasonText NotANumber = 110 ∷ 111 ∷ 116 ∷ 32 ∷ 97 ∷ 32 ∷ 110 ∷ 117 ∷ 109 ∷ 98 ∷ 101 ∷ 114 ∷ []
+-- "number too large"
+reasonText NumberTooLarge =
+    110 ∷ 117 ∷ 109 ∷ 98 ∷ 101 ∷ 114 ∷ 32 ∷ 116 ∷ 111 ∷ 111 ∷ 32 ∷ 108 ∷ 97 ∷ 114 ∷ 103 ∷ 101 ∷ []
+-- "missing number"
+reasonText MissingNumber =
+    109 ∷ 105 ∷ 115 ∷ 115 ∷ 105 ∷ 110 ∷ 103 ∷ 32 ∷ 110 ∷ 117 ∷ 109 ∷ 98 ∷ 101 ∷ 114 ∷ []
+-- "extra number"
+reasonText ExtraNumber = 101 ∷ 120 ∷ 116 ∷ 114 ∷ 97 ∷ 32 ∷ 110 ∷ 117 ∷ 109 ∷ 98 ∷ 101 ∷ 114 ∷ []
+-- "line too long"
+reasonText LineTooLong = 108 ∷ 105 ∷ 110 ∷ 101 ∷ 32 ∷ 116 ∷ 111 ∷ 111 ∷ 32 ∷ 108 ∷ 111 ∷ 110 ∷ 103 ∷ []
+
+-- "error ", and the reason
+abbrev pub errorText : Reason → List ℕ
+errorText reason = (101 ∷ 114 ∷ 114 ∷ 111 ∷ 114 ∷ 32 ∷ []) ++ (reasonText reason ++ lineFeed)

@@ -1,0 +1,88 @@
+-- `requests::call_of` meets its contract, case by case.
+use mathlib.Core.Path.{refl}
+use native.Mathlib.Omega.{arith}
+use borrow.Author.Needs.{needs}
+use lib.Seq.{take-length}
+use Rattle.requests.proofs.request.call_of.Statement.{statement}
+use Rattle.requests.proofs.request.call_of.Tie as tie
+
+number-at-requires : tie.Need-number-at-requires
+number-at-requires c κs = search needs
+
+number-at-requires-2 : tie.Need-number-at-requires-2
+number-at-requires-2 c κs = search needs
+
+number-at-requires-3 : tie.Need-number-at-requires-3
+number-at-requires-3 c κs = search needs
+
+enum-told : tie.Need-enum-told
+enum-told c = search needs
+
+enum-told-2 : tie.Need-enum-told-2
+enum-told-2 c = search needs
+
+enum-told-3 : tie.Need-enum-told-3
+enum-told-3 c = search needs
+
+enum-told-4 : tie.Need-enum-told-4
+enum-told-4 c = search needs
+
+enum-told-5 : tie.Need-enum-told-5
+enum-told-5 c = search needs
+
+enum-told-6 : tie.Need-enum-told-6
+enum-told-6 c = search needs
+
+enum-told-7 : tie.Need-enum-told-7
+enum-told-7 c = search needs
+
+enum-told-8 : tie.Need-enum-told-8
+enum-told-8 c = search needs
+
+returns : tie.Need-returns
+returns c = rw (c .enum-told .given .1, c .before .before .before .before .number-at .ensures, c .before .before .before .number-at2 .ensures) (record { call-is = refl; call-fits = tt })
+
+returns-2 : tie.Need-returns-2
+returns-2 c = rw (c .enum-told2 .given .1, c .before .before .before .before .number-at .ensures, c .before .before .before .number-at2 .ensures, c .before .before .number-at3 .ensures) (record { call-is = refl; call-fits = (omega arith, refl) })
+
+returns-3 : tie.Need-returns-3
+returns-3 c = rw (c .enum-told3 .given .1, c .before .before .before .before .number-at .ensures, c .before .before .before .number-at2 .ensures) (record { call-is = refl; call-fits = (omega arith, tt) })
+
+returns-4 : tie.Need-returns-4
+returns-4 c = rw (c .enum-told4 .given .1) (record { call-is = rw (take-length (c .before .before .before .before .before .before .args .numbers .now)); call-fits = (omega arith, refl) })
+
+returns-5 : tie.Need-returns-5
+returns-5 c = rw (c .enum-told5 .given .1) (record { call-is = refl; call-fits = (omega arith, refl) })
+
+returns-6 : tie.Need-returns-6
+returns-6 c = rw (c .enum-told6 .given .1, c .before .before .before .before .number-at .ensures) (record { call-is = refl; call-fits = (omega arith, refl) })
+
+returns-7 : tie.Need-returns-7
+returns-7 c = rw (c .enum-told7 .given .1, c .before .before .before .before .number-at .ensures) (record { call-is = refl; call-fits = (omega arith, refl) })
+
+returns-8 : tie.Need-returns-8
+returns-8 c = rw (c .enum-told8 .given .1) (record { call-is = refl; call-fits = tt })
+
+pub call-of-spec : {M : Type 1} → statement M
+call-of-spec =
+    tie.close
+    (tie.spec
+    number-at-requires
+    number-at-requires-2
+    number-at-requires-3
+    enum-told
+    enum-told-2
+    enum-told-3
+    enum-told-4
+    enum-told-5
+    enum-told-6
+    enum-told-7
+    enum-told-8
+    returns
+    returns-2
+    returns-3
+    returns-4
+    returns-5
+    returns-6
+    returns-7
+    returns-8)

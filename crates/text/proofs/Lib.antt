@@ -1,0 +1,4 @@
+pub mod Values
+pub mod Splitting
+pub mod Printing
+pub mod Blocks
