@@ -4,7 +4,8 @@ pub mod Restarting
 pub mod Members
 pub mod Sorting
 pub mod Splitting
-pub mod Keys
+pub mod SignedBits
+pub mod Comparing
 pub mod Passing
 pub mod Latest
 pub mod LineByLine

@@ -1,9 +1,11 @@
--- Places of held charges in some order, and the orders by key.
-use Prim.Native.Nat.{ℕ, _+_, _-_, _*_, _≤_, _<_}
+-- Places of held charges in some order, and the order in which they are sorted.
+use Prim.Native.Nat.{ℕ, _-_, _≤_, _<_}
 use mathlib.Core.Path.{_≡_}
-use mathlib.Core.Bool.{Bool}
+use mathlib.Core.Bool.{Bool, cond}
 use mathlib.Core.List.{List, _∷_, _++_, map}
-use lib.Dec.{leb}
+use lib.Dec.{ltb, eqb}
+use lib.IntN.{subℕ}
+use lib.Signed.{leZ}
 use lib.ListN.{length, getD}
 use Rattle.rules.specs.Basics.{Each, tabulate, keep}
 use Rattle.rules.specs.Charge.{Charge}
@@ -33,17 +35,12 @@ pub record Lists (is : List ℕ) (p : Places) : Type 0 where
 abbrev pub inserted : Places → ℕ → ℕ → List ℕ
 inserted p j x = tabulate (placeAt p) j 0 ++ (x ∷ tabulate (placeAt p) (p .count - j) j)
 
--- place a has the smaller key, or the same
-abbrev pub keyed : List ℕ → ℕ → ℕ → Bool
-keyed keys a b = leb (getD keys a 0) (getD keys b 0)
-
--- d − p, moved up by the longest charging time so that it is no less than 0, with `step` for each line before it
-abbrev pub latestStartKey : ℕ → Charge → ℕ
-latestStartKey step x = x .line * step + (x .due + 1440 - x .time)
-
--- the keys of the held charges
-abbrev pub Keys : ℕ → Charges → List ℕ → Type 0
-Keys step c keys = (i : ℕ) → i < c .held → getD keys i 0 ≡ latestStartKey step (chargeAt c i)
+-- place a is on a lower line than place b, or on the same and its latest start d − p is not later
+abbrev pub notAfter : List ℕ → List ℕ → List ℕ → ℕ → ℕ → Bool
+notAfter lines dues times a b =
+    cond (eqb (getD lines a 0) (getD lines b 0))
+    (leZ (subℕ (getD dues a 0) (getD times a 0)) (subℕ (getD dues b 0) (getD times b 0)))
+    (ltb (getD lines a 0) (getD lines b 0))
 
 -- the places of the charges with a start from the clock up to the target, in ticket order
 abbrev pub isPassedAt : ℕ → ℕ → Charges → ℕ → Bool

@@ -11,7 +11,7 @@ use Rattle.rules.specs.Entry.{lentList}
 use Rattle.rules.specs.Calls.{settings, State, refused, opened, ordered, waiting, order, move, refusals, opening, ordering}
 use Rattle.rules.proofs.Granted.{refusals-none}
 use Rattle.guarantee.specs.DemandOne.{DemandOne, DemandOneOpening}
-use Rattle.excluded.specs.WrongRefusals.{lineAccepted, highestNumber, alwaysFull, standstillRefused, ticketUsedUp, listCleared, ticketNotSaid, smallProduct, openedAsAsked, openingWrites, limitSaid, percentLost}
+use Rattle.excluded.specs.WrongRefusals.{lineAccepted, highestNumber, alwaysFull, hurryRefused, standstillRefused, ticketUsedUp, listCleared, ticketNotSaid, smallProduct, openedAsAsked, openingWrites, limitSaid, percentLost}
 use Rattle.excluded.specs.BreaksOne.{station}
 use Rattle.guarantee.proofs.Tables.{is-firstOf}
 
@@ -36,6 +36,12 @@ highest-number d =
 always-full : DemandOne alwaysFull station (order 1 10 60) → ⊥
 always-full d =
     let h : _≡_ {A = ℕ} 0 13 = is-firstOf 13 (refusals station (order 1 10 60)) (d .refused-by .number 13 .0 refl) in
+    omega arith
+
+-- `number`: no condition looks at how soon a charge is due
+hurry-refused : DemandOne hurryRefused station (order 1 10 9) → ⊥
+hurry-refused d =
+    let h : _≡_ {A = ℕ} 0 7 = is-firstOf 7 (refusals station (order 1 10 9)) (d .refused-by .number 7 .0 refl) in
     omega arith
 
 -- `number`: the target is not below the clock

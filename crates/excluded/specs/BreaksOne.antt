@@ -2,7 +2,7 @@
 use mathlib.Core.List.{List, [], _∷_, _++_, map}
 use Rattle.rules.specs.Entry.{lentList}
 use Rattle.rules.specs.Calls.{settings, State, order, move, fresh, opening, step}
-use Rattle.excluded.specs.WrongRefusals.{lineAccepted, highestNumber, alwaysFull, standstillRefused, ticketUsedUp, listCleared, ticketNotSaid, smallProduct, openedAsAsked, openingWrites, limitSaid, percentLost}
+use Rattle.excluded.specs.WrongRefusals.{lineAccepted, highestNumber, alwaysFull, hurryRefused, standstillRefused, ticketUsedUp, listCleared, ticketNotSaid, smallProduct, openedAsAsked, openingWrites, limitSaid, percentLost}
 use Rattle.excluded.specs.Breaks.{Entry, computedBy, onlyOf}
 use Rattle.excluded.specs.FieldsOne.{Field, number, same-station, same-list, answered, fields, place, Trial, calledOn, openedBy, tested}
 
@@ -25,6 +25,7 @@ wrongCalls =
     ∷ only (calledOn highestNumber station (order 4 0 60)) (number ∷ [])
     -- a call that is refused where no condition applies has no answer of its own kind either
     ∷ only (calledOn alwaysFull station (order 1 10 60)) (number ∷ answered ∷ [])
+    ∷ only (calledOn hurryRefused station (order 1 10 9)) (number ∷ answered ∷ [])
     ∷ only (calledOn standstillRefused station (move 0 lentList)) (number ∷ answered ∷ [])
     ∷ only (calledOn ticketUsedUp station (order 4 10 60)) (same-station ∷ [])
     ∷ only (calledOn listCleared station (move 0 (7 ∷ []))) (same-list ∷ [])

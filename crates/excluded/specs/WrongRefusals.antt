@@ -1,5 +1,5 @@
 -- Wrong stations: refusals and openings that differ from the rules in one thing.
-use Prim.Native.Nat.{ℕ, suc}
+use Prim.Native.Nat.{ℕ, suc, _+_}
 use mathlib.Core.Bool.{Bool, not, cond}
 use mathlib.Core.List.{List, [], _∷_}
 use lib.Dec.{ltb, eqb}
@@ -23,6 +23,13 @@ highestNumber = withRefusals (λ s c. sortedBy (λ a b. ltb (b .1) (a .1)) (refu
 -- a station full from the start
 abbrev pub alwaysFull : Gives
 alwaysFull = withOrders (λ s line p d. record { answer = refused 13; state = s; list = [] })
+
+-- a due minute that cannot be met is refused, with the number that has ended
+abbrev pub hurryRefused : Gives
+hurryRefused =
+    withOrders
+    (λ s line p d.
+    cond (ltb d (s .clock + p)) (record { answer = refused 7; state = s; list = [] }) (ordering s line p d))
 
 -- a refusal that no condition names: a move to the clock itself
 abbrev pub standstillRefused : Gives

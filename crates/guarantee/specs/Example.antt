@@ -11,8 +11,8 @@ use Rattle.rules.specs.Calls.{settings, refused, waiting, charging, order, move
 use Rattle.guarantee.specs.Past.{Order, Past, past, timesReported, enquiry, startOf, countIn, totalTime, lastMinute}
 
 -- N = D = 1. The orders of case h, replanned: ticket 2
--- charges on line 1 from 0 to 10, ticket 1 waits for 10. At clock 1 there come ticket 3, on line 2 from 1 to 5, and ticket 4,
--- on line 3 from 1 to 13. The order on line 9 and the move without a list are refused, the offer is kept out. At clock 10
+-- charges on line 1 from 0 to 10, ticket 1 waits for 10. At clock 1 there come ticket 3, on line 2 from 1 to 5 and due at 0,
+-- which cannot be met, and ticket 4, on line 3 from 1 to 13. The order on line 9 and the move without a list are refused, the offer is kept out. At clock 10
 -- tickets 2 and 3 are dropped.
 abbrev example : Past
 example =
@@ -22,7 +22,7 @@ example =
     ∷ replanLatest
     ∷ move 1 (replicate 360 7)
     ∷ order 9 9 9
-    ∷ order 2 4 99
+    ∷ order 2 4 0
     ∷ order 3 12 99
     ∷ move 0 []
     ∷ move 10 (replicate 360 7)

@@ -1,4 +1,4 @@
--- Cases a to l (docs/RULES.md, section 7), and those of our own, as one theorem over one array: the checker computes every answer.
+-- Cases a to l (docs/RULES.md, section 7), those at the edges, and those of each request, as one theorem over one array: the checker computes every answer.
 use mathlib.Core.Path.{_≡_, refl}
 use mathlib.Core.List.{List, [], _∷_, _++_, map}
 use Rattle.rules.specs.Load.{limited, balanced, sound}
@@ -10,9 +10,10 @@ use Rattle.rules.specs.Calls.{settings, State, refused, ordered, opening
 use Rattle.rules.specs.Entry.{Case, computed, stateAfter}
 use Rattle.rules.specs.CasesAToL.{callsG, casesAToL}
 use Rattle.rules.specs.CasesAtEdges.{casesAtEdges}
+use Rattle.rules.specs.CasesInAHurry.{casesInAHurry}
 
 abbrev pub cases : List Case
-cases = casesAToL ++ casesAtEdges
+cases = casesAToL ++ casesAtEdges ++ casesInAHurry
 
 pub cases-hold : map computed cases ≡ cases
 unfolding limited balanced sound earliest earliestUnder firstUnbalanced placeAll latest round roundsFrom byLines judged opening ordering moving offering replanningLatest replanningLines enquiring

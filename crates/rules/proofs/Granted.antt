@@ -54,12 +54,11 @@ pub record OrderGranted (s : State) (line p d : ℕ) : Type 0 where
   pub time-low : 1 ≤ p
   pub time-high : p ≤ 1440
   pub due-high : d ≤ 2000000
-  pub in-time : s .clock + p ≤ d
   pub room : length (s .charges) < 180
   pub ticket-left : s .next ≤ 65535
 
 pub order-granted : (s : State) (line p d : ℕ) → NoneHolds (refusals s (order line p d)) → OrderGranted s line p d
-order-granted s line p d (on, (time, (due, (soon, (full, (given, end)))))) =
+order-granted s line p d (on, (time, (due, (full, (given, end))))) =
     record {
       is-line =
           record {
@@ -69,7 +68,6 @@ order-granted s line p d (on, (time, (due, (soon, (full, (given, end)))))) =
       time-low = ltb-false p 1 (or-left (ltb p 1) (ltb 1440 p) time);
       time-high = ltb-false 1440 p (or-right (ltb p 1) (ltb 1440 p) time);
       due-high = ltb-false 2000000 d due;
-      in-time = ltb-false d (s .clock + p) soon;
       room = leb-false 180 (length (s .charges)) full;
       ticket-left = ltb-false 65535 (s .next) given;
     }

@@ -10,9 +10,11 @@ pub mod Judgements
 pub mod Rounds
 pub mod Tickets
 pub mod ThenTicket
+pub mod LatestStarts
 pub mod Queues
 pub mod Reporting
 pub mod Ends
 pub mod Changes
 pub mod Restarts
 pub mod Validity
+pub mod Earlier

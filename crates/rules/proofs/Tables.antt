@@ -2,7 +2,7 @@
 use mathlib.Core.Path.{_≡_, refl}
 use Prim.Native.Nat.{ℕ, _≤_}
 use mathlib.Core.Bool.{Bool, true, false, cond}
-use mathlib.Core.List.{List, [], _∷_}
+use mathlib.Core.List.{List, [], _∷_, _++_}
 use native.Mathlib.Omega.{arith}
 use Rattle.rules.specs.Basics.{Each, firstOf}
 
@@ -30,3 +30,23 @@ firstOf-none (row ∷ rows) p e = go (row .0) refl e (firstOf-none rows (p .1))
 pub none-firstOf : (rows : List (Bool × ℕ)) → NoneHolds rows → firstOf rows ≡ 0
 none-firstOf [] e = refl
 none-firstOf (row ∷ rows) e = rw (e .0, none-firstOf rows (e .1))
+
+-- a row whose number is not given can be left out
+pub row-left-out :
+    (before : List (Bool × ℕ)) (row : Bool × ℕ) (after : List (Bool × ℕ))
+    → (firstOf (before ++ (row ∷ after)) ≡ row .1 → ⊥)
+    → firstOf (before ++ after) ≡ firstOf (before ++ (row ∷ after))
+row-left-out [] row after h = go (row .0) h
+  where
+    go : (b : Bool) → (cond b (row .1) (firstOf after) ≡ row .1 → ⊥) → firstOf after ≡ cond b (row .1) (firstOf after)
+    go true k = absurd (k refl)
+    go false k = refl
+row-left-out (first ∷ before) row after h = go (first .0) h (row-left-out before row after)
+  where
+    go :
+        (b : Bool)
+        → (cond b (first .1) (firstOf (before ++ (row ∷ after))) ≡ row .1 → ⊥)
+        → ((firstOf (before ++ (row ∷ after)) ≡ row .1 → ⊥) → firstOf (before ++ after) ≡ firstOf (before ++ (row ∷ after)))
+        → cond b (first .1) (firstOf (before ++ after)) ≡ cond b (first .1) (firstOf (before ++ (row ∷ after)))
+    go true k later = refl
+    go false k later = later k

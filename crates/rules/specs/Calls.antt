@@ -125,7 +125,7 @@ lent replanLatest = []
 lent (replanLines allowance) = []
 lent (enquire ticket) = []
 
--- Refusals 4 to 15, "where several apply, the lowest number".
+-- Refusals 4 to 15, "where several apply, the lowest number". "Refusal 7 ends": no other condition gets this number.
 abbrev pub refusals : State → Call → List (Bool × ℕ)
 refusals s (order line p d) =
     -- "line not 1 to 3"
@@ -134,8 +134,6 @@ refusals s (order line p d) =
     ∷ (ltb p 1 || ltb 1440 p, 5)
     -- "d above 2,000,000"
     ∷ (ltb 2000000 d, 6)
-    -- "d below clock + p"
-    ∷ (ltb d (s .clock + p), 7)
     -- "180 charges held"
     ∷ (leb places (length (s .charges)), 13)
     -- "65,535 tickets given"

@@ -4,15 +4,8 @@ use Prim.Native.Nat.{ℕ, zero, suc}
 use mathlib.Core.List.{List, [], _∷_, _++_, map}
 use lib.ListN.{replicate}
 use Rattle.rules.specs.Calls.{Answer, refused, opened, ordered, moved, planned, waiting, charging, Call, order, move, offer, replanLatest, replanLines, enquire}
-use Rattle.rules.specs.Entry.{gives, givesWith, Case, lentList, startsFrom, reports, opens, case}
+use Rattle.rules.specs.Entry.{gives, givesWith, Case, lentList, startsFrom, reports, opens, case, replanned}
 use Rattle.rules.specs.CasesAToL.{ordersH, givenH}
-
--- Three orders on one line, a replan, and the starts of the three afterwards.
-abbrev replanned : List Call → Call → List ℕ → Answer → ℕ × ℕ × ℕ → Case
-replanned orders replan held answer new =
-    case 1 100 1
-    (orders ++ (replan ∷ enquire 1 ∷ enquire 2 ∷ enquire 3 ∷ []))
-    (startsFrom 1 held ++ map gives (answer ∷ waiting (new .0) ∷ waiting (new .1) ∷ waiting (new .2) ∷ []))
 
 -- d − p is 50, 10 and 13, so ticket 2 goes first and then ticket 3; by d alone, 20 and 15, ticket 3 would go first.
 abbrev ordersByStart : List Call
@@ -56,7 +49,6 @@ refusalsAtEdges =
     ∷ order 1 1441 2000001
     ∷ order 1 0 0
     ∷ order 1 10 2000001
-    ∷ order 1 10 9
     ∷ move 1000001 []
     ∷ move 5 (replicate 359 7)
     ∷ offer (0 ∷ [])
@@ -64,27 +56,27 @@ refusalsAtEdges =
     ∷ replanLines 1001
     ∷ enquire 1
     ∷ [])
-    (map gives (refused 4 ∷ refused 4 ∷ refused 5 ∷ refused 5 ∷ refused 6 ∷ refused 7 ∷ refused 8 ∷ [])
+    (map gives (refused 4 ∷ refused 4 ∷ refused 5 ∷ refused 5 ∷ refused 6 ∷ refused 8 ∷ [])
     ++ (givesWith (refused 9) (replicate 359 7)
     ∷ givesWith (refused 10) (0 ∷ [])
     ∷ map gives (refused 11 ∷ refused 11 ∷ refused 15 ∷ [])))
     -- A charging time of 1 and of 1,440 is taken: the second charge starts at the end of the first.
     ∷ case 1 100 1 (order 1 1 1 ∷ order 1 1440 1441 ∷ []) (startsFrom 1 (0 ∷ 1 ∷ []))
-    -- At clock 3 with p = 10 a due minute of 12 is below 13, and 13 is not; 2,000,000 is not above 2,000,000.
+    -- 2,000,000 is not above 2,000,000.
     ∷ case 1 100 1
-    (move 3 lentList ∷ order 1 10 12 ∷ order 1 10 13 ∷ order 1 10 2000001 ∷ order 1 10 2000000 ∷ [])
-    (reports (moved 0 0) [] ∷ map gives (refused 7 ∷ ordered 1 3 ∷ refused 6 ∷ ordered 2 13 ∷ []))
+    (order 1 10 2000001 ∷ order 1 10 2000000 ∷ [])
+    (map gives (refused 6 ∷ ordered 1 0 ∷ []))
     -- A target of 1,000,000 is not above it; the same target again reports and drops nothing; one minute less is refused.
     ∷ case 1 100 1
     (move 1000001 lentList ∷ move 1000000 lentList ∷ move 1000000 lentList ∷ move 999999 lentList ∷ [])
     (map (λ a. givesWith a lentList) (refused 8 ∷ moved 0 0 ∷ moved 0 0 ∷ refused 12 ∷ []))
-    -- 180 places: 60 charges fit on each line in minute 0, the 180th order is taken and the next one refused. The move
-    -- reports them all, which fills the list, and gives the places back.
+    -- 180 places: 60 charges fit on each line in minute 0, the 180th order is taken and the next one refused, with 13 also
+    -- where its due minute cannot be met. The move reports them all, which fills the list, and gives the places back.
     ∷ case 60 100 60
     (replicate 60 (order 1 1 1)
-    ++ (replicate 60 (order 2 1 1) ++ (replicate 60 (order 3 1 1) ++ (order 1 1 1 ∷ move 1 lentList ∷ order 1 1 2 ∷ []))))
+    ++ (replicate 60 (order 2 1 1) ++ (replicate 60 (order 3 1 1) ++ (order 1 1 1 ∷ order 1 1 0 ∷ move 1 lentList ∷ order 1 1 2 ∷ []))))
     (startsFrom 1 (replicate 180 0)
-    ++ (gives (refused 13) ∷ givesWith (moved 180 180) (fullReport 180 1) ∷ gives (ordered 181 1) ∷ []))
+    ++ (gives (refused 13) ∷ gives (refused 13) ∷ givesWith (moved 180 180) (fullReport 180 1) ∷ gives (ordered 181 1) ∷ []))
     ∷ []
 
 -- Clock moves
@@ -133,10 +125,10 @@ plans =
     (order 1 10 60 ∷ order 1 10 60 ∷ offer (0 ∷ 0 ∷ []) ∷ [])
     (startsFrom 1 (0 ∷ 10 ∷ []) ++ (givesWith (planned 6 0 0 0) (0 ∷ 0 ∷ []) ∷ []))
     -- By d − p, and then by ticket, in both replans.
-    ∷ replanned ordersByStart replanLatest (0 ∷ 10 ∷ 20 ∷ []) (planned 0 7 0 0) (12, 0, 10)
-    ∷ replanned ordersByStart (replanLines 1) (0 ∷ 10 ∷ 20 ∷ []) (planned 0 7 0 1) (12, 0, 10)
-    ∷ replanned ordersTied replanLatest (0 ∷ 10 ∷ 14 ∷ []) (planned 0 4 0 0) (14, 0, 4)
-    ∷ replanned ordersTied (replanLines 1) (0 ∷ 10 ∷ 14 ∷ []) (planned 0 4 0 1) (14, 0, 4)
+    ∷ replanned ordersByStart replanLatest (0 ∷ 10 ∷ 20 ∷ []) (planned 0 7 0 0) (12 ∷ 0 ∷ 10 ∷ [])
+    ∷ replanned ordersByStart (replanLines 1) (0 ∷ 10 ∷ 20 ∷ []) (planned 0 7 0 1) (12 ∷ 0 ∷ 10 ∷ [])
+    ∷ replanned ordersTied replanLatest (0 ∷ 10 ∷ 14 ∷ []) (planned 0 4 0 0) (14 ∷ 0 ∷ 4 ∷ [])
+    ∷ replanned ordersTied (replanLines 1) (0 ∷ 10 ∷ 14 ∷ []) (planned 0 4 0 1) (14 ∷ 0 ∷ 4 ∷ [])
     -- A cap lowered from t itself: both go to 0 in the first round, 2, 0, 0, and the cap of 1 holds in minute 0 too, so
     -- that the second round has 0 and 1, as held: cause 7. With a cap of 2 left in minute 0 the second round would end as
     -- the first, and the allowance be spent: cause 2.

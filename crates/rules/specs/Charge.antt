@@ -55,7 +55,7 @@ isFinished clock c = leb (endOf c) clock
 abbrev pub unfinishedCharges : ℕ → List Charge → List Charge
 unfinishedCharges clock cs = keep (λ c. not (isFinished clock c)) cs
 
--- An order of charges "by" two numbers of theirs, x and y, "then ticket".
+-- An order of charges "by" a number of theirs, x and y, "then ticket".
 abbrev pub thenTicket : ℕ → ℕ → Charge → Charge → Bool
 thenTicket x y a b = ltb x y || (eqb x y && ltb (a .ticket) (b .ticket))
 
@@ -64,7 +64,8 @@ abbrev pub lastEnd : List Charge → ℕ
 lastEnd [] = 0
 lastEnd (c ∷ cs) = max (endOf c) (lastEnd cs)
 
--- "max(0, end − d)": a difference of natural numbers is 0 where it would be below
+-- "max(0, end − d)": a difference of natural numbers is 0 where it would be below. "Its lateness counts from the due
+-- minute given", also where this is below the clock.
 abbrev pub lateOf : Charge → ℕ
 lateOf c = endOf c - c .due
 

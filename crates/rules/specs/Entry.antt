@@ -1,5 +1,5 @@
 -- An entry of the array of cases, and what the rules give for it.
-use Prim.Native.Nat.{ℕ, suc, _-_}
+use Prim.Native.Nat.{ℕ, zero, suc, _-_}
 use mathlib.Core.Bool.{not}
 use mathlib.Core.List.{List, [], _∷_, _++_, map}
 use lib.Dec.{eqb}
@@ -7,7 +7,7 @@ use lib.ListN.{length, replicate}
 use Rattle.rules.specs.Basics.{keep}
 use Rattle.rules.specs.Load.{count}
 use Rattle.rules.specs.Charge.{Charge, loadsOf}
-use Rattle.rules.specs.Calls.{Settings, settings, State, Answer, opened, ordered, Result, opening, Call, run}
+use Rattle.rules.specs.Calls.{Settings, settings, State, Answer, opened, ordered, waiting, Result, opening, Call, enquire, run}
 
 -- what a call gave: the answer, and the lent list whole
 pub record Given : Type 0 where
@@ -81,9 +81,21 @@ startsFrom k (s ∷ ss) = gives (ordered k s) ∷ startsFrom (suc k) ss
 abbrev pub reports : Answer → List ℕ → Given
 reports a xs = givesWith a (xs ++ replicate (360 - length xs) 7)
 
+-- enquiries for k tickets from i on
+abbrev enquiries : ℕ → ℕ → List Call
+enquiries zero i = []
+enquiries (suc k) i = enquire i ∷ enquiries k (suc i)
+
 abbrev pub opens : ℕ → ℕ → Answer → Case
 opens n c a = record { settings = settings n c; calls = []; opening = a; given = []; minutes = [] }
 
 abbrev pub case : ℕ → ℕ → ℕ → List Call → List Given → Case
 case n c d calls given =
     record { settings = settings n c; calls = calls; opening = opened d; given = given; minutes = [] }
+
+-- Open 1, 100, orders that get the starts `held`, a replan, and the starts of all of them afterwards.
+abbrev pub replanned : List Call → Call → List ℕ → Answer → List ℕ → Case
+replanned orders replan held answer new =
+    case 1 100 1
+    (orders ++ (replan ∷ enquiries (length new) 1))
+    (startsFrom 1 held ++ (gives answer ∷ map (λ s. gives (waiting s)) new))

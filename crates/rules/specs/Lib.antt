@@ -9,3 +9,4 @@ pub mod Valid
 pub mod Entry
 pub mod CasesAToL
 pub mod CasesAtEdges
+pub mod CasesInAHurry

@@ -1,16 +1,23 @@
 -- Both replanners (docs/RULES.md, sections 4 and 5).
 use Prim.Native.Nat.{ℕ, zero, suc, _+_, _-_, min}
-use mathlib.Core.Bool.{Bool, cond, _&&_}
+use mathlib.Core.Bool.{Bool, cond, _&&_, _||_}
 use mathlib.Core.List.{List, [], _∷_, _++_, map}
-use lib.Dec.{leb, eqb}
+use lib.Dec.{ltb, leb, eqb}
+use lib.IntN.{ℤ, subℕ}
+use lib.Signed.{ltZ, leZ}
 use Rattle.rules.specs.Basics.{Found, at, nothing, keep, some, sortedBy}
 use Rattle.rules.specs.Load.{active, counts, Limits, onLines}
-use Rattle.rules.specs.Charge.{Charge, starting, drawOf, loadOf, loadsOf, begunCharges, waitingCharges, thenTicket}
+use Rattle.rules.specs.Charge.{Charge, starting, drawOf, loadOf, loadsOf, begunCharges, waitingCharges}
 use Rattle.rules.specs.Search.{earliest, Caps, earliestUnder, firstUnbalanced}
 
--- "by d − p, then ticket". Each side has the other's p added, so that nothing is cut off at zero.
+-- d − p as a signed number: "A latest start may now be negative". `subℕ` gives the integer.
+abbrev pub latestStart : Charge → ℤ
+latestStart c = subℕ (c .due) (c .time)
+
+-- "by d − p, then ticket", and "the order by latest start must place it before zero": the order of the integers
 abbrev pub latestStartBefore : Charge → Charge → Bool
-latestStartBefore a b = thenTicket (a .due + b .time) (b .due + a .time) a b
+latestStartBefore a b =
+    ltZ (latestStart a) (latestStart b) || (leZ (latestStart a) (latestStart b) && ltb (a .ticket) (b .ticket))
 
 abbrev pub byLatestStart : List Charge → List Charge
 byLatestStart cs = sortedBy latestStartBefore cs

@@ -41,9 +41,6 @@ impl Station {
         if 2000000 < due {
             return 6;
         }
-        if due < self.clock + time {
-            return 7;
-        }
         let held = self.charges.held;
         if 180 <= held {
             return 13;

@@ -1,5 +1,4 @@
 use borrow.Author.Tests.{lt-ltb, le-ltb, le-leb, lt-leb}
-use borrow.Author.Needs.{needs}
 use Rattle.rules.proofs.Lists.{length-tabulate}
 use Rattle.station.proofs.Station.order_refusal.Statement.{statement}
 use Rattle.station.proofs.Station.order_refusal.Tie as tie
@@ -24,24 +23,17 @@ returns-5 : tie.Need-returns-5
 returns-5 c =
     simp (le-ltb _ _ (c .before .before .before .before .if1 .left), le-ltb _ _ (c .before .before .before .if2 .left), le-ltb _ _ (c .before .before .if3 .left), le-ltb _ _ (c .before .if4 .left), lt-ltb _ _ (c .if5 .taken))
 
-add-if6 : tie.Need-add-if6
-add-if6 c = search needs
-
 returns-6 : tie.Need-returns-6
 returns-6 c =
-    simp (le-ltb _ _ (c .before .before .before .before .before .before .if1 .left), le-ltb _ _ (c .before .before .before .before .before .if2 .left), le-ltb _ _ (c .before .before .before .before .if3 .left), le-ltb _ _ (c .before .before .before .if4 .left), le-ltb _ _ (c .before .before .if5 .left), lt-ltb _ _ (c .if6 .taken))
+    simp (le-ltb _ _ (c .before .before .before .before .before .if1 .left), le-ltb _ _ (c .before .before .before .before .if2 .left), le-ltb _ _ (c .before .before .before .if3 .left), le-ltb _ _ (c .before .before .if4 .left), le-ltb _ _ (c .before .if5 .left), length-tabulate, le-leb _ _ (c .if6 .taken))
 
 returns-7 : tie.Need-returns-7
 returns-7 c =
-    simp (le-ltb _ _ (c .before .before .before .before .before .before .before .if1 .left), le-ltb _ _ (c .before .before .before .before .before .before .if2 .left), le-ltb _ _ (c .before .before .before .before .before .if3 .left), le-ltb _ _ (c .before .before .before .before .if4 .left), le-ltb _ _ (c .before .before .before .if5 .left), le-ltb _ _ (c .before .if6 .left), length-tabulate, le-leb _ _ (c .if7 .taken))
+    simp (le-ltb _ _ (c .before .before .before .before .before .before .before .if1 .left), le-ltb _ _ (c .before .before .before .before .before .before .if2 .left), le-ltb _ _ (c .before .before .before .before .before .if3 .left), le-ltb _ _ (c .before .before .before .before .if4 .left), le-ltb _ _ (c .before .before .before .if5 .left), length-tabulate, lt-leb _ _ (c .before .before .if6 .left), lt-ltb _ _ (c .if7 .taken))
 
 returns-8 : tie.Need-returns-8
 returns-8 c =
-    simp (le-ltb _ _ (c .before .before .before .before .before .before .before .before .before .if1 .left), le-ltb _ _ (c .before .before .before .before .before .before .before .before .if2 .left), le-ltb _ _ (c .before .before .before .before .before .before .before .if3 .left), le-ltb _ _ (c .before .before .before .before .before .before .if4 .left), le-ltb _ _ (c .before .before .before .before .before .if5 .left), le-ltb _ _ (c .before .before .before .if6 .left), length-tabulate, lt-leb _ _ (c .before .before .if7 .left), lt-ltb _ _ (c .if8 .taken))
-
-returns-9 : tie.Need-returns-9
-returns-9 c =
-    simp (le-ltb _ _ (c .before .before .before .before .before .before .before .before .before .if1 .left), le-ltb _ _ (c .before .before .before .before .before .before .before .before .if2 .left), le-ltb _ _ (c .before .before .before .before .before .before .before .if3 .left), le-ltb _ _ (c .before .before .before .before .before .before .if4 .left), le-ltb _ _ (c .before .before .before .before .before .if5 .left), le-ltb _ _ (c .before .before .before .if6 .left), length-tabulate, lt-leb _ _ (c .before .before .if7 .left), le-ltb _ _ (c .if8 .left))
+    simp (le-ltb _ _ (c .before .before .before .before .before .before .before .if1 .left), le-ltb _ _ (c .before .before .before .before .before .before .if2 .left), le-ltb _ _ (c .before .before .before .before .before .if3 .left), le-ltb _ _ (c .before .before .before .before .if4 .left), le-ltb _ _ (c .before .before .before .if5 .left), length-tabulate, lt-leb _ _ (c .before .before .if6 .left), le-ltb _ _ (c .if7 .left))
 
 pub order-refusal-spec : {M : Type 1} → statement M
 order-refusal-spec =
@@ -52,8 +44,6 @@ order-refusal-spec =
     returns-3
     returns-4
     returns-5
-    add-if6
     returns-6
     returns-7
-    returns-8
-    returns-9)
+    returns-8)
