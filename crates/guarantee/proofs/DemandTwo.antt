@@ -14,7 +14,7 @@ use Rattle.rules.specs.Charge.{Charge, endOf, loadsOf, waitingCharges, lateness
 use Rattle.rules.specs.Search.{added}
 use Rattle.rules.specs.Replan.{Proposal, starts, none, latest, Replanned, byLines}
 use Rattle.rules.specs.Judgement.{restarted, judged}
-use Rattle.rules.specs.Calls.{Settings, State, limitsOf, refused, committed, planned, Result, answering, Call, preview, commit, offer, replanLatest, replanLines, lent, drawFor, startFor, refusals, previewedAt, previewing, committing, decided, tested, offering, replanningLatest, replanningLines, granted, step}
+use Rattle.rules.specs.Calls.{Settings, State, limitsOf, refused, committed, planned, Result, answering, Call, preview, commit, offer, replanLatest, replanLines, lent, drawFor, startFor, refusals, previewing, committing, decided, tested, offering, replanningLatest, replanningLines, granted, step}
 use Rattle.rules.specs.Valid.{ValidCharge, ValidState}
 use Rattle.rules.proofs.Ranges.{and-left, and-right, and-both, below-or-not}
 use Rattle.rules.proofs.Lists.{each-map}
