@@ -3,7 +3,7 @@ use mathlib.Core.List.{List, [], _∷_, _++_, map}
 use Rattle.rules.specs.Entry.{lentList}
 use Rattle.rules.specs.Calls.{settings, preview, commit, move, opening, step}
 use Rattle.excluded.specs.WrongOrders.{shownAsWaiting, anySoundStart, shownIgnored}
-use Rattle.excluded.specs.WrongRefusals.{lineAccepted, highestNumber, shownFirst, otherNumber, alwaysFull, hurryRefused, standstillRefused, ticketUsedUp, listCleared, ticketNotSaid, smallProduct, openedAsAsked, openingWrites, limitSaid, percentLost}
+use Rattle.excluded.specs.WrongRefusals.{lineAccepted, lastRow, shownFirst, otherNumber, alwaysFull, hurryRefused, standstillRefused, ticketUsedUp, listCleared, ticketNotSaid, smallProduct, openedAsAsked, openingWrites, limitSaid, percentLost}
 use Rattle.excluded.specs.Stations.{station}
 use Rattle.excluded.specs.Breaks.{Entry, computedBy, onlyOf}
 use Rattle.excluded.specs.FieldsOne.{Field, number, same-station, same-list, answered, fields, place, Trial, calledOn, openedBy, tested}
@@ -20,7 +20,7 @@ only = onlyOf place fields
 abbrev pub wrongCalls : List Breach
 wrongCalls =
     only (calledOn lineAccepted station (preview 4 10 60)) (number ∷ [])
-    ∷ only (calledOn highestNumber station (preview 4 0 60)) (number ∷ [])
+    ∷ only (calledOn lastRow station (preview 4 0 60)) (number ∷ [])
     -- 3 is a sound start, and 0 the earliest
     ∷ only (calledOn anySoundStart station (commit 1 10 60 3)) (number ∷ [])
     ∷ only (calledOn shownIgnored station (commit 1 10 60 3)) (number ∷ [])

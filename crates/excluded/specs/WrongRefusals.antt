@@ -1,9 +1,9 @@
 -- Wrong stations: refusals and openings that differ from the rules in one thing.
 use Prim.Native.Nat.{ℕ, suc, _+_}
 use mathlib.Core.Bool.{Bool, cond, _||_}
-use mathlib.Core.List.{List, [], _∷_, _++_, map}
+use mathlib.Core.List.{List, [], _∷_, _++_, map, reverse}
 use lib.Dec.{ltb, eqb}
-use Rattle.rules.specs.Basics.{firstOf, keep, sortedBy}
+use Rattle.rules.specs.Basics.{firstOf, keep}
 use Rattle.rules.specs.Calls.{Settings, settings, State, refused, opened, waiting, Result, answering, boundOf, fresh, openRefusals, opening, refusals, previewing, committing, moving, step}
 use Rattle.guarantee.specs.Past.{Gives, isRefused}
 use Rattle.excluded.specs.Parts.{withRefusals, withPreviews, withCommits, withMoves, unnumbered, saying, leaving, writing, ticketing}
@@ -12,9 +12,9 @@ use Rattle.excluded.specs.Parts.{withRefusals, withPreviews, withCommits
 abbrev pub lineAccepted : Gives
 lineAccepted = withRefusals (λ s c. unnumbered 4 (refusals s c))
 
--- where several apply, the highest number
-abbrev pub highestNumber : Gives
-highestNumber = withRefusals (λ s c. sortedBy (λ a b. ltb (b .1) (a .1)) (refusals s c))
+-- where several apply, the last in the table
+abbrev pub lastRow : Gives
+lastRow = withRefusals (λ s c. reverse (refusals s c))
 
 -- the start shown is looked at before all else
 abbrev pub shownFirst : Gives
