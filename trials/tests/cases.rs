@@ -93,6 +93,46 @@ fn l_nothing_waits() {
     }
 }
 
+/// N1: latest starts 0, -3, 4 and -10.
+const HURRY: &str = "open 1 100
+order 1 40 40
+order 1 10 7
+order 1 20 24
+order 1 10 0
+";
+
+#[test]
+fn n1_latest_starts_below_zero_come_before_zero() {
+    let asked = "enquire 4\nenquire 2\nenquire 1\nenquire 3";
+    let mut expected =
+        vec!["open 0 1", "ticket 1 start 0", "ticket 2 start 40", "ticket 3 start 50"];
+    expected.push("ticket 4 start 70");
+    let starts = ["waiting 0", "waiting 10", "waiting 20", "waiting 60"];
+    for (replan, plan) in [("latest", "plan 0 169 99 0"), ("lines 1", "plan 0 169 99 1")] {
+        let expected = [&expected[..], &[plan], &starts].concat();
+        expect(&format!("{HURRY}{replan}\n{asked}"), &expected);
+    }
+}
+
+#[test]
+fn n1_equal_latest_starts_below_zero_go_by_ticket() {
+    let text = "open 1 100\norder 1 20 60\norder 1 10 7\norder 1 13 10\nlatest\n\
+                enquire 1\nenquire 2\nenquire 3";
+    let mut expected = vec!["open 0 1", "ticket 1 start 0", "ticket 2 start 20"];
+    expected.extend(["ticket 3 start 30", "plan 0 56 16 0"]);
+    expected.extend(["waiting 23", "waiting 0", "waiting 10"]);
+    expect(text, &expected);
+}
+
+#[test]
+fn n1_lateness_counts_from_the_due_minute_given() {
+    let text = "open 1 100\nmove 500 360\norder 1 10 600\norder 1 10 0\noffer 510 500\n\
+                order 1 10 2000000\norder 1 10 2000001";
+    let mut expected = vec!["open 0 1", "moved 0 dropped 0", "ticket 1 start 500"];
+    expected.extend(["ticket 2 start 510", "plan 0 520 510 0", "ticket 3 start 520", "refused 6"]);
+    expect(text, &expected);
+}
+
 /// The files in scripts/ and the answers beside them.
 #[test]
 fn shipped_scripts() {

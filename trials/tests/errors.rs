@@ -1,5 +1,6 @@
-//! "Errors this yard has to catch", as faulty yards. Each has a short script in
-//! which it answers otherwise than the rules, and the comparison finds it.
+//! "Errors this yard has to catch", and the wrong programs of each request, as faulty
+//! yards. Each has a short script in which it answers otherwise than the rules, and
+//! the comparison finds it.
 
 mod common;
 
@@ -8,20 +9,37 @@ use common::{answers, expect, reference, Inside};
 use trials::compare::{compare, Choice};
 use trials::{demand, generate, script};
 
-const FAULTY: [Error; 13] = [
-    Error::BalanceOnlyAtTheStart,
-    Error::BegunTakenAsSound,
-    Error::WaitingIgnored,
-    Error::CountedInTheMinuteOfTheEnd,
-    Error::StartAtTheClockIsBegun,
-    Error::NeighbouringLinesOnly,
-    Error::AlwaysKeeps,
-    Error::SpentAfterNoRound,
-    Error::InventedRounds,
-    Error::QueuesBehindTheLastEnd,
-    Error::ReportsOnlyOnce,
-    Error::FullFromTheStart,
-    Error::OneStartForEverybody,
+/// With the kind of scripts that finds them.
+const FAULTY: [(&str, &[Error]); 2] = [
+    (
+        "leaning",
+        &[
+            Error::BalanceOnlyAtTheStart,
+            Error::BegunTakenAsSound,
+            Error::WaitingIgnored,
+            Error::CountedInTheMinuteOfTheEnd,
+            Error::StartAtTheClockIsBegun,
+            Error::NeighbouringLinesOnly,
+            Error::AlwaysKeeps,
+            Error::SpentAfterNoRound,
+            Error::InventedRounds,
+            Error::QueuesBehindTheLastEnd,
+            Error::ReportsOnlyOnce,
+            Error::FullFromTheStart,
+            Error::OneStartForEverybody,
+        ],
+    ),
+    (
+        "hurry",
+        &[
+            Error::LatestStartCutAtZero,
+            Error::LatestStartUnsigned,
+            Error::HigherTicketFirst,
+            Error::LatenessFromTheClock,
+            Error::HurryRefused6,
+            Error::HurryRefused7,
+        ],
+    ),
 ];
 
 /// The rules give the last answer, the faulty yard another one.
@@ -78,17 +96,52 @@ fn neighbouring_lines_only() {
     caught(Error::NeighbouringLinesOnly, text, "ticket 3 start 10", "ticket 3 start 0");
 }
 
+/// N1. Latest starts 0, -3, 4 and -10: the order of the integers is tickets 4, 2, 1, 3.
+#[test]
+fn latest_starts_below_zero() {
+    let queue = "open 1 100\norder 1 40 40\norder 1 10 7\norder 1 20 24\norder 1 10 0";
+    for replan in ["latest", "lines 1"] {
+        let text = format!("{queue}\n{replan}\nenquire 4");
+        caught(Error::LatestStartCutAtZero, &text, "waiting 0", "waiting 50");
+        // Negative ones last would be later than the held plan, so ticket 4 stays last.
+        caught(Error::LatestStartUnsigned, &text, "waiting 0", "waiting 70");
+    }
+}
+
+/// N1. Two latest starts of -3.
+#[test]
+fn equal_latest_starts_below_zero() {
+    let queue = "open 1 100\norder 1 20 60\norder 1 10 7\norder 1 13 10";
+    for replan in ["latest", "lines 1"] {
+        let text = format!("{queue}\n{replan}\nenquire 2");
+        caught(Error::HigherTicketFirst, &text, "waiting 0", "waiting 13");
+    }
+}
+
+/// N1. "its lateness counts from the due minute given", be it 0 at a late clock.
+#[test]
+fn lateness_from_the_due_minute_given() {
+    let text = "open 1 100\nmove 500 360\norder 1 10 0\nlatest";
+    caught(Error::LatenessFromTheClock, text, "plan 7 510 510 0", "plan 7 0 0 0");
+    let text = "open 1 100\nmove 500 360\norder 1 10 509";
+    caught(Error::HurryRefused6, text, "ticket 1 start 500", "refused 6");
+    caught(Error::HurryRefused7, text, "ticket 1 start 500", "refused 7");
+}
+
 fn choice(kind: &str, scripts: u64) -> Choice<'_> {
     Choice { scripts, seed: 7, kind: Some(kind), ..Choice::default() }
 }
 
 #[test]
 fn the_comparison_finds_every_faulty_yard() {
-    for error in FAULTY {
-        let faulty = Inside(|| Faulty::new(error));
-        let failure = compare(&faulty, &choice("leaning", 80)).expect_err(&format!("{error:?}"));
-        assert!(failure.lines.len() <= 9, "{error:?} is left with {} lines", failure.lines.len());
-        assert!(failure.what.contains("should be"), "{error:?}: {}", failure.what);
+    for (kind, errors) in FAULTY {
+        for error in errors {
+            let faulty = Inside(|| Faulty::new(*error));
+            let failure = compare(&faulty, &choice(kind, 80)).expect_err(&format!("{error:?}"));
+            let lines = failure.lines.len();
+            assert!(lines <= 9, "{error:?} is left with {lines} lines");
+            assert!(failure.what.contains("should be"), "{error:?}: {}", failure.what);
+        }
     }
 }
 

@@ -3,11 +3,12 @@
 
 mod common;
 
-use common::{fast, lines, Inside};
+use common::{fast, lines, reference, Inside};
 use trials::compare::{compare, Choice, LOOPS};
 use trials::coverage::coverage;
 use trials::generate;
-use trials::protocol::LONGEST_LINE;
+use trials::interpret::Interpreter;
+use trials::protocol::{read_call, Call, LONGEST_LINE};
 use trials::script;
 use trials::shrink::shrink;
 
@@ -35,7 +36,7 @@ fn every_script_begins_with_an_opening() {
 
 const REFUSALS: [(&str, &[u32]); 6] = [
     ("open", &[1, 2, 3]),
-    ("order", &[4, 5, 6, 7, 13, 14]),
+    ("order", &[4, 5, 6, 13, 14]),
     ("move", &[8, 9, 12]),
     ("offer", &[10]),
     ("lines", &[11]),
@@ -72,6 +73,34 @@ fn every_answer_occurs() {
     }
     for sort in wanted {
         assert!(totals.contains_key(&sort), "no '{sort}' in {totals:#?}");
+    }
+    // N1: "Refusal 7 ends".
+    assert!(!totals.keys().any(|sort| sort.ends_with("refused  7")), "{totals:#?}");
+}
+
+/// N1: due minutes at the edges of what can be met and of what is taken, in the kind
+/// that is about them and in busy evenings.
+#[test]
+fn drivers_in_a_hurry_occur() {
+    for (kind, scripts) in [("hurry", 40), ("evening", 20)] {
+        let mut seen = std::collections::BTreeSet::new();
+        for number in 0..scripts {
+            let mut yard = Interpreter::new(reference());
+            for line in generate::script_of_kind(kind, 1, number).unwrap().lines {
+                let clock = yard.yard().clock;
+                if let Ok(Some(Call::Order { time, due, .. })) = read_call(&line) {
+                    let (time, due) = (u64::from(time), u64::from(due));
+                    seen.extend((due < clock).then_some("below the clock"));
+                    seen.extend((due == 0).then_some("0"));
+                    seen.extend((due + 1 == clock + time).then_some("clock + p - 1"));
+                    seen.extend((due == clock + time).then_some("clock + p"));
+                    seen.extend((due == 2_000_000).then_some("the last"));
+                    seen.extend((due == 2_000_001).then_some("past the last"));
+                }
+                yard.answer(&line, &mut Vec::new());
+            }
+        }
+        assert_eq!(seen.len(), 6, "{kind}: {seen:?}");
     }
 }
 

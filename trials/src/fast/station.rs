@@ -27,9 +27,10 @@ impl Charge {
         Load { line: self.line, from: self.start, until: self.end() }
     }
 
-    /// The key of latest-start order; charges lie in ticket order already.
-    pub fn latest_start(&self) -> u32 {
-        self.due - self.time
+    /// The key of latest-start order, which may be negative; charges lie in ticket
+    /// order already. Both numbers are far below 2^31.
+    pub fn latest_start(&self) -> i32 {
+        self.due as i32 - self.time as i32
     }
 }
 
@@ -59,9 +60,6 @@ impl Station {
         }
         if due > 2_000_000 {
             return Err(6);
-        }
-        if due < self.clock + time {
-            return Err(7);
         }
         if self.charges.len() == PLACES {
             return Err(13);

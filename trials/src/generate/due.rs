@@ -2,15 +2,18 @@
 
 use super::author::Author;
 
-/// A due minute that is not refused for the clock: tight, loose or in between.
+/// A due minute that is not refused: tight, loose or in between, and at times one
+/// that cannot be met.
 pub fn due(author: &mut Author, time: u32) -> u32 {
-    let slack = match author.random.below(4) {
-        0 => 0,
-        1 => author.random.below(5),
-        2 => author.random.below(40),
-        _ => author.random.below(400),
+    let met = author.clock() + time;
+    let slack = match author.random.below(9) {
+        0..=1 => 0,
+        2..=3 => author.random.below(5),
+        4..=5 => author.random.below(40),
+        6..=7 => author.random.below(400),
+        _ => return author.random.below(u64::from(met)) as u32,
     };
-    (author.clock() + time + slack as u32).min(2_000_000)
+    (met + slack as u32).min(2_000_000)
 }
 
 /// An order that is refused, if at all, for what the station holds.

@@ -34,6 +34,7 @@ fn order(author: &mut Author) {
     let usual = first.saturating_add(author.random.below(20) as u32);
     let edges = [
         0,
+        author.clock().saturating_sub(1),
         first.saturating_sub(1),
         first,
         first.saturating_add(1),

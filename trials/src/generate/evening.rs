@@ -1,8 +1,10 @@
 //! Busy days after section 10.1 of source document 000: three scenarios, both
-//! ways to spread cars over the lines, N 20, 30 or 40, and Δ 0.2 to 0.8.
+//! ways to spread cars over the lines, N 20, 30 or 40, and Δ 0.2 to 0.8. Some of the
+//! drivers are in a hurry.
 
 use super::author::Author;
 use super::cars::{self, Car};
+use super::hurry;
 
 /// A scenario and a spread drawn by lot, with fewer cars than the station has places
 /// at times.
@@ -29,7 +31,9 @@ pub fn write(author: &mut Author) {
         if car.arrival > author.clock() {
             author.move_to(car.arrival);
         }
-        author.order(car.line, car.time, car.due);
+        let in_a_hurry = author.random.percent(10);
+        let due = if in_a_hurry { hurry::due(author, car.time) } else { car.due };
+        author.order(car.line, car.time, due);
         if author.random.percent(6) {
             supervise(author);
         }

@@ -1,5 +1,5 @@
-//! Full yards: 180 held, and the 181st order refused 13, also where 6 or 7 come
-//! first; then room again.
+//! Full yards: 180 held, and the 181st order refused 13, also where its due minute
+//! cannot be met or 4 or 6 come first; then room again.
 
 use super::author::Author;
 use super::due;

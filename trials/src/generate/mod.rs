@@ -9,6 +9,7 @@ mod edges;
 mod evening;
 mod far;
 mod full;
+mod hurry;
 mod leaning;
 mod lists;
 mod malformed;
@@ -24,7 +25,7 @@ use crate::random::Random;
 use crate::script::Script;
 use author::Author;
 
-/// A kind of script: its name, how many of a hundred scripts are of it, and who
+/// A kind of script: its name, its share among the shares of all kinds, and who
 /// writes it.
 pub struct Kind {
     pub name: &'static str,
@@ -32,7 +33,7 @@ pub struct Kind {
     write: fn(&mut Author),
 }
 
-pub const KINDS: [Kind; 13] = [
+pub const KINDS: [Kind; 14] = [
     Kind { name: "edges", share: 15, write: edges::write },
     Kind { name: "mixed", share: 24, write: mixed::write },
     Kind { name: "offers", share: 15, write: offers::write },
@@ -43,6 +44,7 @@ pub const KINDS: [Kind; 13] = [
     Kind { name: "full", share: 3, write: full::write },
     Kind { name: "far", share: 2, write: far::write },
     Kind { name: "lists", share: 3, write: lists::write },
+    Kind { name: "hurry", share: 10, write: hurry::write },
     // These two are long and come once in a thousand, at turns of their own.
     Kind { name: "tickets", share: 0, write: tickets::write },
     Kind { name: "spent", share: 0, write: spent::write },

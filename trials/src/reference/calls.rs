@@ -22,12 +22,18 @@ impl Station {
             (4, !(1..=3).contains(&line)),
             (5, !(1..=1_440).contains(&time)),
             (6, due > 2_000_000),
-            (7, due < self.clock + time),
             (13, self.charges.len() == PLACES),
             (14, self.next_ticket > 65_535),
         ])?;
         let (ticket, order) = (self.next_ticket, self.clock);
         Ok(Charge { ticket, line, order, time, due, start: order })
+    }
+
+    /// "The start is the smallest s not below the clock with which the held plan and
+    /// this charge are sound together."
+    pub fn earliest(&self, charge: &Charge) -> u64 {
+        smallest_start(&self.charges, charge, self.clock, self.rules())
+            .expect("the held plan is sound, so its last end is a start")
     }
 
     /// "Answer: ticket and start. Tickets rise by one."
@@ -54,8 +60,7 @@ impl Yard for Station {
 
     fn order(&mut self, line: u32, time: u32, due: u32) -> Result<Ordered, Refusal> {
         let charge = self.ordered(line, time, due)?;
-        let start = smallest_start(&self.charges, &charge, self.clock, self.rules())
-            .expect("the held plan is sound, so its last end is a start");
+        let start = self.earliest(&charge);
         Ok(self.accept(charge.starting_at(start)))
     }
 
@@ -90,12 +95,13 @@ impl Yard for Station {
     }
 
     fn replan_by_latest_start(&mut self) -> Planned {
-        self.by_latest_start()
+        self.end_with(self.latest_list(), 0)
     }
 
     fn replan_by_lines(&mut self, allowance: u32) -> Result<Planned, Refusal> {
         refuse_first(&[(11, !(1..=1_000).contains(&allowance))])?;
-        Ok(self.by_lines(allowance))
+        let (list, rounds) = self.lines_list(allowance);
+        Ok(self.end_with(list, rounds))
     }
 
     fn enquire(&self, ticket: u32) -> Result<Found, Refusal> {

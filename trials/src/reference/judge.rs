@@ -15,6 +15,9 @@ const ABOVE_BOUND: u32 = 6;
 const NOT_LESS_LATE: u32 = 7;
 const TAKEN: u32 = 0;
 
+/// The starts that a replan found, in ticket order, or the cause for having none.
+pub type List = Result<Vec<u64>, u32>;
+
 impl Station {
     /// The first cause from 3 to 7 that applies to these starts, or 0.
     pub fn cause(&self, starts: &[u64]) -> u32 {
@@ -40,6 +43,14 @@ impl Station {
             return NOT_LESS_LATE;
         }
         TAKEN
+    }
+
+    /// How both replans end: with the test, if there is something to test.
+    pub fn end_with(&mut self, list: List, rounds: u32) -> Planned {
+        match list {
+            Err(cause) => self.keep(cause, rounds),
+            Ok(starts) => self.take_or_keep(&starts, rounds),
+        }
     }
 
     /// "Cause 0 means taken: the waiting charges get these starts. Otherwise the

@@ -3,14 +3,13 @@
 //! and those placed so far, itself included, are sound in every minute from the
 //! clock on. If one has no such start: cause 1."
 
-use super::judge::NO_START;
+use super::judge::{List, NO_START};
 use super::search::smallest_start;
 use super::station::{Charge, Station};
-use crate::yard::Planned;
 
 /// "by d − p, then ticket"
 pub fn latest_start_order(mut waiting: Vec<Charge>) -> Vec<Charge> {
-    waiting.sort_by_key(|charge| (charge.due as i64 - charge.time as i64, charge.ticket));
+    waiting.sort_by_key(|charge| (charge.latest_start(), charge.ticket));
     waiting
 }
 
@@ -21,11 +20,8 @@ pub fn in_ticket_order(mut placed: Vec<Charge>) -> Vec<u64> {
 }
 
 impl Station {
-    pub fn by_latest_start(&mut self) -> Planned {
-        match self.place_in_turn(&latest_start_order(self.waiting())) {
-            None => self.keep(NO_START, 0),
-            Some(starts) => self.take_or_keep(&starts, 0),
-        }
+    pub fn latest_list(&self) -> List {
+        self.place_in_turn(&latest_start_order(self.waiting())).ok_or(NO_START)
     }
 
     /// Starts, in ticket order, when the waiting charges are placed in this turn.

@@ -4,11 +4,10 @@
 //! the line's count, itself included, at or below the cap in all its minutes. Then
 //! find the first minute t in which two counts differ by more than D".
 
-use super::judge::{ALLOWANCE_SPENT, NO_START};
+use super::judge::{List, ALLOWANCE_SPENT, NO_START};
 use super::latest::{in_ticket_order, latest_start_order};
 use super::minutes::{count_charge, counts, Counts};
 use super::station::{last_end, Charge, Station};
-use crate::yard::Planned;
 
 /// The caps of the three lines in one minute; minutes as in the counts.
 type Caps = Vec<[u64; 3]>;
@@ -20,21 +19,22 @@ struct Round {
 }
 
 impl Station {
-    pub fn by_lines(&mut self, allowance: u32) -> Planned {
+    /// The list, and the rounds made.
+    pub fn lines_list(&self, allowance: u32) -> (List, u32) {
         let mut caps: Caps = vec![[self.limit; 3]; self.minutes_of_a_round() as usize];
         let mut rounds = 0;
         loop {
             let round = self.round(&caps);
             rounds += 1;
             let Some(minute) = self.first_unbalanced(&round.counts) else {
-                return self.take_or_keep(&in_ticket_order(round.placed), rounds);
+                return (Ok(in_ticket_order(round.placed)), rounds);
             };
             let (largest, smallest) = extremes(&round.counts[minute]);
             if !self.placed_there(&round.placed, largest, minute) {
-                return self.keep(NO_START, rounds);
+                return (Err(NO_START), rounds);
             }
             if rounds == allowance {
-                return self.keep(ALLOWANCE_SPENT, rounds);
+                return (Err(ALLOWANCE_SPENT), rounds);
             }
             let lowered = round.counts[minute][smallest] + self.bound;
             for cap in &mut caps[minute..] {

@@ -17,5 +17,6 @@ pub mod minutes;
 pub mod search;
 mod station;
 
+pub use judge::List;
 pub use latest::{in_ticket_order, latest_start_order};
 pub use station::{last_end, Charge, Station};

@@ -38,7 +38,12 @@ impl Charge {
         self.end() <= clock
     }
 
-    /// max(0, end − d)
+    /// d − p: "A latest start may now be negative" (N1).
+    pub fn latest_start(&self) -> i64 {
+        self.due as i64 - self.time as i64
+    }
+
+    /// max(0, end − d), however early d is.
     pub fn lateness(&self) -> u64 {
         self.end().saturating_sub(self.due)
     }

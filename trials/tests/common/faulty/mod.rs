@@ -1,0 +1,155 @@
+//! The reference with one sentence replaced by an error: those that the rules list
+//! under "Errors this yard has to catch", the faulty stations that they name under
+//! "When the yard takes delivery", and the wrong programs of each request. All else
+//! is the reference's.
+
+mod lists;
+mod starts;
+
+use trials::reference::{Charge, List, Station};
+use trials::yard::{Found, Moved, Ordered, Planned, Refusal, Yard};
+
+#[derive(Clone, Copy, Debug, PartialEq, Eq)]
+pub enum Error {
+    None,
+    // Errors this yard has to catch
+    BalanceOnlyAtTheStart,
+    BegunTakenAsSound,
+    WaitingIgnored,
+    CountedInTheMinuteOfTheEnd,
+    StartAtTheClockIsBegun,
+    NeighbouringLinesOnly,
+    // Faulty stations
+    AlwaysKeeps,
+    SpentAfterNoRound,
+    InventedRounds,
+    QueuesBehindTheLastEnd,
+    ReportsOnlyOnce,
+    FullFromTheStart,
+    OneStartForEverybody,
+    // N1, drivers in a hurry
+    LatestStartCutAtZero,
+    LatestStartUnsigned,
+    /// Among equal latest starts below zero.
+    HigherTicketFirst,
+    /// As if the due minute had been clock + p.
+    LatenessFromTheClock,
+    HurryRefused6,
+    HurryRefused7,
+}
+
+#[derive(Clone)]
+pub struct Faulty {
+    error: Error,
+    station: Station,
+    reported: bool,
+}
+
+impl Faulty {
+    pub fn new(error: Error) -> Faulty {
+        Faulty { error, station: Station::fresh(1, 100), reported: false }
+    }
+
+    /// A call of the reference, at which a start equal to the clock is begun if that
+    /// is the error.
+    fn with_clock<A>(&mut self, latest: u64, call: impl FnOnce(&mut Faulty) -> A) -> A {
+        let clock = self.station.clock;
+        if self.error != Error::StartAtTheClockIsBegun {
+            return call(self);
+        }
+        self.station.clock = (clock + 1).min(latest).max(clock);
+        let raised = self.station.clock;
+        let answer = call(self);
+        if self.station.clock == raised {
+            self.station.clock = clock;
+        }
+        answer
+    }
+
+    /// A replan or an offer, unless the error is about all of them.
+    fn plan(
+        &mut self,
+        call: impl FnOnce(&mut Faulty) -> Result<Planned, Refusal>,
+    ) -> Result<Planned, Refusal> {
+        let before = self.station.clone();
+        let mut planned = self.with_clock(u64::MAX, call)?;
+        if self.error == Error::AlwaysKeeps {
+            planned = before.keep(7, planned.rounds);
+            self.station = before;
+        }
+        if self.error == Error::InventedRounds && planned.rounds > 0 {
+            planned.rounds += 1;
+        }
+        Ok(planned)
+    }
+
+    /// The refusal of an order that the rules take, where the error is about it.
+    fn refuses(&self, charge: &Charge) -> Result<(), Refusal> {
+        let in_a_hurry = charge.due < charge.order + charge.time;
+        match self.error {
+            Error::FullFromTheStart => Err(13),
+            Error::HurryRefused6 if in_a_hurry => Err(6),
+            Error::HurryRefused7 if in_a_hurry => Err(7),
+            _ => Ok(()),
+        }
+    }
+}
+
+impl Yard for Faulty {
+    fn open(&mut self, limit: u32, percent: u32) -> Result<u32, Refusal> {
+        self.reported = false;
+        self.station.open(limit, percent)
+    }
+
+    fn order(&mut self, line: u32, time: u32, due: u32) -> Result<Ordered, Refusal> {
+        let mut charge = self.station.ordered(line, time, due)?;
+        self.refuses(&charge)?;
+        if self.error == Error::LatenessFromTheClock {
+            charge.due = charge.due.max(charge.order + charge.time);
+        }
+        let start = self.start_of(&charge).unwrap_or_else(|| self.station.earliest(&charge));
+        Ok(self.station.accept(charge.starting_at(start)))
+    }
+
+    fn move_clock(&mut self, target: u32, report: &mut [u32]) -> Result<Moved, Refusal> {
+        let untouched = report.to_vec();
+        let mut moved =
+            self.with_clock(target.into(), |faulty| faulty.station.move_clock(target, report))?;
+        self.station.clock = target.into();
+        if self.error == Error::ReportsOnlyOnce && self.reported {
+            report.copy_from_slice(&untouched);
+            moved.reported = 0;
+        }
+        self.reported |= moved.reported > 0;
+        Ok(moved)
+    }
+
+    fn offer(&mut self, starts: &[u32]) -> Result<Planned, Refusal> {
+        self.plan(|faulty| faulty.station.offer(starts))
+    }
+
+    fn replan_by_latest_start(&mut self) -> Planned {
+        let planned = self.plan(|faulty| {
+            let list = faulty.latest_list();
+            Ok(faulty.station.end_with(list, 0))
+        });
+        planned.expect("a replan by latest start is never refused")
+    }
+
+    fn replan_by_lines(&mut self, allowance: u32) -> Result<Planned, Refusal> {
+        self.plan(|faulty| {
+            if !(1..=1_000).contains(&allowance) {
+                return Err(11);
+            }
+            let (list, rounds): (List, u32) = match faulty.error {
+                Error::SpentAfterNoRound => (Err(2), 0),
+                _ => faulty.lines_list(allowance),
+            };
+            Ok(faulty.station.end_with(list, rounds))
+        })
+    }
+
+    fn enquire(&self, ticket: u32) -> Result<Found, Refusal> {
+        self.clone().with_clock(u64::MAX, |faulty| faulty.station.enquire(ticket))
+    }
+}
