@@ -7,6 +7,7 @@
 
 use crate::protocol::{read_call, Call};
 use crate::script::{self, Line};
+use crate::yard;
 use std::fmt;
 
 /// What is wrong, and with which answer (the first is 1) it came out.
@@ -22,8 +23,8 @@ impl fmt::Display for Broken {
     }
 }
 
-/// "An order is accepted when it is answered with a ticket. Its order minute is
-/// the clock at that moment; its line and p are those passed in."
+/// "an order is accepted at its commit" (N2), "when it is answered with a ticket. Its
+/// order minute is the clock at that moment; its line and p are those passed in."
 struct Order {
     line: u32,
     time: u64,
@@ -118,7 +119,7 @@ impl Trace {
                 *self = Trace::from_opening(*limit, *percent, refused);
                 Ok(())
             }
-            (Call::Order { line, time, .. }, false) => self.accepted(*line, *time, answer),
+            (Call::Commit { order, .. }, false) => self.accepted(order, answer),
             (Call::Move { target, .. }, false) => self.moved(u64::from(*target), answer),
             _ => Ok(()),
         }
@@ -142,16 +143,21 @@ impl Trace {
     }
 
     /// "tickets are 1, 2, 3 and so on in the order of acceptance"
-    fn accepted(&mut self, line: u32, time: u32, answer: &Answer) -> Checked {
+    fn accepted(&mut self, order: &yard::Order, answer: &Answer) -> Checked {
         ensure(answer.words == "ticket start" && answer.numbers.len() == 2, || {
-            format!("an order is answered with '{}'", answer.words)
+            format!("a commit is answered with '{}'", answer.words)
         })?;
         let ticket = self.orders.len() as u64 + 1;
         ensure(answer.numbers[0] == ticket, || {
             format!("ticket {} where {ticket} is next", answer.numbers[0])
         })?;
-        let (time, order) = (u64::from(time), self.clock);
-        self.orders.push(Order { line, time, order, reported: None, waiting: None });
+        self.orders.push(Order {
+            line: order.line,
+            time: u64::from(order.time),
+            order: self.clock,
+            reported: None,
+            waiting: None,
+        });
         Ok(())
     }
 

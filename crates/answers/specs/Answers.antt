@@ -2,7 +2,7 @@
 use Prim.Native.Nat.{ℕ, _*_}
 use mathlib.Core.List.{List, [], _∷_, _++_}
 use lib.ListN.{take}
-use Rattle.rules.specs.Calls.{Answer, refused, opened, ordered, moved, planned, waiting, charging}
+use Rattle.rules.specs.Calls.{Answer, refused, opened, previewed, committed, moved, planned, waiting, charging}
 use Rattle.text.specs.Printed.{field, spaced, listed}
 use Rattle.requests.specs.declared.request.Reason.{Reason}
 use Rattle.requests.specs.declared.request.Reason.the-variants.{UnknownCall, NotANumber, NumberTooLarge, MissingNumber, ExtraNumber, LineTooLong}
@@ -26,8 +26,10 @@ unfoldable pub answerText : Answer → List ℕ → List ℕ
 answerText (refused k) list = one (114 ∷ 101 ∷ 102 ∷ 117 ∷ 115 ∷ 101 ∷ 100 ∷ 32 ∷ []) k
 -- "open 0 "
 answerText (opened bound) list = one (111 ∷ 112 ∷ 101 ∷ 110 ∷ 32 ∷ 48 ∷ 32 ∷ []) bound
+-- "start "
+answerText (previewed start) list = one (115 ∷ 116 ∷ 97 ∷ 114 ∷ 116 ∷ 32 ∷ []) start
 -- "ticket ", " start "
-answerText (ordered ticket start) list =
+answerText (committed ticket start) list =
     two (116 ∷ 105 ∷ 99 ∷ 107 ∷ 101 ∷ 116 ∷ 32 ∷ []) ticket (32 ∷ 115 ∷ 116 ∷ 97 ∷ 114 ∷ 116 ∷ 32 ∷ []) start
 -- "moved ", " dropped "
 answerText (moved reported dropped) list =
@@ -46,7 +48,8 @@ answerText (charging start end) list =
 abbrev pub pairsOf : Answer → ℕ
 pairsOf (refused k) = 0
 pairsOf (opened d) = 0
-pairsOf (ordered t u) = 0
+pairsOf (previewed u) = 0
+pairsOf (committed t u) = 0
 pairsOf (moved k d) = k
 pairsOf (planned c b a k) = 0
 pairsOf (waiting u) = 0

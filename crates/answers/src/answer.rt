@@ -13,7 +13,8 @@ use station::calls::Answer;
 use station::clock::MoveAnswer;
 use station::enquiry::EnquiryAnswer;
 use station::open::OpenAnswer;
-use station::order::OrderAnswer;
+use station::order::CommitAnswer;
+use station::order::PreviewAnswer;
 use station::plan::PlanAnswer;
 use text::print_field;
 use text::print_list;
@@ -103,8 +104,12 @@ pub fn print_answer(answer: Answer, list: &[u32], buffer: &mut [u8], at: usize) 
     ensures { λ r. ⌜ Printed (answerText (answerOf answer) (now (list .entry))) (now (buffer .entry)) at (now (buffer .exit)) r ⌝ }
 {
     match answer {
-        Answer::Order(order) => match order {
-            OrderAnswer::Ordered { ticket, start } => print_two(
+        Answer::Preview(preview) => match preview {
+            PreviewAnswer::Previewed(start) => print_one(b"start ", start as u64, buffer, at),
+            PreviewAnswer::Refused(number) => print_refused(number, buffer, at),
+        },
+        Answer::Commit(commit) => match commit {
+            CommitAnswer::Committed { ticket, start } => print_two(
                 b"ticket ",
                 ticket as u64,
                 b" start ",
@@ -112,7 +117,7 @@ pub fn print_answer(answer: Answer, list: &[u32], buffer: &mut [u8], at: usize) 
                 buffer,
                 at,
             ),
-            OrderAnswer::Refused(number) => print_refused(number, buffer, at),
+            CommitAnswer::Refused(number) => print_refused(number, buffer, at),
         },
         Answer::Move(moved) => match moved {
             MoveAnswer::Moved { reported, dropped } => print_moved(

@@ -8,7 +8,7 @@ use Rattle.rules.specs.Load.{limited, balanced, sound}
 use Rattle.rules.specs.Search.{earliest, earliestUnder, firstUnbalanced}
 use Rattle.rules.specs.Replan.{placeAll, latest, round, roundsFrom, byLines}
 use Rattle.rules.specs.Judgement.{judged}
-use Rattle.rules.specs.Calls.{opening, ordering, moving, offering, replanningLatest, replanningLines}
+use Rattle.rules.specs.Calls.{offering, replanningLatest, replanningLines}
 use Rattle.excluded.specs.Same.{every}
 use Rattle.excluded.specs.Breaks.{Exactly, aloneIn}
 use Rattle.excluded.specs.FieldsBetter.{Merit, not-before-clock, limit, balance, no-later, less-late, merits, rank, Plan, Merits, merited}
@@ -20,7 +20,7 @@ use Rattle.excluded.proofs.TestsTwoPlans.{plans-tested}
 
 -- the checker computes every test
 pub plans-hold : map computedPlan plans ≡ plans
-unfolding limited balanced sound earliest opening ordering moving
+unfolding limited balanced sound
 plans-hold = refl
 
 -- so of each offered plan the field that its entry names is false, and no other
@@ -28,7 +28,7 @@ pub exactly-better : Each (Exactly Plan Merit Merits) plans
 exactly-better = each-exactly Plan Merit Merits merited merits better-tested plans plans-hold
 
 pub entries-hold : map computed entries ≡ entries
-unfolding limited balanced sound earliest earliestUnder firstUnbalanced placeAll latest round roundsFrom byLines judged opening ordering moving offering replanningLatest replanningLines
+unfolding limited balanced sound earliest earliestUnder firstUnbalanced placeAll latest round roundsFrom byLines judged offering replanningLatest replanningLines
 entries-hold = refl
 
 -- so each wrong station breaks the fields that its entry names, and no other, and the rules break none

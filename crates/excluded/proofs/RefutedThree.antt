@@ -9,78 +9,88 @@ use Rattle.rules.specs.Search.{earliest, earliestUnder}
 use Rattle.rules.specs.Replan.{placeAll, latest}
 use Rattle.rules.specs.Judgement.{judged}
 use Rattle.rules.specs.Entry.{lentList}
-use Rattle.rules.specs.Calls.{refused, waiting, charging, order, move, offer, replanLatest, opening, ordering, moving, replanningLatest, enquiring}
+use Rattle.rules.specs.Calls.{refused, waiting, charging, preview, commit, move, offer, replanLatest, opening, previewing, committing, moving, replanningLatest, enquiring}
 use Rattle.guarantee.specs.DemandThree.{DemandThree}
-use Rattle.excluded.specs.WrongOrders.{ownLineOnly, neighboursOnly, limitIgnored, fixedStart, ticketSkipped}
+use Rattle.excluded.specs.WrongOrders.{ownLineOnly, neighboursOnly, limitIgnored, fixedStart, previewTakesTicket, shownBeforeTaken, ticketSkipped}
 use Rattle.excluded.specs.WrongMoves.{startAtClockLeftOut, firstReportOnly, reportedTwice, startAtTargetReported, nobodyReported, slowClock, droppedEarly, droppedLate, neverDropped, shownLate, shownBegun, shownEarly}
 use Rattle.excluded.specs.WrongPlans.{untested, begunMoved}
-use Rattle.excluded.specs.BreaksThree.{one, two, single, fourOrders}
+use Rattle.excluded.specs.BreaksThree.{one, two, from, single, fourOrders}
 use Rattle.excluded.proofs.Refuting.{line-one, line-two, line-three}
 
 -- Limit, balance and tickets
 
 -- `limit`: two charges of line 1 in minute 0
-limit-ignored : DemandThree limitIgnored one fourOrders → ⊥
-unfolding limited balanced sound earliest opening enquiring
+limit-ignored : DemandThree limitIgnored one (fourOrders 0) → ⊥
+unfolding limited balanced sound earliest opening committing enquiring
 limit-ignored d = let h : 2 ≤ 1 = d .limit 1 0 line-one in omega arith
 
 -- `limit`: two charges of line 1 in minute 5
-fixed-start : DemandThree fixedStart one fourOrders → ⊥
-unfolding opening enquiring
+fixed-start : DemandThree fixedStart one (fourOrders 5) → ⊥
+unfolding opening committing enquiring
 fixed-start d = let h : 2 ≤ 1 = d .limit 1 5 line-one in omega arith
 
 -- `balance`: two charges of line 1 in minute 0, none of line 2
 own-line-only : DemandThree ownLineOnly two (single ∷ single ∷ []) → ⊥
-unfolding limited balanced sound earliest earliestUnder opening ordering enquiring
+unfolding limited balanced sound earliest earliestUnder opening committing enquiring
 own-line-only d = let h : 2 ≤ 1 = d .balance 1 2 0 line-one line-two in omega arith
 
 -- `balance`: in minute 0 two charges of line 1, one of line 2, none of line 3
-neighbours-only : DemandThree neighboursOnly two (single ∷ order 2 10 60 ∷ single ∷ []) → ⊥
-unfolding limited opening enquiring
+neighbours-only : DemandThree neighboursOnly two (single ∷ from 2 0 ∷ single ∷ []) → ⊥
+unfolding limited opening committing enquiring
 neighbours-only d = let h : 2 ≤ 1 = d .balance 1 3 0 line-one line-three in omega arith
 
 -- `tickets`: 1 and 3
-ticket-skipped : DemandThree ticketSkipped one (single ∷ single ∷ []) → ⊥
-unfolding limited balanced sound earliest opening ordering enquiring
+ticket-skipped : DemandThree ticketSkipped one (single ∷ from 1 10 ∷ []) → ⊥
+unfolding limited balanced sound earliest opening committing enquiring
 ticket-skipped d = let h : _≡_ {A = ℕ} 3 2 = d .tickets .1 .0 in omega arith
+
+-- `tickets`: the first is 2
+preview-takes-ticket : DemandThree previewTakesTicket one (preview 1 10 60 ∷ single ∷ []) → ⊥
+unfolding limited balanced sound earliest opening previewing committing enquiring
+preview-takes-ticket d = let h : _≡_ {A = ℕ} 2 1 = d .tickets .0 in omega arith
 
 -- Each order's one charge
 
 -- `not-early`: ordered in minute 5, reported with start 4
-slow-clock : DemandThree slowClock one (move 5 lentList ∷ single ∷ move 6 lentList ∷ []) → ⊥
-unfolding limited balanced sound earliest opening enquiring
+slow-clock : DemandThree slowClock one (move 5 lentList ∷ from 1 4 ∷ move 6 lentList ∷ []) → ⊥
+unfolding limited balanced sound earliest opening committing enquiring
 slow-clock d = let h : 5 ≤ 4 = d .orders .0 .not-early in omega arith
 
+-- `not-early`: ordered in minute 5, with start 0
+shown-before-taken : DemandThree shownBeforeTaken one (preview 1 10 60 ∷ move 5 lentList ∷ single ∷ []) → ⊥
+unfolding limited balanced sound earliest opening previewing committing moving enquiring
+shown-before-taken d = let h : 5 ≤ 0 = d .orders .0 .not-early in omega arith
+
 -- `in-time`: ticket 1 ends at 21, and the two orders of minute 0 last 20
-ends-later : DemandThree (untested 4) one (order 1 10 60 ∷ order 1 10 15 ∷ offer (11 ∷ 0 ∷ []) ∷ []) → ⊥
-unfolding limited balanced sound earliest judged opening ordering enquiring
+ends-later : DemandThree (untested 4) one (single ∷ commit 1 10 15 10 ∷ offer (11 ∷ 0 ∷ []) ∷ []) → ⊥
+unfolding limited balanced sound earliest judged opening committing enquiring
 ends-later d = let h : 21 ≤ 20 = d .orders .0 .in-time in omega arith
 
 -- `reported`: start 0 was never reported
 start-at-clock-left-out : DemandThree startAtClockLeftOut one (single ∷ move 1 lentList ∷ []) → ⊥
-unfolding limited balanced sound earliest opening ordering enquiring
+unfolding limited balanced sound earliest opening committing enquiring
 start-at-clock-left-out d = let h : _≡_ {A = ℕ} 0 1 = d .orders .0 .reported (omega arith) in omega arith
 
 -- `reported`: ticket 2, with start 5, was never reported
 first-report-only :
-    DemandThree firstReportOnly one (single ∷ move 5 lentList ∷ order 2 10 60 ∷ move 6 lentList ∷ []) → ⊥
-unfolding limited balanced sound earliest opening ordering enquiring
+    DemandThree firstReportOnly one (single ∷ move 5 lentList ∷ from 2 5 ∷ move 6 lentList ∷ []) → ⊥
+unfolding limited balanced sound earliest opening committing enquiring
 first-report-only d = let h : _≡_ {A = ℕ} 0 1 = d .orders .1 .0 .reported (omega arith) in omega arith
 
 -- `reported`: twice
 reported-twice : DemandThree reportedTwice one (single ∷ move 1 lentList ∷ move 2 lentList ∷ []) → ⊥
-unfolding limited balanced sound earliest opening ordering enquiring
+unfolding limited balanced sound earliest opening committing enquiring
 reported-twice d = let h : _≡_ {A = ℕ} 2 1 = d .orders .0 .reported (omega arith) in omega arith
 
 -- `not-reported`: ticket 2 waits for 10
-start-at-target-reported : DemandThree startAtTargetReported one (single ∷ single ∷ move 10 lentList ∷ []) → ⊥
-unfolding limited balanced sound earliest opening ordering enquiring
+start-at-target-reported : DemandThree startAtTargetReported one (single ∷ from 1 10 ∷ move 10 lentList ∷ []) → ⊥
+unfolding limited balanced sound earliest opening committing enquiring
 start-at-target-reported d =
     let h : _≡_ {A = ℕ} 1 0 = d .orders .1 .0 .not-reported (omega arith) in omega arith
 
 -- `waits`: the start is the clock
 shown-begun : DemandThree shownBegun one (single ∷ []) → ⊥
-unfolding limited balanced sound earliest opening ordering enquiring
+unfolding limited balanced sound earliest opening committing enquiring
 shown-begun d =
     let h : charging 0 10 ≡ waiting 0 = d .orders .0 .waits (omega arith) in
     let z : _≡_ {A = ℕ} 0 1 = cc in
@@ -88,7 +98,7 @@ shown-begun d =
 
 -- `charges`: reported with start 0, shown with 1
 shown-late : DemandThree shownLate one (single ∷ move 1 lentList ∷ []) → ⊥
-unfolding limited balanced sound earliest opening ordering moving enquiring
+unfolding limited balanced sound earliest opening committing moving enquiring
 shown-late d =
     let h : charging 1 11 ≡ charging 0 10 = d .orders .0 .charges (omega arith) (omega arith) in
     let z : _≡_ {A = ℕ} 1 0 = cc in
@@ -96,7 +106,7 @@ shown-late d =
 
 -- `charges`: at clock 9 the charge from 0 to 10 is no longer held
 dropped-early : DemandThree droppedEarly one (single ∷ move 9 lentList ∷ []) → ⊥
-unfolding limited balanced sound earliest opening ordering enquiring
+unfolding limited balanced sound earliest opening committing enquiring
 dropped-early d =
     let h : refused 15 ≡ charging 0 10 = d .orders .0 .charges (omega arith) (omega arith) in
     let z : _≡_ {A = ℕ} 0 1 = cc in
@@ -104,8 +114,8 @@ dropped-early d =
 
 -- `charges`: ticket 1 was reported with start 0 and waits for 10
 begun-moved :
-    DemandThree begunMoved one (order 1 10 60 ∷ order 1 10 15 ∷ move 1 lentList ∷ replanLatest ∷ []) → ⊥
-unfolding limited balanced sound earliest placeAll latest judged opening ordering moving replanningLatest enquiring
+    DemandThree begunMoved one (single ∷ commit 1 10 15 10 ∷ move 1 lentList ∷ replanLatest ∷ []) → ⊥
+unfolding limited balanced sound earliest placeAll latest judged opening committing moving replanningLatest enquiring
 begun-moved d =
     let h : waiting 10 ≡ charging 0 10 = d .orders .0 .charges (omega arith) (omega arith) in
     let z : _≡_ {A = ℕ} 0 1 = cc in
@@ -113,14 +123,14 @@ begun-moved d =
 
 -- `finished`: at clock 10 the charge from 0 to 10 is still held
 dropped-late : DemandThree droppedLate one (single ∷ move 10 lentList ∷ []) → ⊥
-unfolding limited balanced sound earliest opening ordering enquiring
+unfolding limited balanced sound earliest opening committing enquiring
 dropped-late d =
     let h : charging 0 10 ≡ refused 15 = d .orders .0 .finished (omega arith) in
     let z : _≡_ {A = ℕ} 0 1 = cc in
     omega arith
 
 never-dropped : DemandThree neverDropped one (single ∷ move 99 lentList ∷ []) → ⊥
-unfolding limited balanced sound earliest opening ordering enquiring
+unfolding limited balanced sound earliest opening committing enquiring
 never-dropped d =
     let h : charging 0 10 ≡ refused 15 = d .orders .0 .finished (omega arith) in
     let z : _≡_ {A = ℕ} 0 1 = cc in
@@ -132,9 +142,9 @@ unfolding opening
 nobody-reported d = false≢true (d .no-other 65536 (omega arith))
 
 -- `unmoved`: at clock 9 ticket 2 was shown with start 8, and it is reported with 10
-shown-early : DemandThree shownEarly one (single ∷ single ∷ move 9 lentList ∷ move 11 lentList ∷ []) → ⊥
-unfolding limited balanced sound earliest opening ordering moving enquiring
+shown-early : DemandThree shownEarly one (single ∷ from 1 10 ∷ move 9 lentList ∷ move 11 lentList ∷ []) → ⊥
+unfolding limited balanced sound earliest opening committing moving enquiring
 shown-early d =
     let h : _≡_ {A = ℕ} 10 8
-    = d .unmoved (single ∷ single ∷ move 9 lentList ∷ []) (move 11 lentList ∷ []) refl .1 .0 (omega arith) in
+    = d .unmoved (single ∷ from 1 10 ∷ move 9 lentList ∷ []) (move 11 lentList ∷ []) refl .1 .0 (omega arith) in
     omega arith

@@ -1,93 +1,158 @@
--- Demand 2 is false of these wrong stations for what they make of an order, each after a list of calls.
-use mathlib.Core.Path.{_≡_, refl, ap, subst, _∙_}
+-- Demand 2 is false of these wrong stations for what they make of a preview or a commit, each after a list of calls.
+use mathlib.Core.Path.{_≡_, refl, sym, ap, subst, _∙_}
 use Prim.Native.Nat.{ℕ, _≤_}
-use mathlib.Core.Bool.{true}
-use mathlib.Core.List.{[], _∷_}
+use mathlib.Core.Bool.{true, false, false≢true}
 use Rattle.rules.specs.Basics.{firstOf}
 use native.Mathlib.Omega.{arith}
-use Rattle.rules.specs.Load.{draw, limited, balanced, sound}
+use lib.ListN.{length}
+use Rattle.rules.specs.Load.{limited, balanced, sound}
 use Rattle.rules.specs.Charge.{loadsOf, lastEnd}
 use Rattle.rules.specs.Search.{added, earliest, earliestUnder}
-use Rattle.rules.specs.Entry.{lentList}
-use Rattle.rules.specs.Calls.{settings, limitsOf, refusals, taking, newCharge, State, ordered, order, move, opening, ordering, moving}
+use Rattle.rules.specs.Calls.{refused, previewed, committed, waiting, drawFor, refusals, State, preview, commit, committing}
 use Rattle.rules.proofs.Granted.{refusals-none}
 use Rattle.guarantee.specs.Past.{Gives}
-use Rattle.guarantee.specs.DemandTwo.{SoundPlan, OrderStart, DemandTwo}
-use Rattle.guarantee.specs.Demands.{reached}
-use Rattle.excluded.specs.WrongOrders.{ownLineOnly, limitIgnored, queued, otherTicket, othersPutOff}
+use Rattle.guarantee.specs.DemandTwo.{EarliestStart, CommitStart, DemandTwo}
+use Rattle.excluded.specs.WrongRefusals.{otherNumber}
+use Rattle.excluded.specs.WrongOrders.{ownLineOnly, limitIgnored, queued, lastEndShown, shownAsWaiting, previewTakesTicket, previewWrites, anySoundStart, shownIgnored, shownBeforeTaken, otherTicket, othersPutOff}
 use Rattle.excluded.specs.WrongMoves.{slowClock}
-use Rattle.excluded.specs.BreaksTwoOrders.{threeOrders, stationH}
-use Rattle.guarantee.proofs.DemandTwo.{plan-sound}
+use Rattle.excluded.specs.Starts.{isEarliest}
+use Rattle.excluded.specs.Stations.{station, stationFive, stationThree, stationTwo, stationH}
+use Rattle.guarantee.proofs.Orders.{plan-sound}
 use Rattle.excluded.proofs.Refuting.{line-one, line-two}
+use Rattle.excluded.proofs.TestsStarts.{earliest-tests}
 
--- what demand 2 says of an order that is answered with ticket t and start u
+-- Previews
+
+-- what demand 2 says of a preview that shows the start u
 module _
-    (gives : Gives) (s : State) (line p d t u : ℕ) (demand : DemandTwo gives s)
-    (free : firstOf (refusals s (order line p d)) ≡ 0)
-    (shown : gives s (order line p d) .answer ≡ ordered t u)
+    (gives : Gives) (s : State) (line p d u : ℕ) (demand : DemandTwo gives s)
+    (free : firstOf (refusals s (preview line p d)) ≡ 0)
+    (shows : gives s (preview line p d) .answer ≡ previewed u)
   where
-    order-start : OrderStart s line p d (gives s (order line p d))
-    order-start = demand .orders line p d (refusals-none s (order line p d) free)
+    preview-earliest : EarliestStart s (drawFor s line p) u
+    preview-earliest = go (demand .previews line p d .answer (refusals-none s (preview line p d) free))
+      where
+        go :
+            (start : ℕ) × (gives s (preview line p d) .answer ≡ previewed start) × EarliestStart s (drawFor s line p) start
+            → EarliestStart s (drawFor s line p) u
+        go (start, e, h) = let same : start ≡ u = cc in subst (EarliestStart s (drawFor s line p)) same h
 
-    order-ticket : t ≡ s .next
-    order-ticket = let e = order-start .answer in cc
-
-    start-is : order-start .start ≡ u
-    start-is = let e = order-start .answer in cc
-
-    order-not-early : s .clock ≤ u
-    order-not-early = omega (arith, order-start .not-early, start-is)
-
-    order-sound : SoundPlan s (added (loadsOf (s .charges)) (draw line p) u)
-    order-sound =
-        subst (λ (x : ℕ). SoundPlan s (added (loadsOf (s .charges)) (draw line p) x)) start-is (order-start .sound)
-
-    order-earliest : (v : ℕ) → s .clock ≤ v → sound (limitsOf s) (s .clock) (added (loadsOf (s .charges)) (draw line p) v) ≡ true → u ≤ v
-    order-earliest v h e =
-        omega (arith, start-is, order-start .earliest v h (plan-sound s (added (loadsOf (s .charges)) (draw line p) v) e))
-
-    order-state : gives s (order line p d) .state ≡ taking s (newCharge s line p d u)
-    order-state = order-start .others-same ∙ ap (λ (x : ℕ). taking s (newCharge s line p d x)) start-is
-
--- `answer`: the first ticket is 1
-other-ticket : DemandTwo otherTicket (reached (settings 1 100) []) → ⊥
-unfolding limited balanced sound earliest opening ordering
-other-ticket d =
-    let h : _≡_ {A = ℕ} 2 1 = order-ticket otherTicket (reached (settings 1 100) []) 1 10 60 2 0 d refl refl in omega arith
+-- `answer`
+shown-as-waiting : DemandTwo shownAsWaiting station → ⊥
+shown-as-waiting d = go (d .previews 1 10 60 .answer (refusals-none station (preview 1 10 60) refl))
+  where
+    go : (u : ℕ) × (waiting 0 ≡ previewed u) × EarliestStart station (drawFor station 1 10) u → ⊥
+    go (u, e, h) = let z : _≡_ {A = ℕ} 0 1 = cc in omega arith
 
 -- `not-early`: the clock is 5
-slow-clock : DemandTwo slowClock (reached (settings 1 100) (move 5 lentList ∷ [])) → ⊥
-unfolding limited balanced sound earliest opening moving
-slow-clock d =
-    let h : 5 ≤ 4 = order-not-early slowClock (reached (settings 1 100) (move 5 lentList ∷ [])) 1 10 60 1 4 d refl refl in omega arith
+slow-clock : DemandTwo slowClock stationFive → ⊥
+unfolding limited balanced sound earliest
+slow-clock d = let h : 5 ≤ 4 = preview-earliest slowClock stationFive 1 10 60 4 d refl refl .not-early in omega arith
 
 -- `sound .limit`: N = 1
-limit-ignored : DemandTwo limitIgnored (reached (settings 1 100) threeOrders) → ⊥
-unfolding limited balanced sound earliest opening ordering
+limit-ignored : DemandTwo limitIgnored stationThree → ⊥
+unfolding limited balanced sound earliest
 limit-ignored d =
     let h : 2 ≤ 1
-    = order-sound limitIgnored (reached (settings 1 100) threeOrders) 1 10 60 4 0 d refl refl .limit 1 0 line-one (omega arith) in
+    = preview-earliest limitIgnored stationThree 1 10 60 0 d refl refl
+    .sound .limit 1 0 line-one (omega arith) in
     omega arith
 
 -- `sound .balance`: N = 2, D = 1
-own-line-only : DemandTwo ownLineOnly (reached (settings 2 50) (order 1 10 60 ∷ [])) → ⊥
-unfolding limited balanced sound earliest earliestUnder opening ordering
+own-line-only : DemandTwo ownLineOnly stationTwo → ⊥
+unfolding earliestUnder
 own-line-only d =
     let h : 2 ≤ 1
-    = order-sound ownLineOnly (reached (settings 2 50) (order 1 10 60 ∷ [])) 1 10 60 2 0 d refl refl
-    .balance 1 2 0 line-one line-two (omega arith) in
+    = preview-earliest ownLineOnly stationTwo 1 10 60 0 d refl refl
+    .sound .balance 1 2 0 line-one line-two (omega arith) in
     omega arith
 
 -- `earliest`: an order on line 2 can start at 0, beside those of line 1
+starts-at-zero : EarliestStart stationH (drawFor stationH 2 10) 20 → ⊥
+unfolding limited balanced sound
+starts-at-zero e =
+    let h : 20 ≤ 0
+    = e .earliest 0 (omega arith) (plan-sound stationH (added (loadsOf (stationH .charges)) (drawFor stationH 2 10) 0) refl) in
+    omega arith
+
 queued-order : DemandTwo queued stationH → ⊥
-unfolding limited balanced sound earliest opening ordering
-queued-order d =
-    let h : 20 ≤ 0 = order-earliest queued stationH 2 10 60 3 20 d refl refl 0 (omega arith) refl in omega arith
+queued-order d = starts-at-zero (preview-earliest queued stationH 2 10 60 20 d refl refl)
+
+last-end-shown : DemandTwo lastEndShown stationH → ⊥
+last-end-shown d = starts-at-zero (preview-earliest lastEndShown stationH 2 10 60 20 d refl refl)
+
+-- `same-station`
+preview-takes-ticket : DemandTwo previewTakesTicket station → ⊥
+preview-takes-ticket d =
+    let h : _≡_ {A = ℕ} 2 1 = ap (λ (s : State). s .next) (d .previews 1 10 60 .same-station) in omega arith
+
+-- `same-list`
+preview-writes : DemandTwo previewWrites station → ⊥
+preview-writes d =
+    let h : _≡_ {A = ℕ} 1 0 = ap (length {A = ℕ}) (d .previews 1 10 60 .same-list) in omega arith
+
+-- Commits
+
+-- what demand 2 says of a commit, where the test says that the start shown is the earliest, and where it says that it is not
+module _
+    (gives : Gives) (s : State) (line p d shown : ℕ) (demand : DemandTwo gives s)
+    (free : firstOf (refusals s (preview line p d)) ≡ 0)
+  where
+    commit-start : CommitStart s line p d shown (gives s (commit line p d shown))
+    commit-start = demand .commits line p d shown (refusals-none s (preview line p d) free)
+
+    commit-earliest : isEarliest s (drawFor s line p) shown ≡ true → EarliestStart s (drawFor s line p) shown
+    commit-earliest e = earliest-tests s (drawFor s line p) shown .0 e
+
+    commit-refused : isEarliest s (drawFor s line p) shown ≡ false → gives s (commit line p d shown) .answer ≡ refused 16
+    commit-refused e =
+        commit-start .refusal (λ h. false≢true (sym e ∙ earliest-tests s (drawFor s line p) shown .1 h))
+
+-- `answer`: the first ticket is 1
+other-ticket : DemandTwo otherTicket station → ⊥
+unfolding limited balanced sound earliest committing
+other-ticket d =
+    let h : committed 2 0 ≡ committed 1 0
+    = commit-start otherTicket station 1 10 60 0 d refl .answer .1 (commit-earliest otherTicket station 1 10 60 0 d refl refl) in
+    let z : _≡_ {A = ℕ} 2 1 = cc in
+    omega arith
+
+-- `refusal`: 3 is sound, and 0 the earliest
+other-number : DemandTwo otherNumber station → ⊥
+unfolding limited balanced sound earliest
+other-number d =
+    let h : refused 14 ≡ refused 16 = commit-refused otherNumber station 1 10 60 3 d refl refl in
+    let z : _≡_ {A = ℕ} 14 16 = cc in
+    omega arith
+
+shown-ignored : DemandTwo shownIgnored station → ⊥
+unfolding limited balanced sound earliest
+shown-ignored d =
+    let h : committed 1 0 ≡ refused 16 = commit-refused shownIgnored station 1 10 60 3 d refl refl in
+    let z : _≡_ {A = ℕ} 0 1 = cc in
+    omega arith
+
+any-sound-start : DemandTwo anySoundStart station → ⊥
+unfolding limited balanced sound earliest committing
+any-sound-start d =
+    let h : committed 1 3 ≡ refused 16 = commit-refused anySoundStart station 1 10 60 3 d refl refl in
+    let z : _≡_ {A = ℕ} 0 1 = cc in
+    omega arith
+
+-- `refusal`: the clock is 5
+shown-before-taken : DemandTwo shownBeforeTaken stationFive → ⊥
+unfolding limited balanced sound earliest committing
+shown-before-taken d =
+    let h : committed 1 0 ≡ refused 16 = commit-refused shownBeforeTaken stationFive 1 10 60 0 d refl refl in
+    let z : _≡_ {A = ℕ} 0 1 = cc in
+    omega arith
 
 -- `others-same`: ticket 2 ends at 20
 others-put-off : DemandTwo othersPutOff stationH → ⊥
-unfolding limited balanced sound earliest opening ordering
+unfolding limited balanced sound earliest committing
 others-put-off d =
     let h : _≡_ {A = ℕ} 21 20
-    = ap (λ (s : State). lastEnd (s .charges)) (order-state othersPutOff stationH 2 10 60 3 0 d refl refl) in
+    = ap (λ (s : State). lastEnd (s .charges))
+    (commit-start othersPutOff stationH 2 10 60 0 d refl .others-same
+    (commit-earliest othersPutOff stationH 2 10 60 0 d refl refl)) in
     omega arith

@@ -9,15 +9,16 @@ use Rattle.rules.specs.Charge.{Charge, loadsOf, lastEnd}
 use Rattle.rules.specs.Search.{earliest, earliestUnder, firstUnbalanced}
 use Rattle.rules.specs.Replan.{starts, placeAll, latest, round, roundsFrom, byLines}
 use Rattle.rules.specs.Judgement.{restarted, judged}
-use Rattle.rules.specs.Calls.{settings, State, planned, offer, opening, ordering, moving, offering}
+use Rattle.rules.specs.CasesAToL.{ordersH}
+use Rattle.rules.specs.Calls.{settings, State, planned, offer, offering, step}
 use Rattle.guarantee.specs.Past.{Gives}
 use Rattle.guarantee.specs.DemandTwo.{Better, Taken, GivenStarts, DemandTwo}
-use Rattle.guarantee.specs.Demands.{reached}
 use Rattle.excluded.specs.WrongPlans.{untested, neverTaken, offerCleared, takenLater, begunPutOff, lineChanged, takenForTicket, keptForTicket, alwaysKept, spentAfterNone, roundsInvented}
-use Rattle.excluded.specs.BreaksTwoOrders.{ordersH, stationH}
-use Rattle.excluded.specs.BreaksTwoPlans.{waitingSince, stationFour, begunAndWaiting, offerJ}
+use Rattle.excluded.specs.Stations.{station, stationFour, stationH, stationHTwo, waitingSince, begunAndWaiting}
+use Rattle.excluded.specs.BreaksTwoPlans.{offerJ}
 use Rattle.guarantee.proofs.DemandTwo.{not-taken, demand-two}
 use Rattle.excluded.proofs.Refuting.{line-one, line-two}
+use Rattle.excluded.proofs.Stations.{h-reached}
 
 -- What an offer must be
 
@@ -38,52 +39,52 @@ module _ (gives : Gives) (s : State) (ss : List ℕ) (demand : DemandTwo gives s
 
 -- `not-before-clock`
 untested-three : DemandTwo (untested 3) waitingSince → ⊥
-unfolding limited balanced sound earliest opening ordering moving
+unfolding limited balanced sound earliest
 untested-three d =
     let h : 1 ≤ 0 = offer-better (untested 3) waitingSince (11 ∷ 0 ∷ []) d (_, _, _, refl) .not-before-clock .1 .0 in
     omega arith
 
 -- `no-later`
 untested-four : DemandTwo (untested 4) stationH → ⊥
-unfolding limited balanced sound earliest opening ordering
+unfolding limited balanced sound earliest
 untested-four d =
     let h : 21 ≤ 20 = offer-better (untested 4) stationH (11 ∷ 0 ∷ []) d (_, _, _, refl) .no-later in omega arith
 
 -- `sound .limit`: N = 1
 untested-five : DemandTwo (untested 5) stationFour → ⊥
-unfolding limited balanced sound earliest opening ordering
+unfolding limited balanced sound earliest
 untested-five d =
     let h : 2 ≤ 1
     = offer-better (untested 5) stationFour (0 ∷ 0 ∷ 0 ∷ 0 ∷ []) d (_, _, _, refl) .sound .limit 1 0 line-one (omega arith) in
     omega arith
 
 -- `sound .balance`: N = 2, D = 1
-untested-six : DemandTwo (untested 6) (reached (settings 2 50) ordersH) → ⊥
-unfolding limited balanced sound earliest opening ordering
+untested-six : DemandTwo (untested 6) stationHTwo → ⊥
+unfolding limited balanced sound earliest
 untested-six d =
     let h : 2 ≤ 1
-    = offer-better (untested 6) (reached (settings 2 50) ordersH) (0 ∷ 0 ∷ []) d (_, _, _, refl)
+    = offer-better (untested 6) stationHTwo (0 ∷ 0 ∷ []) d (_, _, _, refl)
     .sound .balance 1 2 0 line-one line-two (omega arith) in
     omega arith
 
 -- `less-late`: the held plan itself
 untested-seven : DemandTwo (untested 7) stationH → ⊥
-unfolding limited balanced sound earliest opening ordering
+unfolding limited balanced sound earliest
 untested-seven d =
     let h : 5 < 5 = offer-better (untested 7) stationH (0 ∷ 10 ∷ []) d (_, _, _, refl) .less-late in omega arith
 
 -- `taken`, the other way round
 never-taken : DemandTwo neverTaken stationH → ⊥
-unfolding limited balanced sound earliest judged opening ordering offering
+unfolding limited balanced sound earliest judged offering
 never-taken d =
-    not-taken 6 5 5 0
-    (d .offers offerJ .taken .1 (demand-two (settings 1 100) ordersH .offers offerJ .taken .0 (_, _, _, refl)))
+    let right : DemandTwo step stationH = subst (DemandTwo step) h-reached (demand-two (settings 1 100) ordersH) in
+    not-taken 6 5 5 0 (d .offers offerJ .taken .1 (right .offers offerJ .taken .0 (_, _, _, refl)))
 
 -- What an offer leaves
 
 -- `waiting-starts`
 taken-later : DemandTwo takenLater stationH → ⊥
-unfolding limited balanced sound earliest judged opening ordering offering
+unfolding limited balanced sound earliest judged offering
 taken-later d =
     let h : _≡_ {A = List ℕ} (11 ∷ 1 ∷ []) (10 ∷ 0 ∷ [])
     = offer-given takenLater stationH offerJ d (_, _, _, refl) .waiting-starts in
@@ -92,7 +93,7 @@ taken-later d =
 
 -- `begun-same`: ticket 1 ends at 10
 begun-put-off : DemandTwo begunPutOff begunAndWaiting → ⊥
-unfolding limited balanced sound earliest judged opening ordering moving offering
+unfolding limited balanced sound earliest judged offering
 begun-put-off d =
     let h : _≡_ {A = ℕ} 11 10
     = ap lastEnd (offer-given begunPutOff begunAndWaiting (12 ∷ 2 ∷ []) d (_, _, _, refl) .begun-same) in
@@ -100,7 +101,7 @@ begun-put-off d =
 
 -- `charges-same`: the count of line 2 in minute 0
 line-changed : DemandTwo lineChanged stationH → ⊥
-unfolding limited balanced sound earliest judged opening ordering offering
+unfolding limited balanced sound earliest judged offering
 line-changed d =
     let h : _≡_ {A = ℕ} 2 0
     = ap (λ (cs : List Charge). count (loadsOf cs) 2 0)
@@ -109,7 +110,7 @@ line-changed d =
 
 -- `station-same`
 taken-for-ticket : DemandTwo takenForTicket stationH → ⊥
-unfolding limited balanced sound earliest judged opening ordering offering
+unfolding limited balanced sound earliest judged offering
 taken-for-ticket d =
     let h : _≡_ {A = ℕ} 4 3
     = ap (λ (s : State). s .next) (offer-given takenForTicket stationH offerJ d (_, _, _, refl) .station-same) in
@@ -117,7 +118,7 @@ taken-for-ticket d =
 
 -- `unchanged`
 kept-for-ticket : DemandTwo keptForTicket stationH → ⊥
-unfolding limited balanced sound earliest judged opening ordering offering
+unfolding limited balanced sound earliest judged offering
 kept-for-ticket d =
     let h : _≡_ {A = ℕ} 4 3
     = ap (λ (s : State). s .next) (d .offers (0 ∷ 10 ∷ []) .unchanged (λ t. not-taken 6 5 5 0 t)) in
@@ -125,29 +126,29 @@ kept-for-ticket d =
 
 -- `same-list`
 offer-cleared : DemandTwo offerCleared stationH → ⊥
-unfolding limited balanced sound earliest judged opening ordering offering
+unfolding limited balanced sound earliest judged offering
 offer-cleared d = let h : _≡_ {A = ℕ} 0 2 = ap (length {A = ℕ}) (d .offers offerJ .same-list) in omega arith
 
 -- Replans
 
 -- `answer`: case h is taken
 always-kept : DemandTwo alwaysKept stationH → ⊥
-unfolding limited balanced sound earliest placeAll latest judged opening ordering
+unfolding limited balanced sound earliest placeAll latest judged
 always-kept d =
     let h : planned 7 5 5 0 ≡ planned 0 5 5 0 = d .replans-latest .answer tt in
     let z : _≡_ {A = ℕ} 7 0 = cc in
     omega arith
 
 -- `answer`: case l, one round, cause 7
-spent-after-none : DemandTwo spentAfterNone (opening (settings 1 100) .state) → ⊥
-unfolding limited balanced sound earliest earliestUnder firstUnbalanced placeAll round roundsFrom byLines judged opening
+spent-after-none : DemandTwo spentAfterNone station → ⊥
+unfolding limited balanced sound earliest earliestUnder firstUnbalanced placeAll round roundsFrom byLines judged
 spent-after-none d =
     let h : planned 2 0 0 0 ≡ planned 7 0 0 1 = d .replans-lines 1 .answer (refl, tt) in
     let z : _≡_ {A = ℕ} 2 7 = cc in
     omega arith
 
-rounds-invented : DemandTwo roundsInvented (opening (settings 1 100) .state) → ⊥
-unfolding limited balanced sound earliest earliestUnder firstUnbalanced placeAll round roundsFrom byLines judged opening
+rounds-invented : DemandTwo roundsInvented station → ⊥
+unfolding limited balanced sound earliest earliestUnder firstUnbalanced placeAll round roundsFrom byLines judged
 rounds-invented d =
     let h : planned 7 0 0 3 ≡ planned 7 0 0 1 = d .replans-lines 3 .answer (refl, tt) in
     let z : _≡_ {A = ℕ} 3 1 = cc in

@@ -2,12 +2,13 @@
 use mathlib.Core.Path.{_≡_, refl}
 use native.Mathlib.Omega.{arith}
 use Rattle.rules.specs.Load.{IsLine}
-use Rattle.rules.specs.Calls.{State, Call, order, move, offer, replanLatest, replanLines, enquire, ordering, step}
-use Rattle.excluded.specs.Parts.{withOrders}
+use Rattle.rules.specs.Calls.{State, Call, preview, commit, move, offer, replanLatest, replanLines, enquire, moving, step}
+use Rattle.excluded.specs.Parts.{withMoves}
 
 -- with nothing put in their place, the parts are the rules: a wrong station differs in its one part only
-unaltered : (s : State) (c : Call) → withOrders ordering s c ≡ step s c
-unaltered s (order line p d) = refl
+unaltered : (s : State) (c : Call) → withMoves moving s c ≡ step s c
+unaltered s (preview line p d) = refl
+unaltered s (commit line p d shown) = refl
 unaltered s (move target list) = refl
 unaltered s (offer ss) = refl
 unaltered s replanLatest = refl

@@ -7,7 +7,7 @@ use native.Mathlib.Omega.{arith}
 use lib.Dec.{eqb}
 use lib.ListN.{getD}
 use Rattle.rules.specs.Charge.{Charge}
-use Rattle.rules.specs.Calls.{State, Answer, refused, opened, ordered, moved, planned, waiting, charging}
+use Rattle.rules.specs.Calls.{State, Answer, refused, opened, previewed, committed, moved, planned, waiting, charging}
 use Rattle.rules.proofs.Ranges.{and-left, and-right, and-both}
 use Rattle.excluded.specs.Same.{sameEach, sameList, inNumbers, sameAnswer, ofCharge, sameCharges, ofState, sameState}
 use Rattle.excluded.proofs.Tests.{Tests, eqb-tests}
@@ -48,15 +48,17 @@ read l =
     let of : ℕ → ℕ = λ i. getD l i 0 in
     cond (eqb (of 0) 0) (refused (of 1))
     (cond (eqb (of 0) 1) (opened (of 1))
-    (cond (eqb (of 0) 2) (ordered (of 1) (of 2))
-    (cond (eqb (of 0) 3) (moved (of 1) (of 2))
-    (cond (eqb (of 0) 4) (planned (of 1) (of 2) (of 3) (of 4))
-    (cond (eqb (of 0) 5) (waiting (of 1)) (charging (of 1) (of 2)))))))
+    (cond (eqb (of 0) 2) (previewed (of 1))
+    (cond (eqb (of 0) 3) (committed (of 1) (of 2))
+    (cond (eqb (of 0) 4) (moved (of 1) (of 2))
+    (cond (eqb (of 0) 5) (planned (of 1) (of 2) (of 3) (of 4))
+    (cond (eqb (of 0) 6) (waiting (of 1)) (charging (of 1) (of 2))))))))
 
 read-back : (a : Answer) → read (inNumbers a) ≡ a
 read-back (refused k) = refl
 read-back (opened d) = refl
-read-back (ordered t s) = refl
+read-back (previewed s) = refl
+read-back (committed t s) = refl
 read-back (moved n m) = refl
 read-back (planned c b a n) = refl
 read-back (waiting s) = refl

@@ -5,7 +5,7 @@ use Prim.Native.Nat.{ℕ}
 use mathlib.Core.Bool.{Bool, true, false, cond}
 use mathlib.Core.List.{List, [], _∷_}
 use native.Mathlib.Omega.{arith}
-use Rattle.rules.specs.Calls.{Settings, State, Answer, refused, opened, ordered, moved, planned, waiting, charging, Result, fresh, Call, order, move, offer, replanLatest, replanLines, enquire}
+use Rattle.rules.specs.Calls.{Settings, State, Answer, refused, opened, previewed, committed, moved, planned, waiting, charging, Result, fresh, Call, preview, commit, move, offer, replanLatest, replanLines, enquire}
 use Rattle.guarantee.specs.Past.{Gives, isRefused}
 use Rattle.guarantee.specs.DemandOne.{FirstIs, AnswerTo, DemandOne, DemandOneOpening}
 use Rattle.excluded.specs.Same.{sameList, sameAnswer, numberIn}
@@ -18,7 +18,8 @@ use Rattle.excluded.proofs.Same.{same-list as same-lists, same-answer, 
 refusal-is : (a : Answer) (k : ℕ) → refusalIn a ≡ k ∷ [] → a ≡ refused k
 refusal-is (refused j) k e = let same : j ≡ k = cc in rw same
 refusal-is (opened d) k e = let z : _≡_ {A = ℕ} 0 1 = cc in absurd (omega arith)
-refusal-is (ordered t s) k e = let z : _≡_ {A = ℕ} 0 1 = cc in absurd (omega arith)
+refusal-is (previewed s) k e = let z : _≡_ {A = ℕ} 0 1 = cc in absurd (omega arith)
+refusal-is (committed t s) k e = let z : _≡_ {A = ℕ} 0 1 = cc in absurd (omega arith)
 refusal-is (moved n m) k e = let z : _≡_ {A = ℕ} 0 1 = cc in absurd (omega arith)
 refusal-is (planned c b a n) k e = let z : _≡_ {A = ℕ} 0 1 = cc in absurd (omega arith)
 refusal-is (waiting s) k e = let z : _≡_ {A = ℕ} 0 1 = cc in absurd (omega arith)
@@ -84,11 +85,17 @@ number-tests a rows = (
 
 -- an answer is of a kind exactly when it is the one of that kind with its own numbers
 module _ (a : Answer) where
-  ordered-tests : Tests (sameAnswer a (ordered (numberIn 1 a) (numberIn 2 a))) ((t : ℕ) × (s : ℕ) × (a ≡ ordered t s))
-  ordered-tests = ((λ e. (_, _, same-answer a (ordered (numberIn 1 a) (numberIn 2 a)) .0 e)), back)
+  previewed-tests : Tests (sameAnswer a (previewed (numberIn 1 a))) ((s : ℕ) × (a ≡ previewed s))
+  previewed-tests = ((λ e. (_, same-answer a (previewed (numberIn 1 a)) .0 e)), back)
     where
-      back : (t : ℕ) × (s : ℕ) × (a ≡ ordered t s) → sameAnswer a (ordered (numberIn 1 a) (numberIn 2 a)) ≡ true
-      back (t, s, e) = rw e (same-answer (ordered t s) (ordered t s) .1 refl)
+      back : (s : ℕ) × (a ≡ previewed s) → sameAnswer a (previewed (numberIn 1 a)) ≡ true
+      back (s, e) = rw e (same-answer (previewed s) (previewed s) .1 refl)
+
+  committed-tests : (s : ℕ) → Tests (sameAnswer a (committed (numberIn 1 a) s)) ((t : ℕ) × (a ≡ committed t s))
+  committed-tests s = ((λ e. (_, same-answer a (committed (numberIn 1 a) s) .0 e)), back)
+    where
+      back : (t : ℕ) × (a ≡ committed t s) → sameAnswer a (committed (numberIn 1 a) s) ≡ true
+      back (t, e) = rw e (same-answer (committed t s) (committed t s) .1 refl)
 
   moved-tests : Tests (sameAnswer a (moved (numberIn 1 a) (numberIn 2 a))) ((n : ℕ) × (m : ℕ) × (a ≡ moved n m))
   moved-tests = ((λ e. (_, _, same-answer a (moved (numberIn 1 a) (numberIn 2 a)) .0 e)), back)
@@ -120,7 +127,8 @@ module _ (a : Answer) where
       back (s, f, e) = rw e (same-answer (charging s f) (charging s f) .1 refl)
 
   answers-tests : (c : Call) → Tests (answersTo c a) (AnswerTo c a)
-  answers-tests (order line p d) = ordered-tests
+  answers-tests (preview line p d) = previewed-tests
+  answers-tests (commit line p d shown) = committed-tests shown
   answers-tests (move target list) = moved-tests
   answers-tests (offer ss) = planned-tests
   answers-tests replanLatest = planned-tests

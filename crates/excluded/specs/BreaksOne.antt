@@ -1,8 +1,10 @@
 -- For each field of demand 1 a wrong station and a call, and a wrong opening, for which that field is false and no other.
 use mathlib.Core.List.{List, [], _∷_, _++_, map}
 use Rattle.rules.specs.Entry.{lentList}
-use Rattle.rules.specs.Calls.{settings, State, order, move, fresh, opening, step}
-use Rattle.excluded.specs.WrongRefusals.{lineAccepted, highestNumber, alwaysFull, hurryRefused, standstillRefused, ticketUsedUp, listCleared, ticketNotSaid, smallProduct, openedAsAsked, openingWrites, limitSaid, percentLost}
+use Rattle.rules.specs.Calls.{settings, preview, commit, move, opening, step}
+use Rattle.excluded.specs.WrongOrders.{shownAsWaiting, anySoundStart, shownIgnored}
+use Rattle.excluded.specs.WrongRefusals.{lineAccepted, lastRow, shownFirst, otherNumber, alwaysFull, hurryRefused, standstillRefused, ticketUsedUp, listCleared, ticketNotSaid, smallProduct, openedAsAsked, openingWrites, limitSaid, percentLost}
+use Rattle.excluded.specs.Stations.{station}
 use Rattle.excluded.specs.Breaks.{Entry, computedBy, onlyOf}
 use Rattle.excluded.specs.FieldsOne.{Field, number, same-station, same-list, answered, fields, place, Trial, calledOn, openedBy, tested}
 
@@ -15,21 +17,23 @@ computed = computedBy tested fields
 abbrev only : Trial → List Field → Breach
 only = onlyOf place fields
 
--- the fresh station of 1, 100
-abbrev pub station : State
-station = fresh (settings 1 100)
-
 abbrev pub wrongCalls : List Breach
 wrongCalls =
-    only (calledOn lineAccepted station (order 4 10 60)) (number ∷ [])
-    ∷ only (calledOn highestNumber station (order 4 0 60)) (number ∷ [])
+    only (calledOn lineAccepted station (preview 4 10 60)) (number ∷ [])
+    ∷ only (calledOn lastRow station (preview 4 0 60)) (number ∷ [])
+    -- 3 is a sound start, and 0 the earliest
+    ∷ only (calledOn anySoundStart station (commit 1 10 60 3)) (number ∷ [])
+    ∷ only (calledOn shownIgnored station (commit 1 10 60 3)) (number ∷ [])
+    ∷ only (calledOn otherNumber station (commit 1 10 60 3)) (number ∷ [])
+    ∷ only (calledOn shownFirst station (commit 4 10 60 3)) (number ∷ [])
     -- a call that is refused where no condition applies has no answer of its own kind either
-    ∷ only (calledOn alwaysFull station (order 1 10 60)) (number ∷ answered ∷ [])
-    ∷ only (calledOn hurryRefused station (order 1 10 9)) (number ∷ answered ∷ [])
+    ∷ only (calledOn alwaysFull station (preview 1 10 60)) (number ∷ answered ∷ [])
+    ∷ only (calledOn hurryRefused station (preview 1 10 9)) (number ∷ answered ∷ [])
     ∷ only (calledOn standstillRefused station (move 0 lentList)) (number ∷ answered ∷ [])
-    ∷ only (calledOn ticketUsedUp station (order 4 10 60)) (same-station ∷ [])
+    ∷ only (calledOn ticketUsedUp station (commit 4 10 60 0)) (same-station ∷ [])
     ∷ only (calledOn listCleared station (move 0 (7 ∷ []))) (same-list ∷ [])
-    ∷ only (calledOn ticketNotSaid station (order 1 10 60)) (answered ∷ [])
+    ∷ only (calledOn shownAsWaiting station (preview 1 10 60)) (answered ∷ [])
+    ∷ only (calledOn ticketNotSaid station (commit 1 10 60 0)) (answered ∷ [])
     ∷ []
 
 abbrev pub wrongOpenings : List Breach

@@ -3,9 +3,9 @@ use Prim.Native.Nat.{ℕ}
 use mathlib.Core.Bool.{Bool}
 use mathlib.Core.List.{List, [], _∷_, _++_, map}
 use Rattle.rules.specs.Entry.{lentList}
-use Rattle.rules.specs.Calls.{settings, State, Call, order, move, offer, replanLatest, opening, step}
+use Rattle.rules.specs.Calls.{settings, State, Call, preview, commit, move, offer, replanLatest, opening, step}
 use Rattle.guarantee.specs.Past.{Gives}
-use Rattle.excluded.specs.WrongOrders.{ownLineOnly, neighboursOnly, limitIgnored, fixedStart, ticketSkipped}
+use Rattle.excluded.specs.WrongOrders.{ownLineOnly, neighboursOnly, limitIgnored, fixedStart, previewTakesTicket, shownBeforeTaken, ticketSkipped}
 use Rattle.excluded.specs.WrongMoves.{startAtClockLeftOut, firstReportOnly, reportedTwice, startAtTargetReported, nobodyReported, slowClock, droppedEarly, droppedLate, neverDropped, shownLate, shownBegun, shownEarly}
 use Rattle.excluded.specs.WrongPlans.{untested, begunMoved}
 use Rattle.excluded.specs.FieldsThree.{Field, limit, balance, tickets, not-early, in-time, reported, not-reported, waits, charges, finished, no-other, unmoved, fields, place, Holds}
@@ -40,39 +40,46 @@ one = opening (settings 1 100) .state
 abbrev pub two : State
 two = opening (settings 2 50) .state
 
+-- an order of 10 minutes with a start
+abbrev pub from : ℕ → ℕ → Call
+from line start = commit line 10 60 start
+
 -- one order that charges on line 1 from 0 to 10
 abbrev pub single : Call
-single = order 1 10 60
+single = from 1 0
 
--- one order on each line, and another on line 1
-abbrev pub fourOrders : List Call
-fourOrders = order 1 10 60 ∷ order 2 10 60 ∷ order 3 10 60 ∷ order 1 10 60 ∷ []
+-- one order on each line, and another on line 1, all with one start
+abbrev pub fourOrders : ℕ → List Call
+fourOrders start = from 1 start ∷ from 2 start ∷ from 3 start ∷ from 1 start ∷ []
 
 abbrev pub to : ℕ → Call
 to target = move target lentList
 
 abbrev pub wrongEntries : List Breach
 wrongEntries =
-    only limitIgnored one fourOrders (limit ∷ [])
-    ∷ only fixedStart one fourOrders (limit ∷ [])
+    only limitIgnored one (fourOrders 0) (limit ∷ [])
+    ∷ only fixedStart one (fourOrders 5) (limit ∷ [])
     ∷ only ownLineOnly two (single ∷ single ∷ []) (balance ∷ [])
-    ∷ only neighboursOnly two (single ∷ order 2 10 60 ∷ single ∷ []) (balance ∷ [])
-    ∷ only ticketSkipped one (single ∷ single ∷ []) (tickets ∷ [])
-    ∷ only slowClock one (to 5 ∷ single ∷ to 6 ∷ []) (not-early ∷ [])
-    ∷ only (untested 4) one (single ∷ order 1 10 15 ∷ offer (11 ∷ 0 ∷ []) ∷ []) (in-time ∷ [])
+    ∷ only neighboursOnly two (single ∷ from 2 0 ∷ single ∷ []) (balance ∷ [])
+    ∷ only ticketSkipped one (single ∷ from 1 10 ∷ []) (tickets ∷ [])
+    ∷ only previewTakesTicket one (preview 1 10 60 ∷ single ∷ []) (tickets ∷ [])
+    ∷ only slowClock one (to 5 ∷ from 1 4 ∷ to 6 ∷ []) (not-early ∷ [])
+    -- ordered in minute 5 with the start 0, which no move passes any more
+    ∷ only shownBeforeTaken one (preview 1 10 60 ∷ to 5 ∷ single ∷ []) (not-early ∷ reported ∷ [])
+    ∷ only (untested 4) one (single ∷ commit 1 10 15 10 ∷ offer (11 ∷ 0 ∷ []) ∷ []) (in-time ∷ [])
     ∷ only startAtClockLeftOut one (single ∷ to 1 ∷ []) (reported ∷ [])
-    ∷ only firstReportOnly one (single ∷ to 5 ∷ order 2 10 60 ∷ to 6 ∷ []) (reported ∷ [])
+    ∷ only firstReportOnly one (single ∷ to 5 ∷ from 2 5 ∷ to 6 ∷ []) (reported ∷ [])
     ∷ only reportedTwice one (single ∷ to 1 ∷ to 2 ∷ []) (reported ∷ [])
-    ∷ only startAtTargetReported one (single ∷ single ∷ to 10 ∷ []) (not-reported ∷ [])
+    ∷ only startAtTargetReported one (single ∷ from 1 10 ∷ to 10 ∷ []) (not-reported ∷ [])
     ∷ only shownBegun one (single ∷ []) (waits ∷ [])
     ∷ only shownLate one (single ∷ to 1 ∷ []) (charges ∷ [])
     ∷ only droppedEarly one (single ∷ to 9 ∷ []) (charges ∷ [])
     -- ticket 1, reported with start 0, waits for 10, and ticket 2, never reported, charges from 0: both of line 1 in minute 0
-    ∷ only begunMoved one (single ∷ order 1 10 15 ∷ to 1 ∷ replanLatest ∷ []) (limit ∷ balance ∷ reported ∷ charges ∷ [])
+    ∷ only begunMoved one (single ∷ commit 1 10 15 10 ∷ to 1 ∷ replanLatest ∷ []) (limit ∷ balance ∷ reported ∷ charges ∷ [])
     ∷ only droppedLate one (single ∷ to 10 ∷ []) (finished ∷ [])
     ∷ only neverDropped one (single ∷ to 99 ∷ []) (finished ∷ [])
     ∷ only nobodyReported one (to 1 ∷ []) (no-other ∷ [])
-    ∷ only shownEarly one (single ∷ single ∷ to 9 ∷ to 11 ∷ []) (unmoved ∷ [])
+    ∷ only shownEarly one (single ∷ from 1 10 ∷ to 9 ∷ to 11 ∷ []) (unmoved ∷ [])
     ∷ []
 
 -- and the rules themselves on the same calls, where nothing breaks

@@ -2,16 +2,14 @@
 -- where that can be.
 use Prim.Native.Nat.{ℕ}
 use mathlib.Core.List.{List, [], _∷_, _++_, map}
-use Rattle.rules.specs.Entry.{lentList}
 use Rattle.rules.specs.Replan.{starts, latest, Replanned, byLines}
-use Rattle.rules.specs.Calls.{settings, State, limitsOf, order, move, offer, replanLatest, replanLines, opening, step}
+use Rattle.rules.specs.Calls.{State, limitsOf, offer, replanLatest, replanLines, step}
 use Rattle.guarantee.specs.Past.{Gives}
-use Rattle.guarantee.specs.Demands.{reached}
 use Rattle.excluded.specs.WrongPlans.{untested, neverTaken, offerCleared, takenLater, begunPutOff, lineChanged, takenForTicket, keptForTicket, alwaysKept, spentAfterNone, roundsInvented}
+use Rattle.excluded.specs.Stations.{station, stationFour, stationH, stationHTwo, waitingSince, begunAndWaiting}
 use Rattle.excluded.specs.Breaks.{Entry, computedBy, onlyOf}
 use Rattle.excluded.specs.FieldsBetter.{Merit, not-before-clock, limit, balance, no-later, less-late, merits, rank, Plan, merited}
 use Rattle.excluded.specs.FieldsTwoPlans.{Field, taken, waiting-starts, begun-same, charges-same, station-same, unchanged, answer, same-list, fields, place, Trial, tested}
-use Rattle.excluded.specs.BreaksTwoOrders.{ordersH, stationH}
 
 abbrev pub Breach : Type 0
 Breach = Entry Trial Field
@@ -40,19 +38,6 @@ byLine gives s allowance =
     let r : Replanned = byLines (limitsOf s) (s .clock) allowance (s .charges) in
     record { gives = gives; station = s; call = replanLines allowance; proposal = r .proposal; rounds = r .rounds }
 
--- at clock 1 ticket 2 waits for 1 and ticket 3, due at 11, for 11
-abbrev pub waitingSince : State
-waitingSince = reached (settings 1 100) (order 1 1 60 ∷ order 1 10 60 ∷ order 1 10 11 ∷ move 1 lentList ∷ [])
-
--- a charge on each line from 0 to 10, and ticket 4 on line 1, due at 15, from 10 to 20
-abbrev pub stationFour : State
-stationFour = reached (settings 1 100) (order 1 10 60 ∷ order 2 10 60 ∷ order 3 10 60 ∷ order 1 10 15 ∷ [])
-
--- at clock 2 ticket 1 charges on line 2 from 0 to 10, tickets 3 and 4, due at 12, wait for 2 and 12
-abbrev pub begunAndWaiting : State
-begunAndWaiting =
-    reached (settings 1 100) (order 2 10 60 ∷ order 1 2 60 ∷ order 1 10 60 ∷ order 1 10 12 ∷ move 2 lentList ∷ [])
-
 -- the offer of case j that is taken
 abbrev pub offerJ : List ℕ
 offerJ = 10 ∷ 0 ∷ []
@@ -63,7 +48,7 @@ plans =
     onlyOf rank merits (record { station = waitingSince; list = 11 ∷ 0 ∷ [] }) (not-before-clock ∷ [])
     ∷ onlyOf rank merits (record { station = stationH; list = 11 ∷ 0 ∷ [] }) (no-later ∷ [])
     ∷ onlyOf rank merits (record { station = stationFour; list = 0 ∷ 0 ∷ 0 ∷ 0 ∷ [] }) (limit ∷ [])
-    ∷ onlyOf rank merits (record { station = reached (settings 2 50) ordersH; list = 0 ∷ 0 ∷ [] }) (balance ∷ [])
+    ∷ onlyOf rank merits (record { station = stationHTwo; list = 0 ∷ 0 ∷ [] }) (balance ∷ [])
     ∷ onlyOf rank merits (record { station = stationH; list = 0 ∷ 10 ∷ [] }) (less-late ∷ [])
     ∷ []
 
@@ -77,7 +62,7 @@ wrongEntries =
     only (offered (untested 3) waitingSince (11 ∷ 0 ∷ [])) (taken ∷ waiting-starts ∷ begun-same ∷ answer ∷ [])
     ∷ only (offered (untested 4) stationH (11 ∷ 0 ∷ [])) (taken ∷ answer ∷ [])
     ∷ only (offered (untested 5) stationFour (0 ∷ 0 ∷ 0 ∷ 0 ∷ [])) (taken ∷ answer ∷ [])
-    ∷ only (offered (untested 6) (reached (settings 2 50) ordersH) (0 ∷ 0 ∷ [])) (taken ∷ answer ∷ [])
+    ∷ only (offered (untested 6) stationHTwo (0 ∷ 0 ∷ [])) (taken ∷ answer ∷ [])
     ∷ only (offered (untested 7) stationH (0 ∷ 10 ∷ [])) (taken ∷ answer ∷ [])
     -- a better plan is not taken
     ∷ only (offered neverTaken stationH offerJ) (taken ∷ answer ∷ [])
@@ -87,8 +72,8 @@ wrongEntries =
     ∷ only (offered lineChanged stationH offerJ) (charges-same ∷ [])
     ∷ only (offered takenForTicket stationH offerJ) (station-same ∷ [])
     ∷ only (offered keptForTicket stationH (0 ∷ 10 ∷ [])) (unchanged ∷ [])
-    ∷ only (byLine spentAfterNone (opening (settings 1 100) .state) 1) (answer ∷ [])
-    ∷ only (byLine roundsInvented (opening (settings 1 100) .state) 3) (answer ∷ [])
+    ∷ only (byLine spentAfterNone station 1) (answer ∷ [])
+    ∷ only (byLine roundsInvented station 3) (answer ∷ [])
     ∷ only (offered offerCleared stationH offerJ) (same-list ∷ [])
     ∷ []
 

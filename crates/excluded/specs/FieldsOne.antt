@@ -5,7 +5,7 @@ use mathlib.Core.Path.{_≡_}
 use Prim.Native.Nat.{ℕ}
 use mathlib.Core.Bool.{Bool, true, cond, not, _&&_, _||_}
 use mathlib.Core.List.{List, [], _∷_}
-use Rattle.rules.specs.Calls.{Settings, settings, State, Answer, refused, opened, ordered, moved, planned, waiting, charging, Result, fresh, openRefusals, Call, order, move, offer, replanLatest, replanLines, enquire, lent, refusals}
+use Rattle.rules.specs.Calls.{Settings, settings, State, Answer, refused, opened, previewed, committed, moved, planned, waiting, charging, Result, fresh, openRefusals, Call, preview, commit, move, offer, replanLatest, replanLines, enquire, lent, refusals}
 use Rattle.guarantee.specs.Past.{Gives, isRefused}
 use Rattle.guarantee.specs.DemandOne.{FirstIs, NoneApplies, AnswerTo}
 use Rattle.excluded.specs.Same.{every, where-so, sameList, sameAnswer, numberIn, sameState}
@@ -67,7 +67,8 @@ firstIn (row ∷ rows) = cond (row .0) (row .1 ∷ []) (firstIn rows)
 
 -- an answer is of a kind when it is the one of that kind with its own numbers
 abbrev pub answersTo : Call → Answer → Bool
-answersTo (order line p d) a = sameAnswer a (ordered (numberIn 1 a) (numberIn 2 a))
+answersTo (preview line p d) a = sameAnswer a (previewed (numberIn 1 a))
+answersTo (commit line p d shown) a = sameAnswer a (committed (numberIn 1 a) shown)
 answersTo (move target list) a = sameAnswer a (moved (numberIn 1 a) (numberIn 2 a))
 answersTo (offer ss) a = sameAnswer a (planned (numberIn 1 a) (numberIn 2 a) (numberIn 3 a) (numberIn 4 a))
 answersTo replanLatest a = sameAnswer a (planned (numberIn 1 a) (numberIn 2 a) (numberIn 3 a) (numberIn 4 a))

@@ -1,16 +1,19 @@
 -- The rules in parts, so that a wrong station can be said as the rules with one thing changed.
 use Prim.Native.Nat.{ℕ, suc}
-use mathlib.Core.Bool.{Bool}
-use mathlib.Core.List.{List, map}
-use Rattle.rules.specs.Basics.{firstOf}
+use mathlib.Core.Bool.{Bool, not, cond}
+use mathlib.Core.List.{List, [], map}
+use lib.Dec.{eqb}
+use Rattle.rules.specs.Basics.{Found, firstOf, keep}
+use Rattle.rules.specs.Load.{Draw}
 use Rattle.rules.specs.Charge.{Charge, starting}
-use Rattle.rules.specs.Calls.{State, holding, Answer, Result, answering, Call, order, move, offer, replanLatest, replanLines, enquire, lent, refusals, ordering, moving, offering, replanningLatest, replanningLines, enquiring}
+use Rattle.rules.specs.Calls.{State, holding, Answer, refused, Result, answering, Call, preview, commit, move, offer, replanLatest, replanLines, enquire, lent, drawFor, isStart, refusals, previewedAt, previewing, committing, moving, offering, replanningLatest, replanningLines, enquiring}
 use Rattle.guarantee.specs.Past.{Gives}
 
 -- the refusals, and what comes of each kind of call that is not refused
 pub record Parts : Type 0 where
   pub refuses : State → Call → List (Bool × ℕ)
-  pub orders : State → ℕ → ℕ → ℕ → Result
+  pub previews : State → ℕ → ℕ → ℕ → Result
+  pub commits : State → ℕ → ℕ → ℕ → ℕ → Result
   pub moves : State → ℕ → List ℕ → Result
   pub offers : State → List ℕ → Result
   pub replans-latest : State → Result
@@ -18,7 +21,8 @@ pub record Parts : Type 0 where
   pub enquiries : State → ℕ → Result
 
 abbrev grantedBy : Parts → State → Call → Result
-grantedBy p s (order line time d) = p .orders s line time d
+grantedBy p s (preview line time d) = p .previews s line time d
+grantedBy p s (commit line time d shown) = p .commits s line time d shown
 grantedBy p s (move target list) = p .moves s target list
 grantedBy p s (offer ss) = p .offers s ss
 grantedBy p s replanLatest = p .replans-latest s
@@ -32,16 +36,18 @@ made p s c = answering (firstOf (p .refuses s c)) s (lent c) (grantedBy p s c)
 abbrev parts :
     (State → Call → List (Bool × ℕ))
     → (State → ℕ → ℕ → ℕ → Result)
+    → (State → ℕ → ℕ → ℕ → ℕ → Result)
     → (State → ℕ → List ℕ → Result)
     → (State → List ℕ → Result)
     → (State → Result)
     → (State → ℕ → Result)
     → (State → ℕ → Result)
     → Parts
-parts refuses orders moves offers latest lines enquiries =
+parts refuses previews commits moves offers latest lines enquiries =
     record {
       refuses = refuses;
-      orders = orders;
+      previews = previews;
+      commits = commits;
       moves = moves;
       offers = offers;
       replans-latest = latest;
@@ -52,28 +58,63 @@ parts refuses orders moves offers latest lines enquiries =
 -- One part changed
 
 abbrev pub withRefusals : (State → Call → List (Bool × ℕ)) → Gives
-withRefusals r = made (parts r ordering moving offering replanningLatest replanningLines enquiring)
+withRefusals r = made (parts r previewing committing moving offering replanningLatest replanningLines enquiring)
 
-abbrev pub withOrders : (State → ℕ → ℕ → ℕ → Result) → Gives
-withOrders o = made (parts refusals o moving offering replanningLatest replanningLines enquiring)
+abbrev pub withPreviews : (State → ℕ → ℕ → ℕ → Result) → Gives
+withPreviews f = made (parts refusals f committing moving offering replanningLatest replanningLines enquiring)
+
+abbrev pub withCommits : (State → ℕ → ℕ → ℕ → ℕ → Result) → Gives
+withCommits f = made (parts refusals previewing f moving offering replanningLatest replanningLines enquiring)
 
 abbrev pub withMoves : (State → ℕ → List ℕ → Result) → Gives
-withMoves m = made (parts refusals ordering m offering replanningLatest replanningLines enquiring)
-
-abbrev pub withOrdersAndMoves : (State → ℕ → ℕ → ℕ → Result) → (State → ℕ → List ℕ → Result) → Gives
-withOrdersAndMoves o m = made (parts refusals o m offering replanningLatest replanningLines enquiring)
+withMoves m = made (parts refusals previewing committing m offering replanningLatest replanningLines enquiring)
 
 abbrev pub withOffers : (State → List ℕ → Result) → Gives
-withOffers f = made (parts refusals ordering moving f replanningLatest replanningLines enquiring)
+withOffers f = made (parts refusals previewing committing moving f replanningLatest replanningLines enquiring)
 
 abbrev pub withReplansLatest : (State → Result) → Gives
-withReplansLatest a = made (parts refusals ordering moving offering a replanningLines enquiring)
+withReplansLatest a = made (parts refusals previewing committing moving offering a replanningLines enquiring)
 
 abbrev pub withReplansLines : (State → ℕ → Result) → Gives
-withReplansLines b = made (parts refusals ordering moving offering replanningLatest b enquiring)
+withReplansLines b = made (parts refusals previewing committing moving offering replanningLatest b enquiring)
 
 abbrev pub withEnquiries : (State → ℕ → Result) → Gives
-withEnquiries e = made (parts refusals ordering moving offering replanningLatest replanningLines e)
+withEnquiries e = made (parts refusals previewing committing moving offering replanningLatest replanningLines e)
+
+-- Orders
+
+-- a condition that is not looked at
+abbrev pub unnumbered : ℕ → List (Bool × ℕ) → List (Bool × ℕ)
+unnumbered k rows = keep (λ row. not (eqb (row .1) k)) rows
+
+-- previews, commits that look at the start shown themselves, and moves
+abbrev orders :
+    (State → ℕ → ℕ → ℕ → Result) → (State → ℕ → ℕ → ℕ → ℕ → Result) → (State → ℕ → List ℕ → Result) → Gives
+orders f g m =
+    made
+    (parts (λ s c. unnumbered 16 (refusals s c)) f g m offering replanningLatest replanningLines enquiring)
+
+-- commits that do not look at the start shown
+abbrev pub withUntested : (State → ℕ → ℕ → ℕ → ℕ → Result) → Gives
+withUntested g = orders previewing g moving
+
+-- a commit with a start for which the test holds is taken, any other refused
+abbrev takenWhere : (State → Draw → ℕ → Bool) → State → ℕ → ℕ → ℕ → ℕ → Result
+takenWhere test s line p d shown =
+    cond (test s (drawFor s line p) shown) (committing s line p d shown)
+    (record { answer = refused 16; state = s; list = [] })
+
+-- another test of the start shown
+abbrev pub withTest : (State → Draw → ℕ → Bool) → Gives
+withTest test = withUntested (takenWhere test)
+
+-- another search, which previews show and commits compare with, and other moves
+abbrev pub withSearchAndMoves : (State → Draw → Found) → (State → ℕ → List ℕ → Result) → Gives
+withSearchAndMoves find m =
+    orders (λ s line p d. previewedAt s (find s (drawFor s line p))) (takenWhere (λ s a shown. isStart (find s a) shown)) m
+
+abbrev pub withSearch : (State → Draw → Found) → Gives
+withSearch find = withSearchAndMoves find moving
 
 -- Results, stations and charges with one thing changed
 

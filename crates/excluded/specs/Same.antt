@@ -5,7 +5,7 @@ use mathlib.Core.List.{List, [], _∷_}
 use lib.Dec.{eqb}
 use lib.ListN.{getD}
 use Rattle.rules.specs.Charge.{Charge}
-use Rattle.rules.specs.Calls.{State, Answer, refused, opened, ordered, moved, planned, waiting, charging}
+use Rattle.rules.specs.Calls.{State, Answer, refused, opened, previewed, committed, moved, planned, waiting, charging}
 
 -- f holds at each member
 abbrev pub every : {A : Type 0} → (A → Bool) → List A → Bool
@@ -33,11 +33,12 @@ sameList = sameEach eqb
 abbrev pub inNumbers : Answer → List ℕ
 inNumbers (refused k) = 0 ∷ k ∷ []
 inNumbers (opened d) = 1 ∷ d ∷ []
-inNumbers (ordered t s) = 2 ∷ t ∷ s ∷ []
-inNumbers (moved n m) = 3 ∷ n ∷ m ∷ []
-inNumbers (planned c b a n) = 4 ∷ c ∷ b ∷ a ∷ n ∷ []
-inNumbers (waiting s) = 5 ∷ s ∷ []
-inNumbers (charging s e) = 6 ∷ s ∷ e ∷ []
+inNumbers (previewed s) = 2 ∷ s ∷ []
+inNumbers (committed t s) = 3 ∷ t ∷ s ∷ []
+inNumbers (moved n m) = 4 ∷ n ∷ m ∷ []
+inNumbers (planned c b a n) = 5 ∷ c ∷ b ∷ a ∷ n ∷ []
+inNumbers (waiting s) = 6 ∷ s ∷ []
+inNumbers (charging s e) = 7 ∷ s ∷ e ∷ []
 
 abbrev pub sameAnswer : Answer → Answer → Bool
 sameAnswer a b = sameList (inNumbers a) (inNumbers b)

@@ -5,12 +5,11 @@ use mathlib.Core.List.{List, [], _∷_, _++_, map}
 use lib.Dec.{ltb, eqb}
 use lib.ListN.{length}
 use Rattle.rules.specs.Basics.{keep, sortedBy}
-use Rattle.rules.specs.Load.{draw}
 use Rattle.rules.specs.Charge.{Charge, starting, loadsOf, isBegun, unfinishedCharges}
 use Rattle.rules.specs.Search.{earliest}
-use Rattle.rules.specs.Calls.{State, limitsOf, holding, moved, Result, newCharge, orderedAt, isPassed, startBefore, pairs, written, enquiring}
+use Rattle.rules.specs.Calls.{State, limitsOf, holding, moved, Result, newCharge, isPassed, startBefore, pairs, written, enquiring}
 use Rattle.guarantee.specs.Past.{Gives}
-use Rattle.excluded.specs.Parts.{withMoves, withOrdersAndMoves, withEnquiries, saying, ticketing, putOff, chargesBy}
+use Rattle.excluded.specs.Parts.{withMoves, withSearchAndMoves, withEnquiries, saying, ticketing, putOff, chargesBy}
 
 -- a move that reports the charges for which `passed` holds of the old clock and the target, and others after them, and drops
 -- what is finished at another minute
@@ -52,9 +51,8 @@ nobodyReported = withMoves (λ s target list. movedBy isPassed (newCharge (ticke
 -- a clock that is a minute slow, for orders and for reports: charges start before their order minute
 abbrev pub slowClock : Gives
 slowClock =
-    withOrdersAndMoves
-    (λ s line p d.
-    orderedAt s (newCharge s line p d) (earliest (limitsOf s) (s .clock - 1) (loadsOf (s .charges)) (draw line p)))
+    withSearchAndMoves
+    (λ s a. earliest (limitsOf s) (s .clock - 1) (loadsOf (s .charges)) a)
     (reporting (λ clock target c. isPassed (clock - 1) target c))
 
 -- What is dropped

@@ -1,25 +1,23 @@
--- Wrong stations: orders that differ from the rules in one thing.
+-- Wrong stations: previews and commits that differ from the rules in one thing.
 use Prim.Native.Nat.{ℕ, suc, _+_, _-_, max}
-use mathlib.Core.Bool.{Bool, _&&_}
-use mathlib.Core.List.{List, _++_, map}
+use mathlib.Core.Bool.{Bool, _&&_, _||_}
+use mathlib.Core.List.{List, [], _∷_, _++_, map}
 use lib.Dec.{leb}
 use lib.ListN.{length, drop}
-use Rattle.rules.specs.Basics.{Found, at, first}
-use Rattle.rules.specs.Load.{draw, Load, limits, count, lastUntil, limitAt, fromOn}
+use Rattle.rules.specs.Basics.{at, first}
+use Rattle.rules.specs.Load.{Load, limits, count, lastUntil, limitAt, fromOn, sound}
 use Rattle.rules.specs.Charge.{Charge, loadsOf, lastEnd}
 use Rattle.rules.specs.Search.{added, earliest, earliestUnder}
-use Rattle.rules.specs.Calls.{State, limitsOf, holding, Result, newCharge, orderedAt, ordering}
+use Rattle.rules.specs.Calls.{State, limitsOf, holding, waiting, Result, drawFor, startFor, isStart, previewedAt, previewing, committing}
+use Rattle.rules.specs.Earlier.{orderedAt}
 use Rattle.guarantee.specs.Past.{Gives}
-use Rattle.excluded.specs.Parts.{withOrders, saying, leaving, ticketing, putOff}
+use Rattle.excluded.specs.Parts.{withPreviews, withCommits, withUntested, withTest, withSearch, saying, leaving, writing, ticketing, putOff}
 
-abbrev orderedBy : (State → ℕ → ℕ → Found) → State → ℕ → ℕ → ℕ → Result
-orderedBy find s line p d = orderedAt s (newCharge s line p d) (find s line p)
+-- The search
 
 -- a search that ignores the other lines
 abbrev pub ownLineOnly : Gives
-ownLineOnly =
-    withOrders
-    (orderedBy (λ s line p. earliestUnder (λ l t. s .limit) (s .clock) (loadsOf (s .charges)) (draw line p)))
+ownLineOnly = withSearch (λ s a. earliestUnder (λ l t. s .limit) (s .clock) (loadsOf (s .charges)) a)
 
 -- lines 1 and 2, and 2 and 3, are compared
 abbrev neighboursAt : State → List Load → ℕ → Bool
@@ -29,47 +27,80 @@ neighboursAt s xs t =
 
 abbrev pub neighboursOnly : Gives
 neighboursOnly =
-    withOrders
-    (orderedBy
-    (λ s line p.
+    withSearch
+    (λ s a.
     let xs : List Load = loadsOf (s .charges) in
-    first (λ u. fromOn (s .clock) (added xs (draw line p) u) (neighboursAt s (added xs (draw line p) u)))
-    (suc (lastUntil xs - s .clock))
-    (s .clock)))
+    first (λ u. fromOn (s .clock) (added xs a u) (neighboursAt s (added xs a u))) (suc (lastUntil xs - s .clock)) (s .clock))
 
 -- a search that ignores the limit
 abbrev pub limitIgnored : Gives
-limitIgnored =
-    withOrders
-    (orderedBy (λ s line p. earliest (limits 180 (s .bound)) (s .clock) (loadsOf (s .charges)) (draw line p)))
+limitIgnored = withSearch (λ s a. earliest (limits 180 (s .bound)) (s .clock) (loadsOf (s .charges)) a)
 
 -- one fixed start for everybody
 abbrev pub fixedStart : Gives
-fixedStart = withOrders (orderedBy (λ s line p. at 5))
+fixedStart = withSearch (λ s a. at 5)
 
 -- an order that always queues behind the last end
 abbrev pub queued : Gives
-queued = withOrders (orderedBy (λ s line p. at (max (s .clock) (lastEnd (s .charges)))))
+queued = withSearch (λ s a. at (max (s .clock) (lastEnd (s .charges))))
 
--- an order answered with the ticket after its own
+-- Previews
+
+-- a preview that shows the last end, where commits go by the earliest start
+abbrev pub lastEndShown : Gives
+lastEndShown = withPreviews (λ s line p d. previewedAt s (at (max (s .clock) (lastEnd (s .charges)))))
+
+-- a preview answered as an enquiry is
+abbrev pub shownAsWaiting : Gives
+shownAsWaiting = withPreviews (λ s line p d. saying (waiting (s .clock)) (previewing s line p d))
+
+-- a preview that takes a ticket
+abbrev pub previewTakesTicket : Gives
+previewTakesTicket = withPreviews (λ s line p d. leaving (ticketing (suc (s .next)) s) (previewing s line p d))
+
+-- a preview that writes a list
+abbrev pub previewWrites : Gives
+previewWrites = withPreviews (λ s line p d. writing (0 ∷ []) (previewing s line p d))
+
+-- Commits
+
+-- a commit that takes any sound start
+abbrev pub anySoundStart : Gives
+anySoundStart =
+    withTest
+    (λ s a shown.
+    leb (s .clock) shown && sound (limitsOf s) (s .clock) (added (loadsOf (s .charges)) a shown))
+
+-- a commit that gives the earliest start whatever was shown
+abbrev pub shownIgnored : Gives
+shownIgnored = withUntested (λ s line p d shown. orderedAt s line p d (startFor s (drawFor s line p)))
+
+-- a commit that still takes the start shown at clock 0
+abbrev pub shownBeforeTaken : Gives
+shownBeforeTaken =
+    withTest
+    (λ s a shown. isStart (startFor s a) shown || isStart (startFor (holding s 0 (s .charges)) a) shown)
+
+-- a commit answered with the ticket after its own
 abbrev pub otherTicket : Gives
 otherTicket =
-    withOrders
-    (λ s line p d. saying (ordering (ticketing (suc (s .next)) s) line p d .answer) (ordering s line p d))
+    withCommits
+    (λ s line p d shown.
+    saying (committing (ticketing (suc (s .next)) s) line p d shown .answer) (committing s line p d shown))
 
 -- every second ticket
 abbrev pub ticketSkipped : Gives
 ticketSkipped =
-    withOrders
-    (λ s line p d.
-    let r : Result = ordering s line p d in
+    withCommits
+    (λ s line p d shown.
+    let r : Result = committing s line p d shown in
     leaving (ticketing (suc (r .state .next)) (r .state)) r)
 
--- an order that puts off the charges held
+-- a commit that puts off the charges held
 abbrev pub othersPutOff : Gives
 othersPutOff =
-    withOrders
-    (λ s line p d.
-    let r : Result = ordering s line p d in
+    withCommits
+    (λ s line p d shown.
+    let r : Result = committing s line p d shown in
     let new : List Charge = drop (length (s .charges)) (r .state .charges) in
     leaving (holding (r .state) (s .clock) (map putOff (s .charges) ++ new)) r)

@@ -1,35 +1,39 @@
 -- Wrong stations: refusals and openings that differ from the rules in one thing.
 use Prim.Native.Nat.{ℕ, suc, _+_}
-use mathlib.Core.Bool.{Bool, not, cond}
-use mathlib.Core.List.{List, [], _∷_}
+use mathlib.Core.Bool.{Bool, cond, _||_}
+use mathlib.Core.List.{List, [], _∷_, _++_, map, reverse}
 use lib.Dec.{ltb, eqb}
-use Rattle.rules.specs.Basics.{firstOf, keep, sortedBy}
-use Rattle.rules.specs.Calls.{Settings, settings, State, refused, opened, waiting, Result, answering, boundOf, fresh, openRefusals, opening, refusals, ordering, moving, step}
+use Rattle.rules.specs.Basics.{firstOf, keep}
+use Rattle.rules.specs.Calls.{Settings, settings, State, refused, opened, waiting, Result, answering, boundOf, fresh, openRefusals, opening, refusals, previewing, committing, moving, step}
 use Rattle.guarantee.specs.Past.{Gives, isRefused}
-use Rattle.excluded.specs.Parts.{withRefusals, withOrders, withMoves, saying, leaving, writing, ticketing}
-
--- a condition that is not looked at
-abbrev unnumbered : ℕ → List (Bool × ℕ) → List (Bool × ℕ)
-unnumbered k rows = keep (λ row. not (eqb (row .1) k)) rows
+use Rattle.excluded.specs.Parts.{withRefusals, withPreviews, withCommits, withMoves, unnumbered, saying, leaving, writing, ticketing}
 
 -- line 4 is accepted
 abbrev pub lineAccepted : Gives
 lineAccepted = withRefusals (λ s c. unnumbered 4 (refusals s c))
 
--- where several apply, the highest number
-abbrev pub highestNumber : Gives
-highestNumber = withRefusals (λ s c. sortedBy (λ a b. ltb (b .1) (a .1)) (refusals s c))
+-- where several apply, the last in the table
+abbrev pub lastRow : Gives
+lastRow = withRefusals (λ s c. reverse (refusals s c))
+
+-- the start shown is looked at before all else
+abbrev pub shownFirst : Gives
+shownFirst = withRefusals (λ s c. keep (λ row. eqb (row .1) 16) (refusals s c) ++ unnumbered 16 (refusals s c))
+
+-- a start that is not the earliest is refused as if no ticket were left
+abbrev pub otherNumber : Gives
+otherNumber = withRefusals (λ s c. map (λ row. (row .0, cond (eqb (row .1) 16) 14 (row .1))) (refusals s c))
 
 -- a station full from the start
 abbrev pub alwaysFull : Gives
-alwaysFull = withOrders (λ s line p d. record { answer = refused 13; state = s; list = [] })
+alwaysFull = withRefusals (λ s c. map (λ row. (eqb (row .1) 13 || row .0, row .1)) (refusals s c))
 
 -- a due minute that cannot be met is refused, with the number that has ended
 abbrev pub hurryRefused : Gives
 hurryRefused =
-    withOrders
+    withPreviews
     (λ s line p d.
-    cond (ltb d (s .clock + p)) (record { answer = refused 7; state = s; list = [] }) (ordering s line p d))
+    cond (ltb d (s .clock + p)) (record { answer = refused 7; state = s; list = [] }) (previewing s line p d))
 
 -- a refusal that no condition names: a move to the clock itself
 abbrev pub standstillRefused : Gives
@@ -50,9 +54,9 @@ listCleared s c =
     let r : Result = step s c in
     cond (isRefused (r .answer)) (writing [] r) r
 
--- an order answered as an enquiry is, without a ticket
+-- a commit answered as an enquiry is, without a ticket
 abbrev pub ticketNotSaid : Gives
-ticketNotSaid = withOrders (λ s line p d. saying (waiting (s .clock)) (ordering s line p d))
+ticketNotSaid = withCommits (λ s line p d shown. saying (waiting shown) (committing s line p d shown))
 
 -- Openings
 

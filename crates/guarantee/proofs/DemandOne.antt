@@ -10,7 +10,7 @@ use Rattle.rules.specs.Basics.{some, firstOf}
 use Rattle.rules.specs.Charge.{Charge, endOf, isBegun}
 use Rattle.rules.specs.Replan.{Proposal, starts, none, latest, Replanned, byLines}
 use Rattle.rules.specs.Judgement.{judged}
-use Rattle.rules.specs.Calls.{Settings, settings, State, limitsOf, Answer, refused, opened, planned, Result, answering, boundOf, fresh, openRefusals, opening, Call, order, move, offer, replanLatest, replanLines, enquire, lent, refusals, ordering, moving, decided, tested, offering, replanningLatest, replanningLines, told, enquiring, granted, step}
+use Rattle.rules.specs.Calls.{Settings, settings, State, limitsOf, Answer, refused, opened, planned, Result, answering, boundOf, fresh, openRefusals, opening, Call, preview, commit, move, offer, replanLatest, replanLines, enquire, lent, refusals, previewing, committing, moving, decided, tested, offering, replanningLatest, replanningLines, told, enquiring, granted, step}
 use Rattle.rules.specs.Valid.{ValidState}
 use Rattle.rules.proofs.Tables.{Numbered, firstOf-none, none-firstOf}
 use Rattle.rules.proofs.Granted.{refusals-numbered, openRefusals-numbered, enquire-granted}
@@ -62,7 +62,8 @@ refused-by rows kept list r numbered plain = go (firstOf rows) refl
 -- The answers of a call that is not refused
 
 answer-not-refused : (c : Call) (a : Answer) → AnswerTo c a → isRefused a ≡ false
-answer-not-refused (order line p d) a (t, s, e) = rw e
+answer-not-refused (preview line p d) a (s, e) = rw e
+answer-not-refused (commit line p d shown) a (t, e) = rw e
 answer-not-refused (move target list) a (n, m, e) = rw e
 answer-not-refused (offer ss) a (i, b, c, n, e) = rw e
 answer-not-refused replanLatest a (i, b, c, n, e) = rw e
@@ -105,9 +106,9 @@ told-held k t (c ∷ cs) e = go (eqb (c .ticket) t) refl (isBegun k c) refl e (t
     go false p b q u later = rw p (later u)
 
 granted-answer : (s : State) (c : Call) → ValidState s → NoneApplies (refusals s c) → AnswerTo c (granted s c .answer)
-unfolding ordering moving offering replanningLatest replanningLines enquiring
-granted-answer s (order line p d) v q =
-    let f = order-found s line p v in (s .next, f .0, rw (f .1))
+unfolding previewing committing moving offering replanningLatest replanningLines enquiring
+granted-answer s (preview line p d) v q = let f = order-found s line p v in (f .0, rw (f .1))
+granted-answer s (commit line p d shown) v q = (s .next, refl)
 granted-answer s (move target list) v q = (_, _, refl)
 granted-answer s (offer ss) v q = tested-planned s 0 (starts ss) ss
 granted-answer s replanLatest v q = tested-planned s 0 (latest (limitsOf s) (s .clock) (s .charges)) []

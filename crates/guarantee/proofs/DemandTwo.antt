@@ -1,49 +1,33 @@
 -- Demand 2.
-use mathlib.Core.Logic.{_⊎_, inl, inr, _↔_}
-use mathlib.Core.Path.{_≡_, refl, sym, subst, _∙_}
-use Prim.Native.Nat.{ℕ, zero, suc, _≤_, _<_}
-use mathlib.Core.Bool.{true, false, true≢false}
+use mathlib.Core.Logic.{_↔_}
+use mathlib.Core.Path.{_≡_, refl, sym, subst}
+use Prim.Native.Nat.{ℕ, zero, suc, _≤_}
 use mathlib.Core.List.{List, [], _∷_}
 use native.Mathlib.Omega.{arith}
 use lib.Dec.{ltb, leb}
 use lib.ListN.{length}
 use borrow.Author.Tests.{leb-true, ltb-true, le-leb, lt-ltb}
 use Rattle.rules.specs.Basics.{Each, firstOf}
-use Rattle.rules.specs.Load.{draw, Load, sound}
-use Rattle.rules.specs.Charge.{Charge, endOf, loadsOf, waitingCharges, lateness}
-use Rattle.rules.specs.Search.{added}
+use Rattle.rules.specs.Load.{sound}
+use Rattle.rules.specs.Charge.{Charge, endOf, waitingCharges, lateness}
 use Rattle.rules.specs.Replan.{Proposal, starts, none, latest, Replanned, byLines}
 use Rattle.rules.specs.Judgement.{restarted, judged}
-use Rattle.rules.specs.Calls.{Settings, State, limitsOf, refused, ordered, planned, Result, answering, Call, order, offer, replanLatest, replanLines, lent, refusals, ordering, decided, tested, offering, replanningLatest, replanningLines, granted, step}
+use Rattle.rules.specs.Calls.{Settings, State, limitsOf, refused, planned, Result, answering, Call, offer, replanLatest, replanLines, lent, refusals, decided, tested, offering, replanningLatest, replanningLines, granted, step}
 use Rattle.rules.specs.Valid.{ValidCharge, ValidState}
-use Rattle.rules.proofs.Ranges.{and-left, and-right, and-both, below-or-not}
+use Rattle.rules.proofs.Ranges.{and-left, and-right, and-both}
 use Rattle.rules.proofs.Lists.{each-map}
-use Rattle.rules.proofs.Counts.{sound-from, sound-true}
 use Rattle.rules.proofs.Tables.{none-firstOf}
 use Rattle.rules.proofs.Granted.{refusals-none, offer-granted}
-use Rattle.rules.proofs.Searches.{earliest-first}
 use Rattle.rules.proofs.Judgements.{Meets, judged-meets, meets-judged}
 use Rattle.rules.proofs.Restarts.{Restarted, restarted-is, restarted-each}
-use Rattle.rules.proofs.Validity.{order-found}
 use Rattle.guarantee.specs.DemandOne.{NoneApplies}
-use Rattle.guarantee.specs.DemandTwo.{SoundPlan, Unbroken, Better, Taken, GivenStarts, causeOf, Tested, OrderStart, DemandTwo}
+use Rattle.guarantee.specs.DemandTwo.{Unbroken, Better, Taken, GivenStarts, causeOf, Tested, DemandTwo}
 use Rattle.guarantee.specs.Demands.{reached}
 use Rattle.guarantee.proofs.Proposals.{Proper, latest-proper, lines-proper, restarted-starts, restarted-begun, restarted-otherwise}
+use Rattle.guarantee.proofs.Orders.{preview-start, commit-start}
 use Rattle.guarantee.proofs.DemandOne.{reached-valid}
 
--- Every minute from the clock on
-
-pub plan-sound : (s : State) (xs : List Load) → sound (limitsOf s) (s .clock) xs ≡ true → SoundPlan s xs
-plan-sound s xs e =
-    record {
-      limit = λ l t j h. sound-from (limitsOf s) (s .clock) xs e t h .limit l j;
-      balance = λ l m t j i h. sound-from (limitsOf s) (s .clock) xs e t h .balance l m j i;
-    }
-
-pub sound-plan : (s : State) (xs : List Load) → SoundPlan s xs → sound (limitsOf s) (s .clock) xs ≡ true
-sound-plan s xs p =
-    sound-true (limitsOf s) (s .clock) xs
-    (λ t h. record { limit = λ l j. p .limit l t j h; balance = λ l m j i. p .balance l m t j i h })
+-- Constraint II
 
 unbroken : (c : Charge) → Unbroken c
 unbroken c t = (
@@ -220,45 +204,14 @@ call-tested s call p rounds j same = go (firstOf (refusals s call)) refl
         apart : firstOf (refusals s call) ≡ suc i → firstOf (refusals s call) ≡ 0 → ⊥
         apart p q = omega arith
 
--- An order
-
-order-start :
-    (s : State) (line p d : ℕ)
-    → ValidState s
-    → NoneApplies (refusals s (order line p d))
-    → OrderStart s line p d (step s (order line p d))
-unfolding ordering
-order-start s line p d v q =
-    let f = order-found s line p v in
-    let r = earliest-first (limitsOf s) (s .clock) (loadsOf (s .charges)) (draw line p) (f .0) (f .1) in
-    rw (none-firstOf (refusals s (order line p d)) q, f .1)
-    (record {
-      start = f .0;
-      answer = refl;
-      not-early = r .low;
-      sound = plan-sound s (added (loadsOf (s .charges)) (draw line p) (f .0)) (r .here);
-      earliest = λ u h w. least (f .0) u (r .least u h) (sound-plan s (added (loadsOf (s .charges)) (draw line p) u) w);
-      others-same = refl;
-    })
-  where
-    least :
-        (start u : ℕ)
-        → (u < start → sound (limitsOf s) (s .clock) (added (loadsOf (s .charges)) (draw line p) u) ≡ false)
-        → sound (limitsOf s) (s .clock) (added (loadsOf (s .charges)) (draw line p) u) ≡ true
-        → start ≤ u
-    least start u before here = go (below-or-not u start)
-      where
-        go : (u < start) ⊎ (start ≤ u) → start ≤ u
-        go (inl h) = absurd (true≢false (sym here ∙ before h))
-        go (inr h) = h
-
 -- The demand
 
 valid-demand-two : (s : State) → ValidState s → DemandTwo step s
 unfolding offering replanningLatest replanningLines
 valid-demand-two s v =
     record {
-      orders = λ line p d q. order-start s line p d v q;
+      previews = λ line p d. preview-start s line p d v;
+      commits = λ line p d shown q. commit-start s line p d shown v q;
       offers =
           λ ss.
           call-tested s (offer ss) (starts ss) 0

@@ -1,6 +1,5 @@
 pub mod Each
 pub mod Tables
-pub mod Lowest
 pub mod History
 pub mod Reports
 pub mod Tickets
@@ -9,5 +8,6 @@ pub mod Steps
 pub mod DemandThree
 pub mod DemandOne
 pub mod Proposals
+pub mod Orders
 pub mod DemandTwo
 pub mod Demands

@@ -9,17 +9,17 @@ use native.Mathlib.Numerals.{add-one}
 use lib.ListN.{length, length-append}
 use borrow.Author.Tests.{lt-leb}
 use Rattle.rules.specs.Basics.{Found, at, nothing, firstOf}
-use Rattle.rules.specs.Load.{draw, lastUntil, sound}
+use Rattle.rules.specs.Load.{lastUntil, sound}
 use Rattle.rules.specs.Charge.{Charge, starting, loadsOf, isFinished, unfinishedCharges}
-use Rattle.rules.specs.Search.{added, earliest}
+use Rattle.rules.specs.Search.{added}
 use Rattle.rules.specs.Replan.{Proposal, starts, none, latest, byLines}
 use Rattle.rules.specs.Judgement.{restarted, judged}
-use Rattle.rules.specs.Calls.{State, limitsOf, Answer, refused, Result, answering, Call, order, move, offer, replanLatest, replanLines, enquire, lent, refusals, newCharge, orderedAt, ordering, moving, decided, tested, offering, replanningLatest, replanningLines, enquiring, granted, step}
+use Rattle.rules.specs.Calls.{State, limitsOf, Answer, refused, Result, answering, Call, preview, commit, move, offer, replanLatest, replanLines, enquire, lent, newCharge, drawFor, startFor, refusals, previewedAt, previewing, committing, moving, decided, tested, offering, replanningLatest, replanningLines, enquiring, granted, step}
 use Rattle.rules.proofs.Ranges.{IsFirst}
 use Rattle.rules.proofs.Lists.{keep-append}
 use Rattle.rules.proofs.Searches.{earliest-first}
 use Rattle.rules.proofs.Tables.{NoneHolds}
-use Rattle.rules.proofs.Granted.{refusals-none, order-granted, move-granted}
+use Rattle.rules.proofs.Granted.{refusals-none, order-granted, commit-granted, move-granted}
 use Rattle.rules.proofs.Judgements.{judged-meets}
 use Rattle.rules.proofs.Restarts.{Restarted, empty, same, other}
 use Rattle.guarantee.specs.Past.{Order, Report, nothingNew, learnt, Past, extended, after}
@@ -88,7 +88,8 @@ pub record Next (s : State) (k : ℕ) (os : List Order) (hs : List Charge) (rs :
 
 -- a refusal lets one learn nothing
 refused-learnt : (k j : ℕ) (c : Call) (list : List ℕ) → learnt k c (refused j) list ≡ nothingNew k
-refused-learnt k j (order line p d) list = refl
+refused-learnt k j (preview line p d) list = refl
+refused-learnt k j (commit line p d shown) list = refl
 refused-learnt k j (move target l) list = refl
 refused-learnt k j (offer ss) list = refl
 refused-learnt k j replanLatest list = refl
@@ -142,17 +143,22 @@ module _
         go (suc j) q = stays c _ (e _) refl
     tested-next c rounds (none cause) list e = stays c _ (e _) refl
 
-    order-next :
-        (line p d : ℕ)
+    preview-next :
+        (line p d : ℕ) (f : Found) → Next s k os hs rs (preview line p d) (previewedAt (stationOf s k os hs) f)
+    preview-next line p d (at start) = stays (preview line p d) _ refl refl
+    preview-next line p d nothing = stays (preview line p d) _ refl refl
+
+    commit-next :
+        (line p d start : ℕ)
         → 1 ≤ p
-        → (f : Found)
-        → earliest (limitsOf s) k (loadsOf (unfinishedCharges k hs)) (draw line p) ≡ f
-        → Next s k os hs rs (order line p d) (orderedAt (stationOf s k os hs) (newCharge (stationOf s k os hs) line p d) f)
-    order-next line p d lasts (at start) e =
+        → startFor (stationOf s k os hs) (drawFor s line p) ≡ at start
+        → Next s k os hs rs (commit line p d start) (committing (stationOf s k os hs) line p d start)
+    unfolding committing
+    commit-next line p d start lasts e =
         let new : Charge = newCharge (stationOf s k os hs) line p d start in
-        let r : IsFirst (λ u. sound (limitsOf s) k (added (loadsOf (unfinishedCharges k hs)) (draw line p) u))
+        let r : IsFirst (λ u. sound (limitsOf s) k (added (loadsOf (unfinishedCharges k hs)) (drawFor s line p) u))
         (suc (lastUntil (loadsOf (unfinishedCharges k hs)) - k)) k start
-        = earliest-first (limitsOf s) k (loadsOf (unfinishedCharges k hs)) (draw line p) start e in
+        = earliest-first (limitsOf s) k (loadsOf (unfinishedCharges k hs)) (drawFor s line p) start e in
         record {
           now = hs ++ (new ∷ []);
           later = omega arith;
@@ -168,16 +174,18 @@ module _
               (after-order (limitsOf s) k os hs rs inv new refl refl lasts (r .low) (r .high) (r .here));
           grown = grown-append k hs (new ∷ []);
         }
-    order-next line p d lasts nothing e = stays (order line p d) _ refl refl
 
     -- a call that is not refused
     granted-next :
         (c : Call)
         → NoneHolds (refusals (stationOf s k os hs) c)
         → Next s k os hs rs c (granted (stationOf s k os hs) c)
-    unfolding ordering moving offering replanningLatest replanningLines enquiring
-    granted-next (order line p d) q =
-        order-next line p d (order-granted (stationOf s k os hs) line p d q .time-low) _ refl
+    unfolding previewing moving offering replanningLatest replanningLines enquiring
+    granted-next (preview line p d) q =
+        preview-next line p d (startFor (stationOf s k os hs) (drawFor (stationOf s k os hs) line p))
+    granted-next (commit line p d shown) q =
+        let g = commit-granted (stationOf s k os hs) line p d shown q in
+        commit-next line p d shown (order-granted (stationOf s k os hs) line p d (g .0) .time-low) (g .1)
     granted-next (move target list) q =
         let h : k ≤ target = move-granted (stationOf s k os hs) target list q .not-back in
         record {

@@ -5,11 +5,11 @@ use Prim.Native.Nat.{ℕ}
 use mathlib.Core.Bool.{Bool, true, false}
 use mathlib.Core.List.{List, [], _∷_}
 use Rattle.rules.specs.Basics.{Each}
-use Rattle.rules.specs.Calls.{Settings, settings, State, Answer, refused, opened, ordered, moved, planned, waiting, charging, Result, boundOf, fresh, openRefusals, Call, order, move, offer, replanLatest, replanLines, enquire, lent, refusals}
+use Rattle.rules.specs.Calls.{Settings, settings, State, Answer, refused, opened, previewed, committed, moved, planned, waiting, charging, Result, boundOf, fresh, openRefusals, Call, preview, commit, move, offer, replanLatest, replanLines, enquire, lent, refusals}
 use Rattle.guarantee.specs.Past.{Gives, isRefused}
 
--- k is the number of the first condition that applies: it applies, and none listed before it does.
--- "Where several apply, the lowest number": proofs/Lowest.antt shows that the first is the one with the lowest.
+-- "Where several apply", the first in the call's table, for "its stated place goes before its number": k is the number of a
+-- condition that applies, and none listed before it does.
 abbrev pub FirstIs : List (Bool × ℕ) → ℕ → Type 0
 FirstIs [] k = ⊥
 FirstIs (row ∷ rows) k = ((row .0 ≡ true) × (row .1 ≡ k)) ⊎ ((row .0 ≡ false) × FirstIs rows k)
@@ -27,14 +27,15 @@ pub record RefusedBy (rows : List (Bool × ℕ)) (kept : State) (list : List ℕ
 
 -- the answers of a call that is not refused
 abbrev pub AnswerTo : Call → Answer → Type 0
-AnswerTo (order line p d) a = (t : ℕ) × (s : ℕ) × (a ≡ ordered t s)
+AnswerTo (preview line p d) a = (s : ℕ) × (a ≡ previewed s)
+AnswerTo (commit line p d shown) a = (t : ℕ) × (a ≡ committed t shown)
 AnswerTo (move target list) a = (n : ℕ) × (m : ℕ) × (a ≡ moved n m)
 AnswerTo (offer ss) a = (i : ℕ) × (b : ℕ) × (c : ℕ) × (n : ℕ) × (a ≡ planned i b c n)
 AnswerTo replanLatest a = (i : ℕ) × (b : ℕ) × (c : ℕ) × (n : ℕ) × (a ≡ planned i b c n)
 AnswerTo (replanLines allowance) a = (i : ℕ) × (b : ℕ) × (c : ℕ) × (n : ℕ) × (a ≡ planned i b c n)
 AnswerTo (enquire ticket) a = ((s : ℕ) × (a ≡ waiting s)) ⊎ ((s : ℕ) × (e : ℕ) × (a ≡ charging s e))
 
--- a call to a station that stands: refusals 4 to 15; `gives` is what a call to a station gives
+-- a call to a station that stands: refusals 4 to 16; `gives` is what a call to a station gives
 pub record DemandOne (gives : Gives) (s : State) (call : Call) : Type 0 where
   pub refused-by : RefusedBy (refusals s call) s (lent call) (gives s call)
   -- "No other call is refused, and every call returns."

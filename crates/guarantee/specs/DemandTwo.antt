@@ -1,16 +1,16 @@
--- Demand 2: when a plan is taken, the start that an order gets, and what offers and replans leave.
+-- Demand 2: when a plan is taken, the start that an order is shown and gets, and what offers and replans leave.
 use mathlib.Core.Logic.{_↔_}
 use mathlib.Core.Path.{_≡_}
 use Prim.Native.Nat.{ℕ, _+_, _≤_, _<_}
 use mathlib.Core.Bool.{true}
 use mathlib.Core.List.{List, map}
 use Rattle.rules.specs.Basics.{Each}
-use Rattle.rules.specs.Load.{draw, Load, active, count, IsLine}
+use Rattle.rules.specs.Load.{Load, Draw, active, count, IsLine}
 use Rattle.rules.specs.Charge.{Charge, starting, endOf, loadOf, loadsOf, begunCharges, waitingCharges, lastEnd, lateness}
 use Rattle.rules.specs.Search.{added}
 use Rattle.rules.specs.Replan.{Proposal, starts, none, latest, byLines}
 use Rattle.rules.specs.Judgement.{restarted, judged}
-use Rattle.rules.specs.Calls.{State, limitsOf, holding, Answer, ordered, planned, Result, Call, order, offer, replanLatest, replanLines, lent, refusals, newCharge, taking}
+use Rattle.rules.specs.Calls.{State, limitsOf, holding, Answer, refused, previewed, committed, planned, Result, Call, preview, commit, offer, replanLatest, replanLines, lent, newCharge, drawFor, refusals, taking}
 use Rattle.guarantee.specs.Past.{Gives}
 use Rattle.guarantee.specs.DemandOne.{NoneApplies}
 
@@ -78,23 +78,38 @@ pub record Tested (s : State) (call : Call) (proposal : Proposal) (rounds : ℕ)
       → r .answer ≡ planned (causeOf s proposal) (lateness (s .charges)) (lateness (r .state .charges)) rounds
   pub same-list : r .list ≡ lent call
 
--- "An order gets the earliest start that these constraints allow with no other start moved"
-pub record OrderStart (s : State) (line p d : ℕ) (r : Result) : Type 0 where
-  pub start : ℕ
-  pub answer : r .answer ≡ ordered (s .next) start
+-- "the earliest start that these constraints allow with no other start moved", of what an order draws
+pub record EarliestStart (s : State) (a : Draw) (start : ℕ) : Type 0 where
   -- constraint I: the order minute is the clock
   pub not-early : s .clock ≤ start
-  pub sound : SoundPlan s (added (loadsOf (s .charges)) (draw line p) start)
-  pub earliest : (u : ℕ) → s .clock ≤ u → SoundPlan s (added (loadsOf (s .charges)) (draw line p) u) → start ≤ u
+  pub sound : SoundPlan s (added (loadsOf (s .charges)) a start)
+  pub earliest : (u : ℕ) → s .clock ≤ u → SoundPlan s (added (loadsOf (s .charges)) a u) → start ≤ u
+
+-- "a preview that answers the start it would give and changes nothing", whether it is refused or not
+pub record PreviewStart (s : State) (line p d : ℕ) (r : Result) : Type 0 where
+  pub answer :
+      NoneApplies (refusals s (preview line p d))
+      → (start : ℕ) × (r .answer ≡ previewed start) × EarliestStart s (drawFor s line p) start
+  pub same-station : r .state ≡ s
+  pub same-list : r .list ≡ lent (preview line p d)
+
+-- "An order gets the earliest start", of a commit whose order is not refused; `shown` is any start that was passed in
+pub record CommitStart (s : State) (line p d shown : ℕ) (r : Result) : Type 0 where
+  -- "The commit gives a ticket and exactly that start", exactly when it is the earliest
+  pub answer : (r .answer ≡ committed (s .next) shown) ↔ EarliestStart s (drawFor s line p) shown
+  -- "commit whose shown start is not the earliest start at that moment"
+  pub refusal : (EarliestStart s (drawFor s line p) shown → ⊥) → r .answer ≡ refused 16
   -- `taking` puts the new charge behind the held ones, which stay as they are
-  pub others-same : r .state ≡ taking s (newCharge s line p d start)
+  pub others-same : EarliestStart s (drawFor s line p) shown → r .state ≡ taking s (newCharge s line p d shown)
 
 -- `gives` is what a call to a station gives
 pub record DemandTwo (gives : Gives) (s : State) : Type 0 where
-  pub orders :
-      (line p d : ℕ)
-      → NoneApplies (refusals s (order line p d))
-      → OrderStart s line p d (gives s (order line p d))
+  pub previews : (line p d : ℕ) → PreviewStart s line p d (gives s (preview line p d))
+  -- "Both meet the order's refusals": a commit comes to the start shown where a preview would show one
+  pub commits :
+      (line p d shown : ℕ)
+      → NoneApplies (refusals s (preview line p d))
+      → CommitStart s line p d shown (gives s (commit line p d shown))
   pub offers : (ss : List ℕ) → Tested s (offer ss) (starts ss) 0 (gives s (offer ss))
   -- "replans follow the paper as document 01 fixes it": `latest` and `byLines` are its definitions;
   -- "rounds used (0 but by lines)"

@@ -1,51 +1,65 @@
 -- The words of demand 3 tried on a list of calls, with the values worked out by hand.
 use mathlib.Core.Path.{_≡_, refl}
 use Prim.Native.Nat.{ℕ}
-use mathlib.Core.List.{[], _∷_, map}
+use mathlib.Core.Bool.{Bool, true, false, _&&_}
+use mathlib.Core.List.{List, [], _∷_, map}
+use lib.Dec.{eqb}
 use lib.ListN.{replicate}
 use Rattle.rules.specs.Load.{limited, balanced, sound}
 use Rattle.rules.specs.Search.{earliest}
 use Rattle.rules.specs.Replan.{placeAll, latest}
 use Rattle.rules.specs.Judgement.{judged}
-use Rattle.rules.specs.Calls.{settings, refused, waiting, charging, order, move, offer, replanLatest, enquire, opening, ordering, moving, offering, replanningLatest, enquiring, step}
+use Rattle.rules.specs.Calls.{settings, refused, waiting, charging, preview, commit, move, offer, replanLatest, enquire, opening, previewing, committing, moving, offering, replanningLatest, enquiring, step}
 use Rattle.guarantee.specs.Past.{Order, Past, past, timesReported, enquiry, startOf, countIn, totalTime, lastMinute}
 
 -- N = D = 1. The orders of case h, replanned: ticket 2
 -- charges on line 1 from 0 to 10, ticket 1 waits for 10. At clock 1 there come ticket 3, on line 2 from 1 to 5 and due at 0,
--- which cannot be met, and ticket 4, on line 3 from 1 to 13. The order on line 9 and the move without a list are refused, the offer is kept out. At clock 10
+-- which cannot be met, and ticket 4, on line 3 from 1 to 13, previewed first. The commit on line 9, the one whose start is not
+-- the earliest and the move without a list are refused, the offer is kept out. At clock 10
 -- tickets 2 and 3 are dropped.
 abbrev example : Past
 example =
     past step (opening (settings 1 100) .state)
-    (order 1 10 60
-    ∷ order 1 10 15
+    (commit 1 10 60 0
+    ∷ commit 1 10 15 10
     ∷ replanLatest
     ∷ move 1 (replicate 360 7)
-    ∷ order 9 9 9
-    ∷ order 2 4 0
-    ∷ order 3 12 99
+    ∷ commit 9 9 9 1
+    ∷ commit 2 4 0 1
+    ∷ preview 3 12 99
+    ∷ commit 3 12 99 2
+    ∷ commit 3 12 99 1
     ∷ move 0 []
     ∷ move 10 (replicate 360 7)
     ∷ enquire 1
     ∷ offer (9 ∷ [])
     ∷ [])
 
-abbrev accepted : ℕ → ℕ → ℕ → ℕ → Order
-accepted t l m p = record { ticket = t; line = l; minute = m; time = p }
+-- ticket, line, order minute and time of each order
+abbrev listed : List Order → List ℕ
+listed [] = []
+listed (o ∷ os) = o .ticket ∷ o .line ∷ o .minute ∷ o .time ∷ listed os
+
+-- whether two lists are the same: such a test is computed at once, where comparing the lists is not
+abbrev same : List ℕ → List ℕ → Bool
+same [] [] = true
+same [] (y ∷ ys) = false
+same (x ∷ xs) [] = false
+same (x ∷ xs) (y ∷ ys) = eqb x y && same xs ys
 
 example-known :
     (example .clock ≡ 10)
-    × (example .orders ≡ accepted 1 1 0 10 ∷ accepted 2 1 0 10 ∷ accepted 3 2 1 4 ∷ accepted 4 3 1 12 ∷ [])
+    × (same (listed (example .orders)) (1 ∷ 1 ∷ 0 ∷ 10 ∷ 2 ∷ 1 ∷ 0 ∷ 10 ∷ 3 ∷ 2 ∷ 1 ∷ 4 ∷ 4 ∷ 3 ∷ 1 ∷ 12 ∷ []) ≡ true)
     × (example .reports
     ≡ record { ticket = 2; start = 0 } ∷ record { ticket = 3; start = 1 } ∷ record { ticket = 4; start = 1 } ∷ [])
-unfolding limited balanced sound earliest placeAll latest judged opening ordering moving offering replanningLatest enquiring
+unfolding limited balanced sound earliest placeAll latest judged opening previewing committing moving offering replanningLatest enquiring
 example-known = (refl, refl, refl)
 
 example-starts :
     (map (startOf step example) (example .orders) ≡ 10 ∷ 0 ∷ 1 ∷ 1 ∷ [])
     × (map (enquiry step example) (1 ∷ 2 ∷ 3 ∷ 4 ∷ 5 ∷ []) ≡ waiting 10 ∷ refused 15 ∷ refused 15 ∷ charging 1 13 ∷ refused 15 ∷ [])
     × (map (timesReported (example .reports)) (1 ∷ 2 ∷ 3 ∷ 4 ∷ 5 ∷ []) ≡ 0 ∷ 1 ∷ 1 ∷ 1 ∷ 0 ∷ [])
-unfolding limited balanced sound earliest placeAll latest judged opening ordering moving offering replanningLatest enquiring
+unfolding limited balanced sound earliest placeAll latest judged opening previewing committing moving offering replanningLatest enquiring
 example-starts = (refl, refl, refl)
 
 example-counts :
@@ -54,5 +68,5 @@ example-counts :
     × (map (countIn step example 3) (0 ∷ 1 ∷ 12 ∷ 13 ∷ []) ≡ 0 ∷ 1 ∷ 1 ∷ 0 ∷ [])
     × (lastMinute 0 (example .orders) ≡ 1)
     × (totalTime (example .orders) ≡ 36)
-unfolding limited balanced sound earliest placeAll latest judged opening ordering moving offering replanningLatest enquiring
+unfolding limited balanced sound earliest placeAll latest judged opening previewing committing moving offering replanningLatest enquiring
 example-counts = (refl, refl, refl, refl, refl)

@@ -6,7 +6,7 @@ use mathlib.Core.Bool.{Bool, true, false, cond}
 use mathlib.Core.List.{List, [], _∷_, _++_, map}
 use lib.Dec.{eqb}
 use Rattle.rules.specs.Load.{draw, Load, loadFrom, count}
-use Rattle.rules.specs.Calls.{State, Answer, refused, opened, ordered, moved, planned, waiting, charging, Result, Call, order, move, offer, replanLatest, replanLines, enquire}
+use Rattle.rules.specs.Calls.{State, Answer, refused, opened, previewed, committed, moved, planned, waiting, charging, Result, Call, preview, commit, move, offer, replanLatest, replanLines, enquire}
 
 -- An accepted order: its ticket is that of the answer. "Its order minute is the clock at that moment; its line and p are
 -- those passed in."
@@ -38,7 +38,8 @@ says refuses tickets reported start =
 abbrev pub said : Answer → Said
 said (refused k) = says true [] 0 0
 said (opened d) = says false [] 0 0
-said (ordered t s) = says false (t ∷ []) 0 0
+said (previewed s) = says false [] 0 0
+said (committed t s) = says false (t ∷ []) 0 0
 said (moved n m) = says false [] n 0
 said (planned c b a n) = says false [] 0 0
 said (waiting s) = says false [] 0 s
@@ -74,10 +75,11 @@ pub record Learnt : Type 0 where
 abbrev pub nothingNew : ℕ → Learnt
 nothingNew clock = record { clock = clock; orders = []; reports = [] }
 
--- "The clock is the target of the last move not refused." "An order is accepted when it is answered with a ticket."
--- A call with its answer and its list afterwards, made at some clock.
+-- "The clock is the target of the last move not refused." "An order is accepted when it is answered with a ticket":
+-- "an order is accepted at its commit". A call with its answer and its list afterwards, made at some clock.
 abbrev pub learnt : ℕ → Call → Answer → List ℕ → Learnt
-learnt clock (order line p d) a list =
+learnt clock (preview line p d) a list = nothingNew clock
+learnt clock (commit line p d shown) a list =
     record {
       clock = clock;
       orders = map (λ t. record { ticket = t; line = line; minute = clock; time = p }) (ticketIn a);

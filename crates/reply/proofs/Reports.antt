@@ -8,18 +8,17 @@ use lib.Dec.{ltb, eqb}
 use borrow.Author.Tests.{ltb-false}
 use lib.ListN.{length}
 use Rattle.rules.specs.Basics.{Found, at, nothing, firstOf, keep}
-use Rattle.rules.specs.Charge.{Charge, endOf, isBegun, loadsOf, drawOf}
-use Rattle.rules.specs.Search.{earliest}
+use Rattle.rules.specs.Charge.{Charge, endOf, isBegun}
 use Rattle.rules.specs.Replan as replan
 use Rattle.rules.specs.Replan.{Proposal, latest, byLines}
 use Rattle.rules.specs.Judgement.{judged}
 use Rattle.rules.specs.Calls as rules
-use Rattle.rules.specs.Calls.{State, Answer, refused, opened, ordered, moved, planned, waiting, charging, order, move, offer, replanLines, enquire, Result, step, refusals, answering, orderedAt, decided, tested, limitsOf, ordering, moving, offering, replanningLatest, replanningLines, enquiring, isPassed, startBefore}
+use Rattle.rules.specs.Calls.{State, Answer, refused, opened, previewed, committed, moved, planned, waiting, charging, preview, commit, move, offer, replanLines, enquire, Result, step, refusals, answering, drawFor, startFor, previewedAt, decided, tested, limitsOf, previewing, committing, moving, offering, replanningLatest, replanningLines, enquiring, isPassed, startBefore}
 use Rattle.rules.proofs.Lists.{length-keep}
 use Rattle.charges.proofs.Sorting.{length-sorted}
 use Rattle.answers.specs.Answers.{answerText, pairsOf}
 use Rattle.station.specs.declared.calls.Call.{Call}
-use Rattle.station.specs.declared.calls.Call.the-variants.{Order, Move, Offer, ReplanLatest, ReplanLines, Enquire}
+use Rattle.station.specs.declared.calls.Call.the-variants.{Preview, Commit, Move, Offer, ReplanLatest, ReplanLines, Enquire}
 use Rattle.station.specs.Applied.{callOf, Lends, none, starts, report, lends, lentOf}
 use Rattle.reply.specs.Reply.{told}
 
@@ -28,7 +27,8 @@ text-same : (a : Answer) (list other : List ℕ) → pairsOf a ≡ 0 → answerT
 unfolding answerText
 text-same (refused k) list other e = refl
 text-same (opened d) list other e = refl
-text-same (ordered t u) list other e = refl
+text-same (previewed u) list other e = refl
+text-same (committed t u) list other e = refl
 text-same (moved k d) list other e = rw e
 text-same (planned c b a k) list other e = refl
 text-same (waiting u) list other e = refl
@@ -38,9 +38,9 @@ refused-none : (i : ℕ) (s : State) (list : List ℕ) (r : Result) → pairsOf 
 refused-none zero s list r e = e
 refused-none (suc k) s list r e = refl
 
-ordered-none : (s : State) (c : ℕ → Charge) (f : Found) → pairsOf (orderedAt s c f .answer) ≡ 0
-ordered-none s c (at start) = refl
-ordered-none s c nothing = refl
+previewed-none : (s : State) (f : Found) → pairsOf (previewedAt s f .answer) ≡ 0
+previewed-none s (at start) = refl
+previewed-none s nothing = refl
 
 decided-none : (s : State) (rounds : ℕ) (ss list : List ℕ) (cause : ℕ) → pairsOf (decided s rounds ss list cause .answer) ≡ 0
 decided-none s rounds ss list zero = refl
@@ -86,9 +86,11 @@ Reports report n places = (n ≤ 180) × (2 * n ≤ places)
 pub reports :
     (s : State) (c : Call) (ss list : List ℕ) → length (s .charges) ≤ 180
     → Reports (lends c) (pairsOf (step s (callOf c ss list) .answer)) (length list)
-unfolding ordering offering replanningLatest replanningLines enquiring
-reports s (Order line time due) ss list few =
-    refused-none (firstOf (refusals s (order line time due))) s [] (ordering s line time due) (ordered-none s (rules.newCharge s line time due) (earliest (limitsOf s) (s .clock) (loadsOf (s .charges)) (drawOf (rules.newCharge s line time due 0))))
+unfolding previewing committing offering replanningLatest replanningLines enquiring
+reports s (Preview line time due) ss list few =
+    refused-none (firstOf (refusals s (preview line time due))) s [] (previewing s line time due) (previewed-none s (startFor s (drawFor s line time)))
+reports s (Commit line time due shown) ss list few =
+    refused-none (firstOf (refusals s (commit line time due shown))) s [] (committing s line time due shown) refl
 reports s (Move target) ss list few = few-moved s target list few
 reports s Offer ss list few = refused-none (firstOf (refusals s (offer ss))) s ss (offering s ss) (tested-none s 0 (replan.starts ss) ss)
 reports s ReplanLatest ss list few = tested-none s 0 (latest (limitsOf s) (s .clock) (s .charges)) []

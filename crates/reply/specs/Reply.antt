@@ -3,7 +3,7 @@ use Prim.Native.Nat.{ℕ}
 use mathlib.Core.Path.{_≡_}
 use mathlib.Core.List.{List, []}
 use lib.Seq.{sets}
-use Rattle.rules.specs.Calls.{State, Call, order, move, offer, replanLatest, replanLines, enquire, Result}
+use Rattle.rules.specs.Calls.{State, Call, preview, commit, move, offer, replanLatest, replanLines, enquire, Result}
 use Rattle.rules.specs.Calls as calls
 use Rattle.requests.specs.Requests.{Asked, nothing, opening, call, error, readRequest}
 use Rattle.text.specs.Printed.{Printed}
@@ -33,7 +33,8 @@ answered s request = reply s (readRequest request)
 
 -- what a call leaves at the front of the list that is lent for reports: a clock move alone reports
 abbrev pub reportOf : State → Call → List ℕ
-reportOf s (order line time due) = []
+reportOf s (preview line time due) = []
+reportOf s (commit line time due shown) = []
 reportOf s (move target list) = calls.step s (move target list) .list
 reportOf s (offer starts) = []
 reportOf s replanLatest = []

@@ -6,7 +6,7 @@ use mathlib.Core.List.{List, [], _∷_}
 use lib.Dec.{ltb, eqb}
 use lib.ListN.{length, getD, take, replicate}
 use lib.Seq.{sets}
-use Rattle.rules.specs.Calls.{Settings, settings, Call, order, move, offer, replanLatest, replanLines, enquire}
+use Rattle.rules.specs.Calls.{Settings, settings, Call, preview, commit, move, offer, replanLatest, replanLines, enquire}
 use Rattle.text.specs.Numbers.{numberOf}
 use Rattle.text.specs.Parts.{split}
 use Rattle.text.specs.declared.number.Number.{Number}
@@ -15,7 +15,7 @@ use Rattle.requests.specs.Words.{named}
 use Rattle.requests.specs.declared.request.Reason.{Reason}
 use Rattle.requests.specs.declared.request.Reason.the-variants.{UnknownCall, NotANumber, NumberTooLarge, MissingNumber, ExtraNumber, LineTooLong}
 use Rattle.requests.specs.declared.word.CallName.{CallName}
-use Rattle.requests.specs.declared.word.CallName.the-variants.{Open, Order, Move, Offer, Latest, Lines, Enquire, Unknown}
+use Rattle.requests.specs.declared.word.CallName.the-variants.{Open, Preview, Commit, Move, Offer, Latest, Lines, Enquire, Unknown}
 use Rattle.station.specs.Answers.{settingsOf}
 use Rattle.station.specs.Applied as applied
 use Rattle.requests.specs.declared.request.Request as declared
@@ -41,7 +41,8 @@ pub data Numbers : Type 0 where
 -- are left, and a number with the space before it has two at least. Those are 2,045, so that 2,048 are never passed.
 abbrev pub taken : CallName → Takes
 taken Open = Between 2 2
-taken Order = Between 3 3
+taken Preview = Between 3 3
+taken Commit = Between 4 4
 taken Move = Between 2 2
 taken Offer = Between 0 2048
 taken Latest = Between 0 0
@@ -84,7 +85,8 @@ lentList places = replicate (min places 4096) 4294967295
 -- the call of a name with its numbers
 abbrev pub callOf : CallName → List ℕ → Asked
 callOf Open ns = opening (settings (getD ns 0 0) (getD ns 1 0))
-callOf Order ns = call (order (getD ns 0 0) (getD ns 1 0) (getD ns 2 0))
+callOf Preview ns = call (preview (getD ns 0 0) (getD ns 1 0) (getD ns 2 0))
+callOf Commit ns = call (commit (getD ns 0 0) (getD ns 1 0) (getD ns 2 0) (getD ns 3 0))
 callOf Move ns = call (move (getD ns 0 0) (lentList (getD ns 1 0)))
 callOf Offer ns = call (offer ns)
 callOf Latest ns = call replanLatest

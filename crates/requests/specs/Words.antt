@@ -4,15 +4,17 @@ use mathlib.Core.Bool.{cond}
 use mathlib.Core.List.{List, [], _∷_}
 use Rattle.text.specs.Parts.{sameText}
 use Rattle.requests.specs.declared.word.CallName.{CallName}
-use Rattle.requests.specs.declared.word.CallName.the-variants.{Open, Order, Move, Offer, Latest, Lines, Enquire, Unknown}
+use Rattle.requests.specs.declared.word.CallName.the-variants.{Open, Preview, Commit, Move, Offer, Latest, Lines, Enquire, Unknown}
 
 -- the call that a word names
 abbrev pub named : List ℕ → CallName
 named word =
     -- "open"
     cond (sameText word (111 ∷ 112 ∷ 101 ∷ 110 ∷ [])) Open
-    -- "order"
-    (cond (sameText word (111 ∷ 114 ∷ 100 ∷ 101 ∷ 114 ∷ [])) Order
+    -- "preview"
+    (cond (sameText word (112 ∷ 114 ∷ 101 ∷ 118 ∷ 105 ∷ 101 ∷ 119 ∷ [])) Preview
+    -- "commit"
+    (cond (sameText word (99 ∷ 111 ∷ 109 ∷ 109 ∷ 105 ∷ 116 ∷ [])) Commit
     -- "move"
     (cond (sameText word (109 ∷ 111 ∷ 118 ∷ 101 ∷ [])) Move
     -- "offer"
@@ -23,4 +25,4 @@ named word =
     (cond (sameText word (108 ∷ 105 ∷ 110 ∷ 101 ∷ 115 ∷ [])) Lines
     -- "enquire"
     (cond (sameText word (101 ∷ 110 ∷ 113 ∷ 117 ∷ 105 ∷ 114 ∷ 101 ∷ [])) Enquire
-    Unknown))))))
+    Unknown)))))))

@@ -56,7 +56,8 @@ fn taken(name: CallName) -> Takes
 {
     match name {
         CallName::Open => Takes::Between { least: 2, most: 2 },
-        CallName::Order => Takes::Between { least: 3, most: 3 },
+        CallName::Preview => Takes::Between { least: 3, most: 3 },
+        CallName::Commit => Takes::Between { least: 4, most: 4 },
         CallName::Move => Takes::Between { least: 2, most: 2 },
         CallName::Offer => Takes::Between {
             least: 0,
@@ -113,6 +114,7 @@ fn call_of(name: CallName, numbers: &[u32]) -> Request
     let first = number_at(numbers, 0);
     let second = number_at(numbers, 1);
     let third = number_at(numbers, 2);
+    let fourth = number_at(numbers, 3);
     match name {
         CallName::Open => Request::Open {
             settings: Settings {
@@ -120,11 +122,21 @@ fn call_of(name: CallName, numbers: &[u32]) -> Request
                 percent: second,
             },
         },
-        CallName::Order => Request::Call {
-            call: Call::Order {
+        CallName::Preview => Request::Call {
+            call: Call::Preview {
                 line: first,
                 time: second,
                 due: third,
+            },
+            starts: 0,
+            places: 0,
+        },
+        CallName::Commit => Request::Call {
+            call: Call::Commit {
+                line: first,
+                time: second,
+                due: third,
+                shown: fourth,
             },
             starts: 0,
             places: 0,

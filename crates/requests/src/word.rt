@@ -8,7 +8,8 @@ use text::same_text;
 // The calls by their first word.
 pub enum CallName {
     Open,
-    Order,
+    Preview,
+    Commit,
     Move,
     Offer,
     Latest,
@@ -33,6 +34,7 @@ pub fn call_named(word: &[u8]) -> CallName
     let name = named_or(word, b"latest", CallName::Latest, name);
     let name = named_or(word, b"offer", CallName::Offer, name);
     let name = named_or(word, b"move", CallName::Move, name);
-    let name = named_or(word, b"order", CallName::Order, name);
+    let name = named_or(word, b"commit", CallName::Commit, name);
+    let name = named_or(word, b"preview", CallName::Preview, name);
     named_or(word, b"open", CallName::Open, name)
 }

@@ -6,17 +6,18 @@ use Rattle.rules.specs.Charge.{waitingCharges}
 use Rattle.rules.specs.Search.{earliest, earliestUnder, firstUnbalanced}
 use Rattle.rules.specs.Replan.{byLatestStart, placeAll, latest, round, roundsFrom, byLines}
 use Rattle.rules.specs.Judgement.{judged}
-use Rattle.rules.specs.Calls.{settings, State, refused, ordered, opening, order, run, ordering, moving, offering, replanningLatest, replanningLines, enquiring}
+use Rattle.rules.specs.Calls.{settings, State, refused, committed, opening, preview, commit, run, previewing, committing, moving, offering, replanningLatest, replanningLines, enquiring}
 use Rattle.rules.specs.Entry.{Case, computed, stateAfter}
 use Rattle.rules.specs.CasesAToL.{callsG, casesAToL}
 use Rattle.rules.specs.CasesAtEdges.{casesAtEdges}
 use Rattle.rules.specs.CasesInAHurry.{casesInAHurry}
+use Rattle.rules.specs.CasesPreviewed.{casesPreviewed}
 
 abbrev pub cases : List Case
-cases = casesAToL ++ casesAtEdges ++ casesInAHurry
+cases = casesAToL ++ casesAtEdges ++ casesInAHurry ++ casesPreviewed
 
 pub cases-hold : map computed cases ≡ cases
-unfolding limited balanced sound earliest earliestUnder firstUnbalanced placeAll latest round roundsFrom byLines judged opening ordering moving offering replanningLatest replanningLines enquiring
+unfolding limited balanced sound earliest earliestUnder firstUnbalanced placeAll latest round roundsFrom byLines judged opening previewing committing moving offering replanningLatest replanningLines enquiring
 cases-hold = refl
 
 -- the station of case g before its replan
@@ -25,7 +26,7 @@ stateG = let fresh : State = opening (settings 2 50) .state in stateAfter fresh 
 
 -- case g: "ticket 7 goes first"
 pub ticket-7-first : map (λ c. c .ticket) (byLatestStart (waitingCharges (stateG .clock) (stateG .charges))) ≡ 7 ∷ 5 ∷ []
-unfolding limited balanced sound earliest opening ordering moving
+unfolding limited balanced sound earliest opening previewing committing moving
 ticket-7-first = refl
 
 -- "65,535 tickets given" would take as many orders to compute, so the station that has one ticket left is written down
@@ -33,6 +34,7 @@ abbrev lastTicket : State
 lastTicket = record { limit = 1; percent = 100; bound = 1; clock = 0; next = 65535; charges = [] }
 
 pub last-ticket-given :
-    map (λ r. r .answer) (run lastTicket (order 1 1 60 ∷ order 1 1 60 ∷ [])) ≡ ordered 65535 0 ∷ refused 14 ∷ []
-unfolding limited balanced sound earliest ordering
+    map (λ r. r .answer) (run lastTicket (commit 1 1 60 0 ∷ preview 1 1 60 ∷ commit 1 1 60 9 ∷ []))
+    ≡ committed 65535 0 ∷ refused 14 ∷ refused 14 ∷ []
+unfolding limited balanced sound earliest committing
 last-ticket-given = refl

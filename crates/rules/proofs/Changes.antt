@@ -1,4 +1,4 @@
--- What an order and a clock move leave is a valid station again.
+-- What a commit and a clock move leave is a valid station again.
 use mathlib.Core.Path.{_≡_}
 use Prim.Native.Nat.{ℕ, suc, _+_, _-_, _*_, _≤_, _<_}
 use mathlib.Core.Bool.{true, not}
@@ -7,10 +7,9 @@ use native.Mathlib.Omega.{arith}
 use lib.ListN.{length, length-append}
 use borrow.Author.Tests.{leb-false, not-true}
 use Rattle.rules.specs.Basics.{Each, at}
-use Rattle.rules.specs.Load.{draw, counts, lastUntil, sound}
+use Rattle.rules.specs.Load.{counts, lastUntil, sound}
 use Rattle.rules.specs.Charge.{Charge, endOf, loadOf, loadsOf, isFinished, unfinishedCharges, lastEnd}
-use Rattle.rules.specs.Search.{earliest}
-use Rattle.rules.specs.Calls.{places, State, limitsOf, holding, newCharge, taking}
+use Rattle.rules.specs.Calls.{places, State, limitsOf, holding, newCharge, drawFor, startFor, taking}
 use Rattle.rules.specs.Valid.{ValidCharge, Rising, ValidState}
 use Rattle.rules.proofs.Lists.{map-append, each-map, each-append, each-keep, length-keep}
 use Rattle.rules.proofs.Counts.{sound-same, sound-from, sound-true}
@@ -71,15 +70,15 @@ valid-later clock later next more c h j unfinished v =
       unfinished = unfinished;
     }
 
-pub order-valid :
+pub commit-valid :
     (s : State) (line p d start : ℕ)
     → ValidState s
     → OrderGranted s line p d
-    → earliest (limitsOf s) (s .clock) (loadsOf (s .charges)) (draw line p) ≡ at start
+    → startFor s (drawFor s line p) ≡ at start
     → ValidState (taking s (newCharge s line p d start))
-order-valid s line p d start v g f =
+commit-valid s line p d start v g f =
     let new : Charge = newCharge s line p d start in
-    let r = earliest-first (limitsOf s) (s .clock) (loadsOf (s .charges)) (draw line p) start f in
+    let r = earliest-first (limitsOf s) (s .clock) (loadsOf (s .charges)) (drawFor s line p) start f in
     let low : s .clock ≤ start = r .low in
     let high : start < s .clock + suc (lastUntil (loadsOf (s .charges)) - s .clock) = r .high in
     still-valid s (s .clock) (suc (s .next)) (taking s new .charges) v (v .clock-high) (omega arith) (omega (arith, g .ticket-left))

@@ -1,23 +1,25 @@
 -- What holds of a call to which no refusal applies, read by name.
-use mathlib.Core.Path.{_≡_}
-use Prim.Native.Nat.{ℕ, _+_, _*_, _≤_, _<_}
-use mathlib.Core.Bool.{true}
-use mathlib.Core.List.{List}
+use mathlib.Core.Path.{_≡_, refl, sym, ap}
+use Prim.Native.Nat.{ℕ, _*_, _≤_, _<_}
+use mathlib.Core.Bool.{true, false, not, true≢false}
+use mathlib.Core.List.{List, [], _∷_}
 use native.Mathlib.Omega.{arith}
 use lib.Dec.{ltb, eqb}
 use lib.ListN.{length}
-use borrow.Author.Tests.{ltb-false, leb-false, not-false, eqb-true}
-use Rattle.rules.specs.Basics.{firstOf, some}
+use borrow.Author.Tests.{ltb-false, leb-false, not-false, eqb-true, eq-eqb}
+use Rattle.rules.specs.Basics.{Found, at, nothing, firstOf, some}
 use Rattle.rules.specs.Load.{IsLine}
 use Rattle.rules.specs.Charge.{Charge, waitingCharges}
-use Rattle.rules.specs.Calls.{Settings, State, openRefusals, Call, order, move, offer, replanLatest, replanLines, enquire, refusals}
+use Rattle.rules.specs.Calls.{Settings, State, openRefusals, Call, preview, commit, move, offer, replanLatest, replanLines, enquire, drawFor, startFor, isStart, orderRefusals, refusals}
 use Rattle.rules.proofs.Ranges.{or-left, or-right}
-use Rattle.rules.proofs.Tables.{NoneHolds, Numbered, firstOf-none}
+use Rattle.rules.proofs.Lists.{each-append}
+use Rattle.rules.proofs.Tables.{NoneHolds, Numbered, firstOf-none, none-front}
 
 -- No number of a table is 0, so number 0 says that no condition holds.
 
 pub refusals-numbered : (s : State) (c : Call) → Numbered (refusals s c)
-refusals-numbered s (order line p d) = omega arith
+refusals-numbered s (preview line p d) = omega arith
+refusals-numbered s (commit line p d shown) = omega arith
 refusals-numbered s (move target list) = omega arith
 refusals-numbered s (offer ss) = omega arith
 refusals-numbered s replanLatest = tt
@@ -57,7 +59,7 @@ pub record OrderGranted (s : State) (line p d : ℕ) : Type 0 where
   pub room : length (s .charges) < 180
   pub ticket-left : s .next ≤ 65535
 
-pub order-granted : (s : State) (line p d : ℕ) → NoneHolds (refusals s (order line p d)) → OrderGranted s line p d
+pub order-granted : (s : State) (line p d : ℕ) → NoneHolds (orderRefusals s line p d) → OrderGranted s line p d
 order-granted s line p d (on, (time, (due, (full, (given, end))))) =
     record {
       is-line =
@@ -71,6 +73,36 @@ order-granted s line p d (on, (time, (due, (full, (given, end))))) =
       room = leb-false 180 (length (s .charges)) full;
       ticket-left = ltb-false 65535 (s .next) given;
     }
+
+-- a start that is shown, and the one found
+
+start-shown : (f : Found) (shown : ℕ) → isStart f shown ≡ true → f ≡ at shown
+start-shown (at start) shown e = ap at (eqb-true start shown e)
+start-shown nothing shown e = absurd (true≢false (sym e))
+
+shown-start : (f : Found) (shown : ℕ) → f ≡ at shown → isStart f shown ≡ true
+shown-start f shown e = rw (e, eq-eqb shown shown refl)
+
+-- a commit meets no refusal exactly where its order meets none and the start shown is the earliest
+
+pub commit-granted :
+    (s : State) (line p d shown : ℕ)
+    → NoneHolds (refusals s (commit line p d shown))
+    → NoneHolds (orderRefusals s line p d) × (startFor s (drawFor s line p) ≡ at shown)
+commit-granted s line p d shown e =
+    let found : Found = startFor s (drawFor s line p) in
+    let r = none-front (orderRefusals s line p d) ((not (isStart found shown), 16) ∷ []) e in
+    (r .0, start-shown found shown (not-false (isStart found shown) (r .1 .0)))
+
+pub granted-commit :
+    (s : State) (line p d shown : ℕ)
+    → NoneHolds (orderRefusals s line p d)
+    → startFor s (drawFor s line p) ≡ at shown
+    → NoneHolds (refusals s (commit line p d shown))
+granted-commit s line p d shown e f =
+    let found : Found = startFor s (drawFor s line p) in
+    each-append (λ row. row .0 ≡ false) (orderRefusals s line p d) ((not (isStart found shown), 16) ∷ []) e
+    (rw (shown-start found shown f), tt)
 
 pub record MoveGranted (s : State) (target : ℕ) (list : List ℕ) : Type 0 where
   pub target-high : target ≤ 1000000

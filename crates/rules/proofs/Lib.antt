@@ -17,4 +17,5 @@ pub mod Ends
 pub mod Changes
 pub mod Restarts
 pub mod Validity
+pub mod Shown
 pub mod Earlier

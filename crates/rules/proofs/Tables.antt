@@ -1,6 +1,6 @@
 -- An ordered table of conditions: the first that holds.
 use mathlib.Core.Path.{_≡_, refl}
-use Prim.Native.Nat.{ℕ, _≤_}
+use Prim.Native.Nat.{ℕ, suc, _≤_}
 use mathlib.Core.Bool.{Bool, true, false, cond}
 use mathlib.Core.List.{List, [], _∷_, _++_}
 use native.Mathlib.Omega.{arith}
@@ -30,6 +30,28 @@ firstOf-none (row ∷ rows) p e = go (row .0) refl e (firstOf-none rows (p .1))
 pub none-firstOf : (rows : List (Bool × ℕ)) → NoneHolds rows → firstOf rows ≡ 0
 none-firstOf [] e = refl
 none-firstOf (row ∷ rows) e = rw (e .0, none-firstOf rows (e .1))
+
+-- A table that goes on with more rows
+
+pub none-front : (rows more : List (Bool × ℕ)) → NoneHolds (rows ++ more) → NoneHolds rows × NoneHolds more
+none-front [] more e = (tt, e)
+none-front (row ∷ rows) more e = let r = none-front rows more (e .1) in ((e .0, r .0), r .1)
+
+pub firstOf-more : (rows more : List (Bool × ℕ)) → NoneHolds rows → firstOf (rows ++ more) ≡ firstOf more
+firstOf-more [] more e = refl
+firstOf-more (row ∷ rows) more e = rw (e .0, firstOf-more rows more (e .1))
+
+pub firstOf-front : (rows more : List (Bool × ℕ)) (k : ℕ) → firstOf rows ≡ suc k → firstOf (rows ++ more) ≡ suc k
+firstOf-front [] more k e = absurd (omega arith)
+firstOf-front (row ∷ rows) more k e = go (row .0) e (firstOf-front rows more k)
+  where
+    go :
+        (b : Bool)
+        → cond b (row .1) (firstOf rows) ≡ suc k
+        → (firstOf rows ≡ suc k → firstOf (rows ++ more) ≡ suc k)
+        → cond b (row .1) (firstOf (rows ++ more)) ≡ suc k
+    go true u later = u
+    go false u later = later u
 
 -- a row whose number is not given can be left out
 pub row-left-out :

@@ -4,18 +4,17 @@ use Prim.Native.Nat.{ℕ, zero, suc}
 use mathlib.Core.List.{List, []}
 use native.Mathlib.Omega.{arith}
 use Rattle.rules.specs.Basics.{Found, at, nothing, firstOf}
-use Rattle.rules.specs.Load.{draw, sound}
+use Rattle.rules.specs.Load.{sound}
 use Rattle.rules.specs.Charge.{loadsOf}
-use Rattle.rules.specs.Search.{earliest}
 use Rattle.rules.specs.Replan.{Proposal, starts, none, latest, byLines}
 use Rattle.rules.specs.Judgement.{judged}
-use Rattle.rules.specs.Calls.{Settings, settings, State, limitsOf, Result, answering, opened, fresh, boundOf, openRefusals, opening, Call, order, move, offer, replanLatest, replanLines, enquire, refusals, newCharge, orderedAt, ordering, moving, decided, tested, offering, replanningLatest, replanningLines, enquiring, step}
+use Rattle.rules.specs.Calls.{Settings, settings, State, limitsOf, Result, answering, opened, fresh, boundOf, openRefusals, opening, Call, preview, commit, move, offer, replanLatest, replanLines, enquire, drawFor, startFor, refusals, previewedAt, previewing, committing, moving, decided, tested, offering, replanningLatest, replanningLines, enquiring, step}
 use Rattle.rules.specs.Valid.{ValidState}
 use Rattle.rules.proofs.Tables.{firstOf-none}
-use Rattle.rules.proofs.Granted.{refusals-none, openRefusals-numbered, OpenGranted, open-granted, order-granted, move-granted}
+use Rattle.rules.proofs.Granted.{refusals-none, openRefusals-numbered, OpenGranted, open-granted, order-granted, commit-granted, move-granted}
 use Rattle.rules.proofs.Searches.{earliest-found}
 use Rattle.rules.proofs.Judgements.{judged-meets}
-use Rattle.rules.proofs.Changes.{order-valid, move-valid}
+use Rattle.rules.proofs.Changes.{commit-valid, move-valid}
 use Rattle.rules.proofs.Restarts.{plan-valid}
 
 -- The opening
@@ -74,19 +73,18 @@ tested-valid s rounds (starts ss) list v = go (judged (limitsOf s) (s .clock) (s
 tested-valid s rounds (none cause) list v = v
 
 pub step-valid : (s : State) (c : Call) → ValidState s → ValidState (step s c .state)
-unfolding ordering moving offering replanningLatest replanningLines enquiring
-step-valid s (order line p d) v =
-    answering-valid (firstOf (refusals s (order line p d))) s [] _ v
-    (λ e. go e (earliest (limitsOf s) (s .clock) (loadsOf (s .charges)) (draw line p)) refl)
+unfolding previewing committing moving offering replanningLatest replanningLines enquiring
+step-valid s (preview line p d) v =
+    answering-valid (firstOf (refusals s (preview line p d))) s [] _ v (λ e. go (startFor s (drawFor s line p)))
   where
-    go :
-        firstOf (refusals s (order line p d)) ≡ 0
-        → (f : Found)
-        → earliest (limitsOf s) (s .clock) (loadsOf (s .charges)) (draw line p) ≡ f
-        → ValidState (orderedAt s (newCharge s line p d) f .state)
-    go e (at start) f =
-        order-valid s line p d start v (order-granted s line p d (refusals-none s (order line p d) e)) f
-    go e nothing f = v
+    go : (f : Found) → ValidState (previewedAt s f .state)
+    go (at start) = v
+    go nothing = v
+step-valid s (commit line p d shown) v =
+    answering-valid (firstOf (refusals s (commit line p d shown))) s [] _ v
+    (λ e.
+    let g = commit-granted s line p d shown (refusals-none s (commit line p d shown) e) in
+    commit-valid s line p d shown v (order-granted s line p d (g .0)) (g .1))
 step-valid s (move target list) v =
     answering-valid (firstOf (refusals s (move target list))) s list _ v
     (λ e.
@@ -103,9 +101,6 @@ step-valid s (enquire ticket) v =
     answering-valid (firstOf (refusals s (enquire ticket))) s [] _ v (λ e. v)
 
 -- an order on a valid station gets a start
-pub order-found :
-    (s : State) (line p : ℕ)
-    → ValidState s
-    → (start : ℕ) × (earliest (limitsOf s) (s .clock) (loadsOf (s .charges)) (draw line p) ≡ at start)
+pub order-found : (s : State) (line p : ℕ) → ValidState s → (start : ℕ) × (startFor s (drawFor s line p) ≡ at start)
 order-found s line p v =
-    earliest-found (limitsOf s) (s .clock) (loadsOf (s .charges)) (draw line p) (v .limit-low) (v .bound-low) (v .sound-on)
+    earliest-found (limitsOf s) (s .clock) (loadsOf (s .charges)) (drawFor s line p) (v .limit-low) (v .bound-low) (v .sound-on)

@@ -1,11 +1,11 @@
 -- The station, its calls, their refusals and answers (docs/RULES.md, sections 2 and 3).
-use Prim.Native.Nat.{ℕ, zero, suc, _+_, _-_, _*_, _/_}
-use mathlib.Core.Bool.{Bool, cond, not, _&&_, _||_}
+use Prim.Native.Nat.{ℕ, zero, suc, _-_, _*_, _/_}
+use mathlib.Core.Bool.{Bool, false, cond, not, _&&_, _||_}
 use mathlib.Core.List.{List, [], _∷_, _++_}
 use lib.Dec.{ltb, leb, eqb}
 use lib.ListN.{length, drop}
 use Rattle.rules.specs.Basics.{Found, at, nothing, firstOf, keep, some, sortedBy}
-use Rattle.rules.specs.Load.{Limits, limits}
+use Rattle.rules.specs.Load.{Draw, Limits, limits}
 use Rattle.rules.specs.Charge.{Charge, endOf, drawOf, loadsOf, isBegun, waitingCharges, unfinishedCharges, thenTicket, lateness}
 use Rattle.rules.specs.Search.{earliest}
 use Rattle.rules.specs.Replan.{Proposal, starts, none, latest, Replanned, byLines}
@@ -39,8 +39,10 @@ pub data Answer : Type 0 where
   refused : ℕ → Answer
   -- an opening: the bound D
   opened : ℕ → Answer
-  -- an order: "ticket and start"
-  ordered : ℕ → ℕ → Answer
+  -- a preview: "the start it would give"
+  previewed : ℕ → Answer
+  -- a commit: "ticket and start"
+  committed : ℕ → ℕ → Answer
   -- a clock move: "how many were reported, how many dropped"
   moved : ℕ → ℕ → Answer
   -- an offer or a replan: "cause, lateness before and after (equal when kept), rounds used"
@@ -105,7 +107,9 @@ opening x =
 -- The calls of a station that stands.
 pub data Call : Type 0 where
   -- line, p, d
-  order : ℕ → ℕ → ℕ → Call
+  preview : ℕ → ℕ → ℕ → Call
+  -- line, p, d, the start shown
+  commit : ℕ → ℕ → ℕ → ℕ → Call
   -- target, report list
   move : ℕ → List ℕ → Call
   -- starts
@@ -118,16 +122,39 @@ pub data Call : Type 0 where
 
 -- the list that is lent to a call
 abbrev pub lent : Call → List ℕ
-lent (order line p d) = []
+lent (preview line p d) = []
+lent (commit line p d shown) = []
 lent (move target list) = list
 lent (offer ss) = ss
 lent replanLatest = []
 lent (replanLines allowance) = []
 lent (enquire ticket) = []
 
--- Refusals 4 to 15, "where several apply, the lowest number". "Refusal 7 ends": no other condition gets this number.
-abbrev pub refusals : State → Call → List (Bool × ℕ)
-refusals s (order line p d) =
+-- An order, previewed or committed
+
+-- "The order minute is the clock."
+abbrev pub newCharge : State → ℕ → ℕ → ℕ → ℕ → Charge
+newCharge s line p d start =
+    record { ticket = s .next; line = line; orderMinute = s .clock; time = p; due = d; start = start }
+
+-- what an order draws, whenever it is due and wherever it starts
+abbrev pub drawFor : State → ℕ → ℕ → Draw
+drawFor s line p = drawOf (newCharge s line p 0 0)
+
+-- "The start is the smallest s not below the clock with which the held plan and this charge are sound together."
+abbrev pub startFor : State → Draw → Found
+startFor s a = earliest (limitsOf s) (s .clock) (loadsOf (s .charges)) a
+
+-- whether the start shown is the one found
+abbrev pub isStart : Found → ℕ → Bool
+isStart (at start) shown = eqb start shown
+isStart nothing shown = false
+
+-- Refusals
+
+-- "Both meet the order's refusals". "Refusal 7 ends": no other condition gets this number.
+abbrev pub orderRefusals : State → ℕ → ℕ → ℕ → List (Bool × ℕ)
+orderRefusals s line p d =
     -- "line not 1 to 3"
     (ltb line 1 || ltb 3 line, 4)
     -- "p not 1 to 1,440"
@@ -139,6 +166,14 @@ refusals s (order line p d) =
     -- "65,535 tickets given"
     ∷ (ltb 65535 (s .next), 14)
     ∷ []
+
+-- "Where several apply": the first of the call's table, for a refusal's "stated place goes before its number".
+abbrev pub refusals : State → Call → List (Bool × ℕ)
+refusals s (preview line p d) = orderRefusals s line p d
+refusals s (commit line p d shown) =
+    orderRefusals s line p d
+    -- "after 14, commit whose shown start is not the earliest start at that moment"
+    ++ ((not (isStart (startFor s (drawFor s line p)) shown), 16) ∷ [])
 refusals s (move target list) =
     -- "target above 1,000,000"
     (ltb 1000000 target, 8)
@@ -158,12 +193,18 @@ refusals s (enquire ticket) =
     -- "no held charge has this ticket"
     (not (some (λ c. eqb (c .ticket) ticket) (s .charges)), 15) ∷ []
 
--- Order
+-- Preview
 
--- "The order minute is the clock."
-abbrev pub newCharge : State → ℕ → ℕ → ℕ → ℕ → Charge
-newCharge s line p d start =
-    record { ticket = s .next; line = line; orderMinute = s .clock; time = p; due = d; start = start }
+-- "a preview that answers the start it would give and changes nothing". A sound plan always leaves a start (`earliest-found`),
+-- so `nothing` is never met.
+abbrev pub previewedAt : State → Found → Result
+previewedAt s (at start) = record { answer = previewed start; state = s; list = [] }
+previewedAt s nothing = record { answer = refused 0; state = s; list = [] }
+
+unfoldable pub previewing : State → ℕ → ℕ → ℕ → Result
+previewing s line p d = previewedAt s (startFor s (drawFor s line p))
+
+-- Commit
 
 -- "No other start moves. .. Tickets rise by one."
 abbrev pub taking : State → Charge → State
@@ -177,15 +218,10 @@ taking s c =
       charges = s .charges ++ (c ∷ []);
     }
 
--- "Answer: ticket and start." A sound plan always leaves a start (`earliest-found`), so `nothing` is never met.
-abbrev pub orderedAt : State → (ℕ → Charge) → Found → Result
-orderedAt s c (at start) = record { answer = ordered (s .next) start; state = taking s (c start); list = [] }
-orderedAt s c nothing = record { answer = refused 0; state = s; list = [] }
-
-unfoldable pub ordering : State → ℕ → ℕ → ℕ → Result
-ordering s line p d =
-    orderedAt s (newCharge s line p d)
-    (earliest (limitsOf s) (s .clock) (loadsOf (s .charges)) (drawOf (newCharge s line p d 0)))
+-- "The commit gives a ticket and exactly that start."
+unfoldable pub committing : State → ℕ → ℕ → ℕ → ℕ → Result
+committing s line p d shown =
+    record { answer = committed (s .next) shown; state = taking s (newCharge s line p d shown); list = [] }
 
 -- Move the clock
 
@@ -272,7 +308,8 @@ enquiring s ticket = record { answer = told (s .clock) (s .charges) ticket; stat
 
 -- what comes of a call that is not refused
 abbrev pub granted : State → Call → Result
-granted s (order line p d) = ordering s line p d
+granted s (preview line p d) = previewing s line p d
+granted s (commit line p d shown) = committing s line p d shown
 granted s (move target list) = moving s target list
 granted s (offer ss) = offering s ss
 granted s replanLatest = replanningLatest s

@@ -1,12 +1,19 @@
--- Cases a to l (docs/RULES.md, section 7), each with the results that stand there.
+-- Cases a to l (docs/RULES.md, section 7), each with the results that stand there: "an order is a commit with the start listed".
 use Prim.Native.Nat.{ℕ}
 use mathlib.Core.List.{List, [], _∷_, _++_, map}
-use Rattle.rules.specs.Calls.{settings, refused, opened, ordered, moved, planned, waiting, charging, Call, order, move, offer, replanLatest, replanLines, enquire}
+use Rattle.rules.specs.Calls.{settings, refused, opened, previewed, committed, moved, planned, waiting, charging, Call, preview, commit, move, offer, replanLatest, replanLines, enquire}
 use Rattle.rules.specs.Entry.{Given, gives, givesWith, Minute, Case, lentList, startsFrom, reports, opens, case}
 
 -- the orders of case e, with what they give
 abbrev ordersE : List Call
-ordersE = order 1 10 60 ∷ order 3 10 60 ∷ order 2 5 60 ∷ order 2 5 60 ∷ order 2 5 20 ∷ order 1 10 60 ∷ []
+ordersE =
+    commit 1 10 60 0
+    ∷ commit 3 10 60 0
+    ∷ commit 2 5 60 0
+    ∷ commit 2 5 60 0
+    ∷ commit 2 5 20 5
+    ∷ commit 1 10 60 0
+    ∷ []
 
 abbrev givenE : List Given
 givenE = startsFrom 1 (0 ∷ 0 ∷ 0 ∷ 0 ∷ 5 ∷ 0 ∷ [])
@@ -17,14 +24,14 @@ givenF = reports (moved 5 0) (1 ∷ 0 ∷ 2 ∷ 0 ∷ 3 ∷ 0 ∷ 4 ∷ 0 ∷ 6 
 
 -- what is called in case g before the replan
 abbrev pub callsG : List Call
-callsG = ordersE ++ (move 1 lentList ∷ order 3 3 10 ∷ [])
+callsG = ordersE ++ (move 1 lentList ∷ preview 3 3 10 ∷ commit 3 3 10 1 ∷ [])
 
 abbrev minuteG : ℕ → Minute
 minuteG t = record { without = 5; minute = t; one = 2; two = 0; three = 1 }
 
 -- the orders of case h, with what they give
 abbrev pub ordersH : List Call
-ordersH = order 1 10 60 ∷ order 1 10 15 ∷ []
+ordersH = commit 1 10 60 0 ∷ commit 1 10 15 10 ∷ []
 
 abbrev pub givenH : List Given
 givenH = startsFrom 1 (0 ∷ 10 ∷ [])
@@ -46,7 +53,7 @@ casesAToL =
       settings = settings 2 50;
       calls = callsG ++ (replanLatest ∷ []);
       opening = opened 1;
-      given = givenE ++ (givenF ∷ gives (ordered 7 1) ∷ gives (planned 1 0 0 0) ∷ []);
+      given = givenE ++ (givenF ∷ gives (previewed 1) ∷ gives (committed 7 1) ∷ gives (planned 1 0 0 0) ∷ []);
       minutes = map minuteG (5 ∷ 6 ∷ 7 ∷ 8 ∷ 9 ∷ []);
     }
     -- h, by latest start and by lines
@@ -70,10 +77,17 @@ casesAToL =
     ∷ case 1 100 1
     (ordersH ++ (offer (11 ∷ 0 ∷ []) ∷ []))
     (givenH ++ (givesWith (planned 4 5 5 0) (11 ∷ 0 ∷ []) ∷ []))
-    -- k
+    -- k, each order previewed first
     ∷ case 2 50 1
-    (order 1 10 60 ∷ order 1 10 60 ∷ replanLines 2 ∷ replanLines 1 ∷ [])
-    (startsFrom 1 (0 ∷ 10 ∷ []) ++ (gives (planned 7 0 0 2) ∷ gives (planned 2 0 0 1) ∷ []))
+    (preview 1 10 60
+    ∷ commit 1 10 60 0
+    ∷ preview 1 10 60
+    ∷ commit 1 10 60 10
+    ∷ replanLines 2
+    ∷ replanLines 1
+    ∷ [])
+    (map gives
+    (previewed 0 ∷ committed 1 0 ∷ previewed 10 ∷ committed 2 10 ∷ planned 7 0 0 2 ∷ planned 2 0 0 1 ∷ []))
     -- l
     ∷ case 60 100 60
     (replanLatest ∷ replanLines 1 ∷ offer [] ∷ [])

@@ -1,18 +1,18 @@
 -- Cases of N1, drivers in a hurry, each worked out by hand: due minutes that cannot be met, at and below the clock.
 use mathlib.Core.List.{List, [], _∷_, _++_}
-use Rattle.rules.specs.Calls.{moved, planned, Call, order, move, offer, replanLatest, replanLines}
+use Rattle.rules.specs.Calls.{moved, planned, Call, commit, move, offer, replanLatest, replanLines}
 use Rattle.rules.specs.Entry.{givesWith, Case, lentList, startsFrom, reports, case, replanned}
 
 -- d − p is 4, −3, 0 and −10, so that the tickets go 4, 2, 3, 1: starts 0, 12, 16, 26. Held are starts 0, 20, 24, 34 with
 -- ends 20, 24, 34, 46: lateness 0 + 23 + 24 + 44. Then the ends are 12, 16, 26, 46: lateness 10 + 15 + 16 + 22.
 -- Cut off at zero the tickets would go 2, 3, 4, 1; with the negative ones last 3, 1, 4, 2; by d alone 2, 4, 3, 1.
 abbrev belowZero : List Call
-belowZero = order 1 20 24 ∷ order 1 4 1 ∷ order 1 10 10 ∷ order 1 12 2 ∷ []
+belowZero = commit 1 20 24 0 ∷ commit 1 4 1 20 ∷ commit 1 10 10 24 ∷ commit 1 12 2 34 ∷ []
 
 -- d − p is 50, −5 and −5: ticket 2 goes before ticket 3, and starts 10, 15 become 0, 5. Lateness was 0 + 15 + 20, and is
 -- 0 + 5 + 10. With ticket 3 first it would be 15 + 5.
 abbrev equalBelowZero : List Call
-equalBelowZero = order 1 10 60 ∷ order 1 5 0 ∷ order 1 10 5 ∷ []
+equalBelowZero = commit 1 10 60 0 ∷ commit 1 5 0 10 ∷ commit 1 10 5 15 ∷ []
 
 abbrev pub casesInAHurry : List Case
 casesInAHurry =
@@ -22,12 +22,22 @@ casesInAHurry =
     ∷ replanned equalBelowZero (replanLines 1) (0 ∷ 10 ∷ 15 ∷ []) (planned 0 35 15 1) (15 ∷ 0 ∷ 5 ∷ [])
     -- At clock 3 a charge of 10 minutes ends at 13 or later: due minutes 12, 3, 2 and 0 are taken like 13.
     ∷ case 1 100 1
-    (move 3 lentList ∷ order 1 10 13 ∷ order 1 10 12 ∷ order 1 10 3 ∷ order 1 10 2 ∷ order 1 10 0 ∷ [])
+    (move 3 lentList
+    ∷ commit 1 10 13 3
+    ∷ commit 1 10 12 13
+    ∷ commit 1 10 3 23
+    ∷ commit 1 10 2 33
+    ∷ commit 1 10 0 43
+    ∷ [])
     (reports (moved 0 0) [] ∷ startsFrom 1 (3 ∷ 13 ∷ 23 ∷ 33 ∷ 43 ∷ []))
     -- A due minute of 0 at the last clock. Ticket 1 is in time; ticket 2 ends at 1,000,020 and is late by as much. With
     -- their starts exchanged it ends at 1,000,010. From clock + p on it would be late by 10, and then by nothing.
     ∷ case 1 100 1
-    (move 1000000 lentList ∷ order 1 10 2000000 ∷ order 1 10 0 ∷ offer (1000010 ∷ 1000000 ∷ []) ∷ [])
+    (move 1000000 lentList
+    ∷ commit 1 10 2000000 1000000
+    ∷ commit 1 10 0 1000010
+    ∷ offer (1000010 ∷ 1000000 ∷ [])
+    ∷ [])
     (reports (moved 0 0) []
     ∷ startsFrom 1 (1000000 ∷ 1000010 ∷ [])
     ++ (givesWith (planned 0 1000020 1000010 0) (1000010 ∷ 1000000 ∷ []) ∷ []))

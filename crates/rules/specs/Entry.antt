@@ -7,7 +7,7 @@ use lib.ListN.{length, replicate}
 use Rattle.rules.specs.Basics.{keep}
 use Rattle.rules.specs.Load.{count}
 use Rattle.rules.specs.Charge.{Charge, loadsOf}
-use Rattle.rules.specs.Calls.{Settings, settings, State, Answer, opened, ordered, waiting, Result, opening, Call, enquire, run}
+use Rattle.rules.specs.Calls.{Settings, settings, State, Answer, opened, committed, waiting, Result, opening, Call, enquire, run}
 
 -- what a call gave: the answer, and the lent list whole
 pub record Given : Type 0 where
@@ -72,10 +72,10 @@ computed e =
 abbrev pub lentList : List ℕ
 lentList = replicate 360 7
 
--- the answers of orders that get these starts, with tickets from k on
+-- the answers of commits with these starts, with tickets from k on
 abbrev pub startsFrom : ℕ → List ℕ → List Given
 startsFrom k [] = []
-startsFrom k (s ∷ ss) = gives (ordered k s) ∷ startsFrom (suc k) ss
+startsFrom k (s ∷ ss) = gives (committed k s) ∷ startsFrom (suc k) ss
 
 -- a clock move that writes xs to that list: "Places after them keep what they held."
 abbrev pub reports : Answer → List ℕ → Given

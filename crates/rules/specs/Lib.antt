@@ -5,8 +5,10 @@ pub mod Search
 pub mod Replan
 pub mod Judgement
 pub mod Calls
+pub mod Earlier
 pub mod Valid
 pub mod Entry
 pub mod CasesAToL
 pub mod CasesAtEdges
 pub mod CasesInAHurry
+pub mod CasesPreviewed

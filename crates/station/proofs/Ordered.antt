@@ -1,18 +1,16 @@
--- An order: what is known of one that is not refused, and that its result is that of the rules.
-use mathlib.Core.Path.{_≡_, ap, sym, _∙_}
-use Prim.Native.Nat.{ℕ, _+_, _≤_, _<_}
-use mathlib.Core.List.{List, [], _∷_, _++_}
+-- An order: what is known of one that is not refused, and that what a preview and a commit give is what the rules give.
+use mathlib.Core.Path.{_≡_, refl, ap, sym, _∙_}
+use Prim.Native.Nat.{ℕ, zero, suc, _+_, _≤_, _<_}
+use mathlib.Core.List.{[], _∷_, _++_}
 use native.Mathlib.Omega.{arith}
 use native.Mathlib.Numerals.{add-one}
-use lib.Dec.{ltb}
-use lib.ListN.{length}
-use borrow.Author.Tests.{ltb-false, leb-false}
-use Rattle.rules.specs.Basics.{at, nothing, firstOf}
-use Rattle.rules.specs.Load.{draw, lastUntil, limits}
+use Rattle.rules.specs.Basics.{Found, at, nothing, firstOf}
+use Rattle.rules.specs.Load.{lastUntil}
 use Rattle.rules.specs.Charge.{loadsOf, begunCharges}
-use Rattle.rules.specs.Search.{earliest}
-use Rattle.rules.specs.Calls.{refused, ordered, limitsOf, refusals, newCharge, orderedAt, ordering, order, step}
-use Rattle.rules.proofs.Granted.{refusals-none, order-granted}
+use Rattle.rules.specs.Calls.{Answer, refused, committed, Result, answering, preview, commit, drawFor, startFor, orderRefusals, previewedAt, previewing, committing, step}
+use Rattle.rules.proofs.Tables.{NoneHolds}
+use Rattle.rules.proofs.Granted.{order-granted}
+use Rattle.rules.proofs.Shown.{preview-shown, commit-taken}
 use Rattle.rules.proofs.Lists.{length-tabulate}
 use Rattle.rules.proofs.Ends.{last-until}
 use Rattle.charges.specs.declared.Charges.{Charges}
@@ -24,38 +22,40 @@ use Rattle.search.proofs.Starts.{can-start}
 use Rattle.planner.specs.Ready.{EndsFit}
 use Rattle.planner.proofs.Showing.{length-loads-of, listed-ends, all-before}
 use Rattle.station.specs.declared.Station.{Station}
+use Rattle.station.specs.declared.order.PreviewAnswer.{PreviewAnswer}
+use Rattle.station.specs.declared.order.PreviewAnswer.the-variants.{Previewed}
 use Rattle.station.specs.View.{view, Valid}
-use Rattle.station.specs.Answers.{giving}
-use Rattle.station.proofs.Refusing.{call-granted}
+use Rattle.station.specs.Answers.{giving, previewAnswer}
+use Rattle.station.proofs.Refusing.{call-refused, call-granted}
 use Rattle.station.proofs.Listing.{valid-listed}
 
 -- what `profile_before` asks
 pub ends-fit : (s : Station) → Valid s → EndsFit (s .charges)
 ends-fit s v = listed-ends (valid-listed s v)
 
--- every start is below what `order` passes, so that all held charges are in the profile
+-- every start is below what `start_for` passes, so that all held charges are in the profile
 pub all-shown :
-    (s : Station) (p : Profile)
+    (s : Station) (p : Profile) (clock : ℕ)
     → Valid s
-    → Shows p (s .clock) (loadsOf (begunCharges 4294967295 (chargesOf (s .charges))))
-    → Shows p (s .clock) (loadsOf (chargesOf (s .charges)))
-all-shown s p v h =
+    → Shows p clock (loadsOf (begunCharges 4294967295 (chargesOf (s .charges))))
+    → Shows p clock (loadsOf (chargesOf (s .charges)))
+all-shown s p clock v h =
     rw (all-before (s .charges) 4294967295 (λ i low. omega (arith, valid-listed s v .small i low .start-most))) at h
 
 last-held : (s : Station) → Valid s → lastUntil (loadsOf (chargesOf (s .charges))) ≤ 100000000
 last-held s v =
     omega (arith, last-until (chargesOf (s .charges)), v .state .ends-high, v .state .clock-high, v .state .next-high)
 
--- what neither of refusals 4 to 14 turns away, read off the arrays
+-- what none of refusals 4 to 14 turns away, read off the arrays
 pub record Orderable (s : Station) (line time due : ℕ) : Type 0 where
   pub time-most : time ≤ 1440
   pub room : s .charges .held < 180
   pub tickets-left : s .next ≤ 65535
 
 pub orderable :
-    (s : Station) (line time due : ℕ) → firstOf (refusals (view s) (order line time due)) ≡ 0 → Orderable s line time due
+    (s : Station) (line time due : ℕ) → NoneHolds (orderRefusals (view s) line time due) → Orderable s line time due
 orderable s line time due e =
-    let g = order-granted (view s) line time due (refusals-none (view s) (order line time due) e) in
+    let g = order-granted (view s) line time due e in
     record {
       time-most = g .time-high;
       room = omega (arith, g .room, length-tabulate (chargeAt (s .charges)) (s .charges .held) 0);
@@ -63,8 +63,13 @@ orderable s line time due e =
     }
 
 pub can-search :
-    (s : Station) (p : Profile) (time : ℕ) → Valid s → Shows p (s .clock) (loadsOf (chargesOf (s .charges))) → time ≤ 1440 → CanStart p time
-can-search s p time v shows h =
+    (s : Station) (p : Profile) (clock time : ℕ)
+    → Valid s
+    → Shows p clock (loadsOf (chargesOf (s .charges)))
+    → clock ≤ 1000000
+    → time ≤ 1440
+    → CanStart p time
+can-search s p clock time v shows h k =
     can-start shows time
     (omega (
       arith,
@@ -72,10 +77,56 @@ can-search s p time v shows h =
       length-tabulate (chargeAt (s .charges)) (s .charges .held) 0,
       v .columns .few,
     ))
-    (omega (arith, last-held s v, v .state .clock-high))
+    (omega (arith, last-held s v))
 
-abbrev pub orderedStation : Station → Charges → Station
-orderedStation s c =
+-- What is answered
+
+module _ (s : Station) (line time due : ℕ) where
+  pub shown-refused :
+      (k : ℕ)
+      → k ≡ firstOf (orderRefusals (view s) line time due)
+      → 0 < k
+      → refused k ≡ step (view s) (preview line time due) .answer
+  shown-refused k e h = ap (λ (r : Result). r .answer) (call-refused s (preview line time due) k e h)
+
+  pub shown-found :
+      (k : ℕ) (f : Found)
+      → k ≡ firstOf (orderRefusals (view s) line time due)
+      → k ≡ 0
+      → startFor (view s) (drawFor (view s) line time) ≡ f
+      → previewedAt (view s) f .answer ≡ step (view s) (preview line time due) .answer
+  unfolding previewing
+  shown-found k f e z q =
+      sym (ap (λ (r : Result). r .answer) (call-granted s (preview line time due) k e z ∙ ap (previewedAt (view s)) q))
+
+-- what the start that was found says of the order
+pub found-granted :
+    (s : Station) (line time due start : ℕ) (a : PreviewAnswer)
+    → a ≡ Previewed start
+    → previewAnswer a ≡ step (view s) (preview line time due) .answer
+    → NoneHolds (orderRefusals (view s) line time due) × (startFor (view s) (drawFor (view s) line time) ≡ at start)
+found-granted s line time due start a e h = preview-shown (view s) line time due start (sym (ap previewAnswer e) ∙ h)
+
+-- a preview leaves the station, whatever it answers
+pub preview-stays :
+    (s : Station) (line time due : ℕ) (a : Answer)
+    → a ≡ step (view s) (preview line time due) .answer
+    → giving a s [] ≡ step (view s) (preview line time due)
+unfolding previewing
+preview-stays s line time due a e =
+    rw e (go (firstOf (orderRefusals (view s) line time due)) (startFor (view s) (drawFor (view s) line time)))
+  where
+    go :
+        (i : ℕ) (f : Found)
+        → giving (answering i (view s) [] (previewedAt (view s) f) .answer) s []
+        ≡ answering i (view s) [] (previewedAt (view s) f)
+    go zero (at start) = refl
+    go zero nothing = refl
+    go (suc i) f = refl
+
+-- the station with one more charge
+abbrev pub committedStation : Station → Charges → Station
+committedStation s c =
     record {
       limit = s .limit;
       percent = s .percent;
@@ -85,26 +136,13 @@ orderedStation s c =
       charges = c;
     }
 
-module _ (s : Station) (line time due k : ℕ) (e : k ≡ firstOf (refusals (view s) (order line time due))) (z : k ≡ 0) where
-  pub call-ordered :
-      (start : ℕ) (c : Charges)
-      → earliest (limits (s .limit) (s .bound)) (s .clock) (loadsOf (chargesOf (s .charges))) (draw line time) ≡ at start
-      → Holds (chargesOf (s .charges) ++ (charge (s .next) line (s .clock) time due start ∷ [])) c
-      → giving (ordered (s .next) start) (orderedStation s c) [] ≡ step (view s) (order line time due)
-  unfolding ordering
-  call-ordered start c f h =
-      rw (h .charges, add-one (s .next))
-      (sym
-      (call-granted s (order line time due) k e z
-      ∙ ap (orderedAt (view s) (newCharge (view s) line time due))
-      f))
-
-  pub call-nothing :
-      earliest (limits (s .limit) (s .bound)) (s .clock) (loadsOf (chargesOf (s .charges))) (draw line time) ≡ nothing
-      → giving (refused 0) s [] ≡ step (view s) (order line time due)
-  unfolding ordering
-  call-nothing f =
-      sym
-      (call-granted s (order line time due) k e z
-      ∙ ap (orderedAt (view s) (newCharge (view s) line time due))
-      f)
+pub call-committed :
+    (s : Station) (line time due start shown : ℕ) (c : Charges)
+    → NoneHolds (orderRefusals (view s) line time due)
+    → startFor (view s) (drawFor (view s) line time) ≡ at start
+    → start ≡ shown
+    → Holds (chargesOf (s .charges) ++ (charge (s .next) line (s .clock) time due start ∷ [])) c
+    → giving (committed (s .next) start) (committedStation s c) [] ≡ step (view s) (commit line time due shown)
+unfolding committing
+call-committed s line time due start shown c free f same h =
+    rw (h .charges, add-one (s .next), same) (sym (commit-taken (view s) line time due free shown (f ∙ ap at same)))

@@ -3,17 +3,18 @@ use mathlib.Core.Path.{_≡_}
 use Prim.Native.Nat.{ℕ}
 use mathlib.Core.List.{List, []}
 use Rattle.rules.specs.Calls as rules
-use Rattle.rules.specs.Calls.{State, order, move, offer, replanLatest, replanLines, enquire, step}
+use Rattle.rules.specs.Calls.{State, preview, commit, move, offer, replanLatest, replanLines, enquire, step}
 use Rattle.station.specs.declared.Station.{Station}
 use Rattle.station.specs.declared.calls.Call.{Call}
-use Rattle.station.specs.declared.calls.Call.the-variants.{Order, Move, Offer, ReplanLatest, ReplanLines, Enquire}
+use Rattle.station.specs.declared.calls.Call.the-variants.{Preview, Commit, Move, Offer, ReplanLatest, ReplanLines, Enquire}
 use Rattle.station.specs.declared.calls.Answer.{Answer}
-use Rattle.station.specs.declared.calls.Answer.the-variants.{Order as OrderOf, Move as MoveOf, Plan as PlanOf, Enquiry as EnquiryOf}
-use Rattle.station.specs.Answers.{Gives, orderAnswer, moveAnswer, planAnswer, enquiryAnswer}
+use Rattle.station.specs.declared.calls.Answer.the-variants.{Preview as PreviewOf, Commit as CommitOf, Move as MoveOf, Plan as PlanOf, Enquiry as EnquiryOf}
+use Rattle.station.specs.Answers.{Gives, previewAnswer, commitAnswer, moveAnswer, planAnswer, enquiryAnswer}
 
 -- the call of the rules, with the lists that are lent to it
 abbrev pub callOf : Call → List ℕ → List ℕ → rules.Call
-callOf (Order line time due) starts report = order line time due
+callOf (Preview line time due) starts report = preview line time due
+callOf (Commit line time due shown) starts report = commit line time due shown
 callOf (Move target) starts report = move target report
 callOf Offer starts report = offer starts
 callOf ReplanLatest starts report = replanLatest
@@ -27,7 +28,8 @@ pub data Lends : Type 0 where
   report : Lends
 
 abbrev pub lends : Call → Lends
-lends (Order line time due) = none
+lends (Preview line time due) = none
+lends (Commit line time due shown) = none
 lends (Move target) = report
 lends Offer = starts
 lends ReplanLatest = none
@@ -50,7 +52,8 @@ ReportStays starts before after = after ≡ before
 ReportStays report before after = Unit {0}
 
 abbrev pub answerOf : Answer → rules.Answer
-answerOf (OrderOf a) = orderAnswer a
+answerOf (PreviewOf a) = previewAnswer a
+answerOf (CommitOf a) = commitAnswer a
 answerOf (MoveOf a) = moveAnswer a
 answerOf (PlanOf a) = planAnswer a
 answerOf (EnquiryOf a) = enquiryAnswer a

@@ -2,22 +2,40 @@
 use crate::Station;
 use crate::clock::MoveAnswer;
 use crate::enquiry::EnquiryAnswer;
-use crate::order::OrderAnswer;
+use crate::order::CommitAnswer;
+use crate::order::PreviewAnswer;
 use crate::plan::PlanAnswer;
 ghost use Rattle.station.specs.View.{view, Valid};
 ghost use Rattle.station.specs.Applied.{Applies};
 
 pub enum Call {
-    Order { line: u32, time: u32, due: u32 },
-    Move { target: u32 },
+    Preview {
+        line: u32,
+        time: u32,
+        due: u32,
+    },
+    Commit {
+        line: u32,
+        time: u32,
+        due: u32,
+        shown: u32,
+    },
+    Move {
+        target: u32,
+    },
     Offer,
     ReplanLatest,
-    ReplanLines { allowance: u32 },
-    Enquire { ticket: u32 },
+    ReplanLines {
+        allowance: u32,
+    },
+    Enquire {
+        ticket: u32,
+    },
 }
 
 pub enum Answer {
-    Order(OrderAnswer),
+    Preview(PreviewAnswer),
+    Commit(CommitAnswer),
     Move(MoveAnswer),
     Plan(PlanAnswer),
     Enquiry(EnquiryAnswer),
@@ -35,12 +53,26 @@ impl Station {
         ensures { λ r. ⌜ Applies (view self) call (now (starts .entry)) (now (report .entry)) (now (report .exit)) (r .answer) (r .station) ⌝ }
     {
         match call {
-            Call::Order { line, time, due } => {
-                let done = self.order(line, time, due);
+            Call::Preview { line, time, due } => {
+                let done = self.preview(line, time, due);
                 let answer = done.answer;
                 let station = done.station;
                 Applied {
-                    answer: Answer::Order(answer),
+                    answer: Answer::Preview(answer),
+                    station,
+                }
+            }
+            Call::Commit {
+                line,
+                time,
+                due,
+                shown,
+            } => {
+                let done = self.commit(line, time, due, shown);
+                let answer = done.answer;
+                let station = done.station;
+                Applied {
+                    answer: Answer::Commit(answer),
                     station,
                 }
             }

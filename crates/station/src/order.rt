@@ -1,4 +1,4 @@
-// An order: the smallest start with which the held plan and the new charge are sound together.
+// An order, which is previewed and committed: the smallest start with which the held plan and the new charge are sound together.
 use crate::Station;
 use planner::begun::profile_before;
 use profile::When;
@@ -6,17 +6,27 @@ use search::start::earliest;
 ghost use mathlib.Core.Path.{_≡_};
 ghost use mathlib.Core.List.{[]};
 ghost use Rattle.rules.specs.Basics.{firstOf};
-ghost use Rattle.rules.specs.Calls.{refusals, order as orderCall, step};
+ghost use Rattle.rules.specs.Calls.{orderRefusals, preview as previewCall, commit as commitCall, step};
 ghost use Rattle.station.specs.View.{view, Valid};
-ghost use Rattle.station.specs.Answers.{Gives, orderAnswer};
+ghost use Rattle.station.specs.Answers.{Gives, previewAnswer, commitAnswer};
 
-pub enum OrderAnswer {
-    Ordered { ticket: u32, start: u32 },
+pub enum PreviewAnswer {
+    Previewed(u32),
     Refused(u32),
 }
 
-pub struct Ordering {
-    pub answer: OrderAnswer,
+pub struct Previewing {
+    pub answer: PreviewAnswer,
+    pub station: Station,
+}
+
+pub enum CommitAnswer {
+    Committed { ticket: u32, start: u32 },
+    Refused(u32),
+}
+
+pub struct Committing {
+    pub answer: CommitAnswer,
     pub station: Station,
 }
 
@@ -24,7 +34,7 @@ impl Station {
     // The number of the first refusal of an order, 0 where none applies.
     fn order_refusal(self, line: u32, time: u32, due: u32) -> u32
         requires { ⌜ Valid self ⌝ }
-        ensures { λ r. ⌜ r ≡ firstOf (refusals (view self) (orderCall line time due)) ⌝ }
+        ensures { λ r. ⌜ r ≡ firstOf (orderRefusals (view self) line time due) ⌝ }
     {
         if line < 1 {
             return 4;
@@ -51,17 +61,15 @@ impl Station {
         0
     }
 
-    // No other start moves. A sound plan always leaves a start, so the second refusal is never given.
-    pub fn order(self, line: u32, time: u32, due: u32) -> Ordering
+    // The one search of both calls: the first refusal of an order, or its start. A sound plan always leaves a start, so the
+    // second refusal is never given.
+    fn start_for(self, line: u32, time: u32, due: u32) -> PreviewAnswer
         requires { ⌜ Valid self ⌝ }
-        ensures { λ r. ⌜ Gives (step (view self) (orderCall line time due)) (orderAnswer (r .answer)) (r .station) [] ⌝ }
+        ensures { λ r. ⌜ previewAnswer r ≡ step (view self) (previewCall line time due) .answer ⌝ }
     {
         let refusal = self.order_refusal(line, time, due);
         if 0 < refusal {
-            return Ordering {
-                answer: OrderAnswer::Refused(refusal),
-                station: self,
-            };
+            return PreviewAnswer::Refused(refusal);
         }
         let held = self.charges;
         // No start is as late as that: all held charges are in the profile.
@@ -77,19 +85,51 @@ impl Station {
             time,
         );
         let When::Minute(start) = found else {
-            return Ordering {
-                answer: OrderAnswer::Refused(0),
-                station: self,
-            };
+            return PreviewAnswer::Refused(0);
         };
-        let ticket = self.next;
-        let with = held.push(ticket, line, self.clock, time, due, start);
-        let mut next = self;
-        next.next = ticket + 1;
-        next.charges = with;
-        Ordering {
-            answer: OrderAnswer::Ordered { ticket, start },
-            station: next,
+        PreviewAnswer::Previewed(start)
+    }
+
+    // The station stays as it is.
+    pub fn preview(self, line: u32, time: u32, due: u32) -> Previewing
+        requires { ⌜ Valid self ⌝ }
+        ensures { λ r. ⌜ Gives (step (view self) (previewCall line time due)) (previewAnswer (r .answer)) (r .station) [] ⌝ }
+    {
+        Previewing {
+            answer: self.start_for(line, time, due),
+            station: self,
+        }
+    }
+
+    // No other start moves.
+    pub fn commit(self, line: u32, time: u32, due: u32, shown: u32) -> Committing
+        requires { ⌜ Valid self ⌝ }
+        ensures { λ r. ⌜ Gives (step (view self) (commitCall line time due shown)) (commitAnswer (r .answer)) (r .station) [] ⌝ }
+    {
+        let found = self.start_for(line, time, due);
+        match found {
+            PreviewAnswer::Refused(number) => Committing {
+                answer: CommitAnswer::Refused(number),
+                station: self,
+            },
+            PreviewAnswer::Previewed(start) => {
+                if start != shown {
+                    return Committing {
+                        answer: CommitAnswer::Refused(16),
+                        station: self,
+                    };
+                }
+                let ticket = self.next;
+                let held = self.charges;
+                let with = held.push(ticket, line, self.clock, time, due, start);
+                let mut next = self;
+                next.next = ticket + 1;
+                next.charges = with;
+                Committing {
+                    answer: CommitAnswer::Committed { ticket, start },
+                    station: next,
+                }
+            }
         }
     }
 }

@@ -1,6 +1,7 @@
 //! Orders as the kinds share them.
 
 use super::author::Author;
+use crate::yard::Order;
 
 /// A due minute that is not refused: tight, loose or in between, and at times one
 /// that cannot be met.
@@ -17,10 +18,18 @@ pub fn due(author: &mut Author, time: u32) -> u32 {
 }
 
 /// An order that is refused, if at all, for what the station holds.
-pub fn order(author: &mut Author, line: u32, longest: u64) {
+pub fn some(author: &mut Author, line: u32, longest: u64) -> Order {
     let time = author.random.between(1, longest) as u32;
-    let due = due(author, time);
-    author.order(line, time, due);
+    Order { line, time, due: due(author, time) }
+}
+
+/// Such an order, previewed at times and committed.
+pub fn order(author: &mut Author, line: u32, longest: u64) {
+    let order = some(author, line, longest);
+    if author.random.percent(20) {
+        author.preview(order);
+    }
+    author.commit(order, author.shown(order));
 }
 
 /// An opening with this limit and a bound of at least 1.

@@ -1,9 +1,10 @@
 //! Tiny yards, every argument at and just outside its range and near 2^32.
-//! Several arguments are bad at the same time, because "Where several apply, the
-//! lowest number".
+//! Several arguments are bad at the same time, because "where several apply, its stated
+//! place goes before its number".
 
 use super::author::Author;
 use crate::protocol::Call;
+use crate::yard::Order;
 
 const NEAR_WORD: [u32; 4] = [u32::MAX, u32::MAX - 1, 1 << 31, (1 << 31) - 1];
 
@@ -43,7 +44,14 @@ fn order(author: &mut Author) {
         2_000_001,
     ];
     let due = argument(author, usual, &edges);
-    author.order(line, time, due);
+    let order = Order { line, time, due };
+    if author.random.percent(25) {
+        author.preview(order);
+    }
+    let earliest = author.shown(order);
+    let edges = [0, earliest.wrapping_sub(1), earliest, earliest.wrapping_add(1)];
+    let shown = argument(author, earliest, &edges);
+    author.commit(order, shown);
 }
 
 fn clock_move(author: &mut Author) {

@@ -4,6 +4,7 @@
 
 mod author;
 pub mod cars;
+mod commits;
 mod due;
 mod edges;
 mod evening;
@@ -33,7 +34,7 @@ pub struct Kind {
     write: fn(&mut Author),
 }
 
-pub const KINDS: [Kind; 14] = [
+pub const KINDS: [Kind; 15] = [
     Kind { name: "edges", share: 15, write: edges::write },
     Kind { name: "mixed", share: 24, write: mixed::write },
     Kind { name: "offers", share: 15, write: offers::write },
@@ -45,6 +46,7 @@ pub const KINDS: [Kind; 14] = [
     Kind { name: "far", share: 2, write: far::write },
     Kind { name: "lists", share: 3, write: lists::write },
     Kind { name: "hurry", share: 10, write: hurry::write },
+    Kind { name: "commits", share: 15, write: commits::write },
     // These two are long and come once in a thousand, at turns of their own.
     Kind { name: "tickets", share: 0, write: tickets::write },
     Kind { name: "spent", share: 0, write: spent::write },

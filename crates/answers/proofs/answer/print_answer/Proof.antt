@@ -8,8 +8,29 @@ use Rattle.answers.proofs.answer.print_answer.Tie as tie
 enum-known-answer : tie.Need-enum-known-answer
 enum-known-answer c = search needs
 
-enum-known-order : tie.Need-enum-known-order
-enum-known-order c = search needs
+enum-known-preview : tie.Need-enum-known-preview
+enum-known-preview c = search needs
+
+slice-aggregate-print-one : tie.Need-slice-aggregate-print-one
+slice-aggregate-print-one c = search needs
+
+cast-print-one : tie.Need-cast-print-one
+cast-print-one c = search needs
+
+print-one-requires : tie.Need-print-one-requires
+print-one-requires c κs = search needs
+
+enum-known-preview-2 : tie.Need-enum-known-preview-2
+enum-known-preview-2 c = search needs
+
+print-refused-requires : tie.Need-print-refused-requires
+print-refused-requires c κs = search needs
+
+enum-known-answer-2 : tie.Need-enum-known-answer-2
+enum-known-answer-2 c = search needs
+
+enum-known-commit : tie.Need-enum-known-commit
+enum-known-commit c = search needs
 
 slice-aggregate-print-two : tie.Need-slice-aggregate-print-two
 slice-aggregate-print-two c = search needs
@@ -26,29 +47,29 @@ cast-print-two-2 c = search needs
 print-two-requires : tie.Need-print-two-requires
 print-two-requires c κs = search needs
 
-enum-known-order-2 : tie.Need-enum-known-order-2
-enum-known-order-2 c = search needs
-
-print-refused-requires : tie.Need-print-refused-requires
-print-refused-requires c κs = search needs
-
-enum-known-answer-2 : tie.Need-enum-known-answer-2
-enum-known-answer-2 c = search needs
-
-enum-known-moved : tie.Need-enum-known-moved
-enum-known-moved c = search needs
-
-print-moved-requires : tie.Need-print-moved-requires
-print-moved-requires c κs = rw (c .before .before .before .before .before .answer2 .given .1, c .before .before .moved .given .1) at (c .before .before .before .before .before .before .before .before .before .pre)
-
-enum-known-moved-2 : tie.Need-enum-known-moved-2
-enum-known-moved-2 c = search needs
+enum-known-commit-2 : tie.Need-enum-known-commit-2
+enum-known-commit-2 c = search needs
 
 print-refused-requires-2 : tie.Need-print-refused-requires-2
 print-refused-requires-2 c κs = search needs
 
 enum-known-answer-3 : tie.Need-enum-known-answer-3
 enum-known-answer-3 c = search needs
+
+enum-known-moved : tie.Need-enum-known-moved
+enum-known-moved c = search needs
+
+print-moved-requires : tie.Need-print-moved-requires
+print-moved-requires c κs = rw (c .before .before .before .before .before .answer3 .given .1, c .before .before .moved .given .1) at (c .before .before .before .before .before .before .before .before .before .pre)
+
+enum-known-moved-2 : tie.Need-enum-known-moved-2
+enum-known-moved-2 c = search needs
+
+print-refused-requires-3 : tie.Need-print-refused-requires-3
+print-refused-requires-3 c κs = search needs
+
+enum-known-answer-4 : tie.Need-enum-known-answer-4
+enum-known-answer-4 c = search needs
 
 enum-known-plan : tie.Need-enum-known-plan
 enum-known-plan c = search needs
@@ -68,11 +89,11 @@ print-four-requires c κs = search needs
 enum-known-plan-2 : tie.Need-enum-known-plan-2
 enum-known-plan-2 c = search needs
 
-print-refused-requires-3 : tie.Need-print-refused-requires-3
-print-refused-requires-3 c κs = search needs
+print-refused-requires-4 : tie.Need-print-refused-requires-4
+print-refused-requires-4 c κs = search needs
 
-enum-known-answer-4 : tie.Need-enum-known-answer-4
-enum-known-answer-4 c = search needs
+enum-known-answer-5 : tie.Need-enum-known-answer-5
+enum-known-answer-5 c = search needs
 
 print-enquiry-requires : tie.Need-print-enquiry-requires
 print-enquiry-requires c κs = search needs
@@ -82,76 +103,97 @@ same-length c = search needs
 
 returns : tie.Need-returns
 unfolding answerText
-returns c = rw (c .before .before .before .before .before .before .before .before .before .before .answer .given .1, c .before .before .before .before .before .before .before .order .given .1) (c .before .before .print-two .ensures)
+returns c = rw (c .before .before .before .before .before .before .before .before .before .answer .given .1, c .before .before .before .before .before .before .preview .given .1) (c .before .before .print-one .ensures)
 
 same-length-2 : tie.Need-same-length-2
 same-length-2 c = search needs
 
 returns-2 : tie.Need-returns-2
 unfolding answerText
-returns-2 c = rw (c .before .before .before .before .before .before .before .before .answer .given .1, c .before .before .before .before .before .order2 .given .1) (c .before .before .print-refused .ensures)
+returns-2 c = rw (c .before .before .before .before .before .before .before .before .answer .given .1, c .before .before .before .before .before .preview2 .given .1) (c .before .before .print-refused .ensures)
 
 same-length-3 : tie.Need-same-length-3
 same-length-3 c = search needs
 
 returns-3 : tie.Need-returns-3
 unfolding answerText
-returns-3 c = rw (c .before .before .before .before .before .before .before .before .answer2 .given .1, c .before .before .before .before .before .moved .given .1) (c .before .before .print-moved .ensures)
+returns-3 c = rw (c .before .before .before .before .before .before .before .before .before .before .answer2 .given .1, c .before .before .before .before .before .before .before .commit .given .1) (c .before .before .print-two .ensures)
 
 same-length-4 : tie.Need-same-length-4
 same-length-4 c = search needs
 
 returns-4 : tie.Need-returns-4
 unfolding answerText
-returns-4 c = rw (c .before .before .before .before .before .before .before .before .answer2 .given .1, c .before .before .before .before .before .moved2 .given .1) (c .before .before .print-refused2 .ensures)
+returns-4 c = rw (c .before .before .before .before .before .before .before .before .answer2 .given .1, c .before .before .before .before .before .commit2 .given .1) (c .before .before .print-refused2 .ensures)
 
 same-length-5 : tie.Need-same-length-5
 same-length-5 c = search needs
 
 returns-5 : tie.Need-returns-5
 unfolding answerText
-returns-5 c = rw (c .before .before .before .before .before .before .before .before .before .answer3 .given .1, c .before .before .before .before .before .before .plan .given .1) (c .before .before .print-four .ensures)
+returns-5 c = rw (c .before .before .before .before .before .before .before .before .answer3 .given .1, c .before .before .before .before .before .moved .given .1) (c .before .before .print-moved .ensures)
 
 same-length-6 : tie.Need-same-length-6
 same-length-6 c = search needs
 
 returns-6 : tie.Need-returns-6
 unfolding answerText
-returns-6 c = rw (c .before .before .before .before .before .before .before .before .answer3 .given .1, c .before .before .before .before .before .plan2 .given .1) (c .before .before .print-refused3 .ensures)
+returns-6 c = rw (c .before .before .before .before .before .before .before .before .answer3 .given .1, c .before .before .before .before .before .moved2 .given .1) (c .before .before .print-refused3 .ensures)
 
 same-length-7 : tie.Need-same-length-7
 same-length-7 c = search needs
 
 returns-7 : tie.Need-returns-7
-returns-7 c = rw (c .before .before .before .before .before .answer4 .given .1) (enquiry-line (c .before .before .before .before .before .answer4 .given .0 .0) (c .before .before .before .before .before .before .before .before .before .args .list .now) (c .before .before .print-enquiry .ensures))
+unfolding answerText
+returns-7 c = rw (c .before .before .before .before .before .before .before .before .before .answer4 .given .1, c .before .before .before .before .before .before .plan .given .1) (c .before .before .print-four .ensures)
+
+same-length-8 : tie.Need-same-length-8
+same-length-8 c = search needs
+
+returns-8 : tie.Need-returns-8
+unfolding answerText
+returns-8 c = rw (c .before .before .before .before .before .before .before .before .answer4 .given .1, c .before .before .before .before .before .plan2 .given .1) (c .before .before .print-refused4 .ensures)
+
+same-length-9 : tie.Need-same-length-9
+same-length-9 c = search needs
+
+returns-9 : tie.Need-returns-9
+returns-9 c = rw (c .before .before .before .before .before .answer5 .given .1) (enquiry-line (c .before .before .before .before .before .answer5 .given .0 .0) (c .before .before .before .before .before .before .before .before .before .args .list .now) (c .before .before .print-enquiry .ensures))
 
 pub print-answer-spec : {M : Type 1} → statement M
 print-answer-spec =
     tie.close
     (tie.spec
     enum-known-answer
-    enum-known-order
+    enum-known-preview
+    slice-aggregate-print-one
+    cast-print-one
+    print-one-requires
+    enum-known-preview-2
+    print-refused-requires
+    enum-known-answer-2
+    enum-known-commit
     slice-aggregate-print-two
     cast-print-two
     slice-aggregate-print-two-2
     cast-print-two-2
     print-two-requires
-    enum-known-order-2
-    print-refused-requires
-    enum-known-answer-2
+    enum-known-commit-2
+    print-refused-requires-2
+    enum-known-answer-3
     enum-known-moved
     print-moved-requires
     enum-known-moved-2
-    print-refused-requires-2
-    enum-known-answer-3
+    print-refused-requires-3
+    enum-known-answer-4
     enum-known-plan
     slice-aggregate-print-four
     cast-print-four
     cast-print-four-2
     print-four-requires
     enum-known-plan-2
-    print-refused-requires-3
-    enum-known-answer-4
+    print-refused-requires-4
+    enum-known-answer-5
     print-enquiry-requires
     same-length
     returns
@@ -166,4 +208,8 @@ print-answer-spec =
     same-length-6
     returns-6
     same-length-7
-    returns-7)
+    returns-7
+    same-length-8
+    returns-8
+    same-length-9
+    returns-9)

@@ -15,6 +15,9 @@ number-at-requires-2 c κs = search needs
 number-at-requires-3 : tie.Need-number-at-requires-3
 number-at-requires-3 c κs = search needs
 
+number-at-requires-4 : tie.Need-number-at-requires-4
+number-at-requires-4 c κs = search needs
+
 enum-told : tie.Need-enum-told
 enum-told c = search needs
 
@@ -39,29 +42,35 @@ enum-told-7 c = search needs
 enum-told-8 : tie.Need-enum-told-8
 enum-told-8 c = search needs
 
+enum-told-9 : tie.Need-enum-told-9
+enum-told-9 c = search needs
+
 returns : tie.Need-returns
-returns c = rw (c .enum-told .given .1, c .before .before .before .before .number-at .ensures, c .before .before .before .number-at2 .ensures) (record { call-is = refl; call-fits = tt })
+returns c = rw (c .enum-told .given .1, c .before .before .before .before .before .number-at .ensures, c .before .before .before .before .number-at2 .ensures) (record { call-is = refl; call-fits = tt })
 
 returns-2 : tie.Need-returns-2
-returns-2 c = rw (c .enum-told2 .given .1, c .before .before .before .before .number-at .ensures, c .before .before .before .number-at2 .ensures, c .before .before .number-at3 .ensures) (record { call-is = refl; call-fits = (omega arith, refl) })
+returns-2 c = rw (c .enum-told2 .given .1, c .before .before .before .before .before .number-at .ensures, c .before .before .before .before .number-at2 .ensures, c .before .before .before .number-at3 .ensures) (record { call-is = refl; call-fits = (omega arith, refl) })
 
 returns-3 : tie.Need-returns-3
-returns-3 c = rw (c .enum-told3 .given .1, c .before .before .before .before .number-at .ensures, c .before .before .before .number-at2 .ensures) (record { call-is = refl; call-fits = (omega arith, tt) })
+returns-3 c = rw (c .enum-told3 .given .1, c .before .before .before .before .before .number-at .ensures, c .before .before .before .before .number-at2 .ensures, c .before .before .before .number-at3 .ensures, c .before .before .number-at4 .ensures) (record { call-is = refl; call-fits = (omega arith, refl) })
 
 returns-4 : tie.Need-returns-4
-returns-4 c = rw (c .enum-told4 .given .1) (record { call-is = rw (take-length (c .before .before .before .before .before .before .args .numbers .now)); call-fits = (omega arith, refl) })
+returns-4 c = rw (c .enum-told4 .given .1, c .before .before .before .before .before .number-at .ensures, c .before .before .before .before .number-at2 .ensures) (record { call-is = refl; call-fits = (omega arith, tt) })
 
 returns-5 : tie.Need-returns-5
-returns-5 c = rw (c .enum-told5 .given .1) (record { call-is = refl; call-fits = (omega arith, refl) })
+returns-5 c = rw (c .enum-told5 .given .1) (record { call-is = rw (take-length (c .before .before .before .before .before .before .before .args .numbers .now)); call-fits = (omega arith, refl) })
 
 returns-6 : tie.Need-returns-6
-returns-6 c = rw (c .enum-told6 .given .1, c .before .before .before .before .number-at .ensures) (record { call-is = refl; call-fits = (omega arith, refl) })
+returns-6 c = rw (c .enum-told6 .given .1) (record { call-is = refl; call-fits = (omega arith, refl) })
 
 returns-7 : tie.Need-returns-7
-returns-7 c = rw (c .enum-told7 .given .1, c .before .before .before .before .number-at .ensures) (record { call-is = refl; call-fits = (omega arith, refl) })
+returns-7 c = rw (c .enum-told7 .given .1, c .before .before .before .before .before .number-at .ensures) (record { call-is = refl; call-fits = (omega arith, refl) })
 
 returns-8 : tie.Need-returns-8
-returns-8 c = rw (c .enum-told8 .given .1) (record { call-is = refl; call-fits = tt })
+returns-8 c = rw (c .enum-told8 .given .1, c .before .before .before .before .before .number-at .ensures) (record { call-is = refl; call-fits = (omega arith, refl) })
+
+returns-9 : tie.Need-returns-9
+returns-9 c = rw (c .enum-told9 .given .1) (record { call-is = refl; call-fits = tt })
 
 pub call-of-spec : {M : Type 1} → statement M
 call-of-spec =
@@ -70,6 +79,7 @@ call-of-spec =
     number-at-requires
     number-at-requires-2
     number-at-requires-3
+    number-at-requires-4
     enum-told
     enum-told-2
     enum-told-3
@@ -78,6 +88,7 @@ call-of-spec =
     enum-told-6
     enum-told-7
     enum-told-8
+    enum-told-9
     returns
     returns-2
     returns-3
@@ -85,4 +96,5 @@ call-of-spec =
     returns-5
     returns-6
     returns-7
-    returns-8)
+    returns-8
+    returns-9)

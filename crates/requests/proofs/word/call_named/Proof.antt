@@ -45,16 +45,23 @@ slice-aggregate-named-or-7 c = search needs
 named-or-requires-7 : tie.Need-named-or-requires-7
 named-or-requires-7 c κs = search needs
 
+slice-aggregate-named-or-8 : tie.Need-slice-aggregate-named-or-8
+slice-aggregate-named-or-8 c = search needs
+
+named-or-requires-8 : tie.Need-named-or-requires-8
+named-or-requires-8 c κs = search needs
+
 returns : tie.Need-returns
 returns c =
     rw (
-      c .named-or7 .ensures,
-      c .before .before .named-or6 .ensures,
-      c .before .before .before .before .named-or5 .ensures,
-      c .before .before .before .before .before .before .named-or4 .ensures,
-      c .before .before .before .before .before .before .before .before .named-or3 .ensures,
-      c .before .before .before .before .before .before .before .before .before .before .named-or2 .ensures,
-      c .before .before .before .before .before .before .before .before .before .before .before .before .named-or .ensures,
+      c .named-or8 .ensures,
+      c .before .before .named-or7 .ensures,
+      c .before .before .before .before .named-or6 .ensures,
+      c .before .before .before .before .before .before .named-or5 .ensures,
+      c .before .before .before .before .before .before .before .before .named-or4 .ensures,
+      c .before .before .before .before .before .before .before .before .before .before .named-or3 .ensures,
+      c .before .before .before .before .before .before .before .before .before .before .before .before .named-or2 .ensures,
+      c .before .before .before .before .before .before .before .before .before .before .before .before .before .before .named-or .ensures,
     )
 
 pub call-named-spec : {M : Type 1} → statement M
@@ -75,4 +82,6 @@ call-named-spec =
     named-or-requires-6
     slice-aggregate-named-or-7
     named-or-requires-7
+    slice-aggregate-named-or-8
+    named-or-requires-8
     returns)

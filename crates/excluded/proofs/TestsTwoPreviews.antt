@@ -1,0 +1,80 @@
+-- The test of each field of demand 2 for previews is true exactly where the field holds, and the fields one by one are what
+-- demand 2 says of a preview.
+use mathlib.Core.Logic.{_↔_}
+use mathlib.Core.Path.{_≡_, sym, ap, subst, _∙_}
+use Prim.Native.Nat.{ℕ}
+use mathlib.Core.Bool.{Bool}
+use Rattle.rules.specs.Calls.{limitsOf, previewed, lent, drawFor, refusals}
+use Rattle.guarantee.specs.DemandOne.{NoneApplies}
+use Rattle.guarantee.specs.DemandTwo.{EarliestStart, PreviewStart}
+use Rattle.excluded.specs.Same.{numberIn}
+use Rattle.excluded.specs.FieldsTwoPreviews.{Field, answer, not-early, limit, balance, earliest, same-station, same-list, Trial, callOf, resultOf, startOf, loadsWith, Free, Holds, free, tested}
+use Rattle.excluded.proofs.Tests.{Tests, leb-tests, fails-tests, every-tests, where-so-tests}
+use Rattle.excluded.proofs.TestsMinutes.{limit-tests, balance-tests}
+use Rattle.excluded.proofs.TestsStarts.{no-earlier-tests}
+use Rattle.excluded.proofs.Same.{same-list as same-lists, same-answer, same-state}
+
+free-tests : (r : Trial) {b : Bool} {P : Type 0} → Tests b P → Tests (free r b) (Free r P)
+free-tests r h = where-so-tests (every-tests (λ row. fails-tests (row .0)) (refusals (r .station) (callOf r))) h
+
+pub previews-tested : (r : Trial) (f : Field) → Tests (tested r f) (Holds r f)
+previews-tested r answer = free-tests r (same-answer (resultOf r .answer) (previewed (startOf r)))
+previews-tested r not-early = free-tests r (leb-tests (r .station .clock) (startOf r))
+previews-tested r limit = free-tests r (limit-tests (limitsOf (r .station)) (r .station .clock) (loadsWith r (startOf r)))
+previews-tested r balance =
+    free-tests r (balance-tests (limitsOf (r .station)) (r .station .clock) (loadsWith r (startOf r)))
+previews-tested r earliest =
+    free-tests r (no-earlier-tests (r .station) (drawFor (r .station) (r .line) (r .time)) (startOf r))
+previews-tested r same-station = same-state (resultOf r .state) (r .station)
+previews-tested r same-list = same-lists (resultOf r .list) (lent (callOf r))
+
+-- The fields one by one
+
+module _ (r : Trial) where
+  abbrev Whole : Type 0
+  Whole = PreviewStart (r .station) (r .line) (r .time) (r .due) (resultOf r)
+
+  abbrev Start : ℕ → Type 0
+  Start u = EarliestStart (r .station) (drawFor (r .station) (r .line) (r .time)) u
+
+  -- the start is that of the answer
+  started : Whole → NoneApplies (refusals (r .station) (callOf r)) → Start (startOf r)
+  started o q = go (o .answer q)
+    where
+      go : (u : ℕ) × (resultOf r .answer ≡ previewed u) × Start u → Start (startOf r)
+      go (u, e, h) = subst Start (sym (ap (numberIn 1) e)) h
+
+  answered : Whole → NoneApplies (refusals (r .station) (callOf r)) → resultOf r .answer ≡ previewed (startOf r)
+  answered o q = go (o .answer q)
+    where
+      go : (u : ℕ) × (resultOf r .answer ≡ previewed u) × Start u → resultOf r .answer ≡ previewed (startOf r)
+      go (u, e, h) = e ∙ ap previewed (sym (ap (numberIn 1) e))
+
+  field-holds : Whole → (f : Field) → Holds r f
+  field-holds o answer = answered o
+  field-holds o not-early = λ q. started o q .not-early
+  field-holds o limit = λ q. started o q .sound .limit
+  field-holds o balance = λ q. started o q .sound .balance
+  field-holds o earliest = λ q. started o q .earliest
+  field-holds o same-station = o .same-station
+  field-holds o same-list = o .same-list
+
+  pub preview-fields : Whole ↔ ((f : Field) → Holds r f)
+  preview-fields = (
+    field-holds,
+    (λ h.
+        record {
+          answer =
+              λ q. (
+                startOf r,
+                h answer q,
+                record {
+                  not-early = h not-early q;
+                  sound = record { limit = h limit q; balance = h balance q };
+                  earliest = h earliest q;
+                },
+              );
+          same-station = h same-station;
+          same-list = h same-list;
+        }),
+  )

@@ -1,0 +1,39 @@
+-- For each field of demand 2 for commits a wrong station and a commit for which that field is false and no other.
+use Prim.Native.Nat.{ℕ}
+use mathlib.Core.List.{List, [], _∷_, _++_, map}
+use Rattle.rules.specs.Calls.{State, step}
+use Rattle.guarantee.specs.Past.{Gives}
+use Rattle.excluded.specs.WrongRefusals.{otherNumber}
+use Rattle.excluded.specs.WrongOrders.{queued, anySoundStart, shownIgnored, shownBeforeTaken, otherTicket, othersPutOff}
+use Rattle.excluded.specs.Stations.{station, stationFive, stationH}
+use Rattle.excluded.specs.Breaks.{Entry, computedBy, onlyOf}
+use Rattle.excluded.specs.FieldsTwoCommits.{Field, answer, refusal, others-same, fields, place, Trial, tested}
+
+abbrev pub Breach : Type 0
+Breach = Entry Trial Field
+
+abbrev pub computed : Breach → Breach
+computed = computedBy tested fields
+
+-- a commit of 10 minutes, due at 60
+abbrev only : Gives → State → ℕ → ℕ → List Field → Breach
+only gives s line shown broken =
+    onlyOf place fields (record { gives = gives; station = s; line = line; time = 10; due = 60; shown = shown }) broken
+
+abbrev pub wrongEntries : List Breach
+wrongEntries =
+    only otherTicket station 1 0 (answer ∷ [])
+    ∷ only otherNumber station 1 3 (refusal ∷ [])
+    ∷ only shownIgnored station 1 3 (refusal ∷ [])
+    ∷ only othersPutOff stationH 2 0 (others-same ∷ [])
+    -- a start that is not the earliest is answered with a ticket
+    ∷ only anySoundStart station 1 3 (answer ∷ refusal ∷ [])
+    ∷ only shownBeforeTaken stationFive 1 0 (answer ∷ refusal ∷ [])
+    ∷ only queued stationH 2 20 (answer ∷ refusal ∷ [])
+    -- the earliest one is refused
+    ∷ only queued stationH 2 0 (answer ∷ others-same ∷ [])
+    ∷ []
+
+-- and the rules themselves for the same commits, where nothing breaks
+abbrev pub entries : List Breach
+entries = wrongEntries ++ map (λ e. only step (e .thing .station) (e .thing .line) (e .thing .shown) []) wrongEntries

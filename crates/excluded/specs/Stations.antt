@@ -1,0 +1,54 @@
+-- The stations on which wrong ones are tried, written down, so that what is computed on them does not begin with an opening;
+-- proofs/Stations.antt shows for each the calls that lead to it.
+use Prim.Native.Nat.{ℕ}
+use mathlib.Core.List.{List, [], _∷_}
+use Rattle.rules.specs.Charge.{Charge}
+use Rattle.rules.specs.Calls.{State, settings, boundOf, fresh}
+
+-- a charge ordered in minute 0: ticket, line, p, d, start
+abbrev held : ℕ → ℕ → ℕ → ℕ → ℕ → Charge
+held ticket line p d start =
+    record { ticket = ticket; line = line; orderMinute = 0; time = p; due = d; start = start }
+
+-- N, c, clock, next ticket
+abbrev standing : ℕ → ℕ → ℕ → ℕ → List Charge → State
+standing n c clock next cs =
+    record { limit = n; percent = c; bound = boundOf n c; clock = clock; next = next; charges = cs }
+
+-- the fresh station of 1, 100, and the same moved to 5
+abbrev pub station : State
+station = fresh (settings 1 100)
+
+abbrev pub stationFive : State
+stationFive = standing 1 100 5 1 []
+
+-- a charge on each line from 0 to 10
+abbrev pub stationThree : State
+stationThree = standing 1 100 0 4 (held 1 1 10 60 0 ∷ held 2 2 10 60 0 ∷ held 3 3 10 60 0 ∷ [])
+
+-- and ticket 4 on line 1, due at 15, from 10 to 20
+abbrev pub stationFour : State
+stationFour =
+    standing 1 100 0 5 (held 1 1 10 60 0 ∷ held 2 2 10 60 0 ∷ held 3 3 10 60 0 ∷ held 4 1 10 15 10 ∷ [])
+
+-- N = 2, D = 1: a charge on line 1 from 0 to 10
+abbrev pub stationTwo : State
+stationTwo = standing 2 50 0 2 (held 1 1 10 60 0 ∷ [])
+
+-- after the orders of case h: starts 0 and 10, lateness 5; and after the same orders with N = 2, D = 1
+abbrev heldH : List Charge
+heldH = held 1 1 10 60 0 ∷ held 2 1 10 15 10 ∷ []
+
+abbrev pub stationH : State
+stationH = standing 1 100 0 3 heldH
+
+abbrev pub stationHTwo : State
+stationHTwo = standing 2 50 0 3 heldH
+
+-- at clock 1 ticket 2 waits for 1 and ticket 3, due at 11, for 11
+abbrev pub waitingSince : State
+waitingSince = standing 1 100 1 4 (held 2 1 10 60 1 ∷ held 3 1 10 11 11 ∷ [])
+
+-- at clock 2 ticket 1 charges on line 2 from 0 to 10, tickets 3 and 4, due at 12, wait for 2 and 12
+abbrev pub begunAndWaiting : State
+begunAndWaiting = standing 1 100 2 5 (held 1 2 10 60 0 ∷ held 3 1 10 60 2 ∷ held 4 1 10 12 12 ∷ [])

@@ -1,0 +1,54 @@
+-- Calls as they were, to compare with: the order of one call that N2 made a preview and a commit, and its refusals before N1.
+use mathlib.Core.Logic.{_⊎_}
+use mathlib.Core.Path.{_≡_}
+use Prim.Native.Nat.{ℕ, _+_}
+use mathlib.Core.Bool.{Bool, _||_}
+use mathlib.Core.List.{List, [], _∷_}
+use lib.Dec.{ltb, leb}
+use lib.ListN.{length}
+use Rattle.rules.specs.Basics.{Found, at, nothing, firstOf}
+use Rattle.rules.specs.Calls.{places, State, refused, previewed, committed, Result, answering, commit, newCharge, drawFor, startFor, orderRefusals, taking, step}
+
+-- Before N2
+
+-- "The start is the smallest s .. No other start moves. Answer: ticket and start."
+abbrev pub orderedAt : State → ℕ → ℕ → ℕ → Found → Result
+orderedAt s line p d (at start) =
+    record { answer = committed (s .next) start; state = taking s (newCharge s line p d start); list = [] }
+orderedAt s line p d nothing = record { answer = refused 0; state = s; list = [] }
+
+-- an order with these refusals
+abbrev pub orderedBy : List (Bool × ℕ) → State → ℕ → ℕ → ℕ → Result
+orderedBy rows s line p d = answering (firstOf rows) s [] (orderedAt s line p d (startFor s (drawFor s line p)))
+
+abbrev pub ordering : State → ℕ → ℕ → ℕ → Result
+ordering s line p d = orderedBy (orderRefusals s line p d) s line p d
+
+-- What a preview gave, and what an order gave: the preview shows a start, and the commit of it on the station that the preview
+-- left gives the same as the order; or the preview is refused, and so was the order.
+abbrev pub Together : ℕ → ℕ → ℕ → Result → Result → Type 0
+Together line p d shown before =
+    ((start : ℕ) × (shown .answer ≡ previewed start) × (step (shown .state) (commit line p d start) ≡ before))
+    ⊎ ((k : ℕ) × (shown .answer ≡ refused k) × (shown ≡ before))
+
+-- Before N1
+
+-- the refusals of an order: one row more
+abbrev pub earlierRefusals : State → ℕ → ℕ → ℕ → List (Bool × ℕ)
+earlierRefusals s line p d =
+    -- "line not 1 to 3"
+    (ltb line 1 || ltb 3 line, 4)
+    -- "p not 1 to 1,440"
+    ∷ (ltb p 1 || ltb 1440 p, 5)
+    -- "d above 2,000,000"
+    ∷ (ltb 2000000 d, 6)
+    -- "d below clock + p"
+    ∷ (ltb d (s .clock + p), 7)
+    -- "180 charges held"
+    ∷ (leb places (length (s .charges)), 13)
+    -- "65,535 tickets given"
+    ∷ (ltb 65535 (s .next), 14)
+    ∷ []
+
+abbrev pub earlierOrder : State → ℕ → ℕ → ℕ → Result
+earlierOrder s line p d = orderedBy (earlierRefusals s line p d) s line p d
