@@ -8,6 +8,7 @@
 use crate::protocol::{read_call, Call};
 use crate::script::{self, Line};
 use crate::yard;
+use std::cmp::Ordering;
 use std::fmt;
 
 /// What is wrong, and with which answer (the first is 1) it came out.
@@ -99,12 +100,23 @@ fn ensure(holds: bool, what: impl FnOnce() -> String) -> Checked {
     }
 }
 
+/// So many hundredths "rounded to the nearest whole number, an exact half to the even
+/// one" (N3).
+fn nearest(hundredths: u64) -> u64 {
+    let below = hundredths / 100;
+    match (hundredths % 100).cmp(&50) {
+        Ordering::Less => below,
+        Ordering::Equal => below + below % 2,
+        Ordering::Greater => below + 1,
+    }
+}
+
 impl Trace {
     /// "limit and bound are that station's N and D", "also from the one beside a
     /// refusal", which is the station of 1, 100.
     fn from_opening(limit: u32, percent: u32, refused: bool) -> Trace {
         let (limit, percent) = if refused { (1, 100) } else { (limit.into(), percent.into()) };
-        let bound = limit * percent / 100;
+        let bound = nearest(limit * percent);
         Trace { limit, bound, clock: 0, orders: Vec::new(), asked: false }
     }
 

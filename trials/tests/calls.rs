@@ -15,8 +15,8 @@ fn openings_refused() {
         &["refused 1", "refused 1", "refused 2", "refused 2"],
     );
     expect(
-        "open 1 99\nopen 60 1\nopen 60 2\nopen 59 0",
-        &["refused 3", "refused 3", "open 0 1", "refused 3"],
+        "open 1 50\nopen 1 51\nopen 50 1\nopen 51 1\nopen 59 0",
+        &["refused 3", "open 0 1", "refused 3", "open 0 1", "refused 3"],
     );
     expect(&format!("open {WORD} {WORD}\nopen 60 {WORD}"), &["refused 1", "refused 2"]);
 }

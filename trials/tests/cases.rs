@@ -31,8 +31,34 @@ fn after_h(more: &str, expected: &[&str]) {
 fn a_to_d_open() {
     expect("open 5 20", &["open 0 1"]);
     expect("open 10 10", &["open 0 1"]);
-    expect("open 9 11", &["refused 3"]);
+    expect("open 9 11", &["open 0 1"]);
     expect("open 60 100\nopen 61 100", &["open 0 60", "refused 1"]);
+}
+
+/// N3: hundredths, and the bound.
+#[test]
+fn n3_bounds_are_rounded_to_nearest() {
+    let text = "open 30 5\nopen 30 15\nopen 10 5\nopen 50 1\nopen 17 3\nopen 9 11\nopen 2 75";
+    let expected =
+        ["open 0 2", "open 0 4", "refused 3", "refused 3", "open 0 1", "open 0 1", "open 0 2"];
+    expect(text, &expected);
+}
+
+/// For every N and c in range 100 × D is within 50 of c × N, and D is even where it is
+/// exactly 50 away; the opening is refused where D is 0, that is up to c × N = 50.
+#[test]
+fn n3_every_bound() {
+    for limit in 1..=60u32 {
+        for percent in 0..=100u32 {
+            let exact = i64::from(limit * percent);
+            let answer = answers(reference(), &format!("open {limit} {percent}")).remove(0);
+            let bound = answer.strip_prefix("open 0 ").map_or(0, |bound| bound.parse().unwrap());
+            let away = (100 * bound - exact).abs();
+            assert!(away < 50 || (away == 50 && bound % 2 == 0), "{limit} {percent}: {answer}");
+            assert_eq!(answer == "refused 3", exact <= 50, "{limit} {percent}");
+            assert!(bound <= i64::from(limit), "{limit} {percent}: {answer}");
+        }
+    }
 }
 
 #[test]

@@ -142,3 +142,20 @@ fn stations_one_after_the_other() {
     let answers = script::reference_answers(&lines(text));
     assert_eq!(demand::check(&lines(text), &answers), Ok(()));
 }
+
+/// N3: beside empty lines so many of one line hold as the bound says, and one more
+/// does not.
+#[test]
+fn bounds_rounded_to_nearest() {
+    for (limit, percent, bound) in [(30, 5, 2), (30, 15, 4), (17, 3, 1), (9, 11, 1), (2, 75, 2)] {
+        let mut text = format!("open {limit} {percent}\n");
+        text += &"commit 1 1 1 0\n".repeat(bound);
+        text += "commit 1 1 1 1\n";
+        text.extend((1..=bound + 1).map(|ticket| format!("enquire {ticket}\n")));
+        let mut answers = script::reference_answers(&lines(&text));
+        assert_eq!(demand::check(&lines(&text), &answers), Ok(()));
+        *answers.last_mut().unwrap() = b"waiting 0".to_vec();
+        let broken = demand::check(&lines(&text), &answers).unwrap_err();
+        assert_eq!(broken.what, format!("minute 0 has counts [{}, 0, 0]", bound + 1));
+    }
+}

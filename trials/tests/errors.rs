@@ -12,7 +12,7 @@ use trials::script::Line;
 use trials::{demand, generate, script};
 
 /// With the kind of scripts that finds them, and how many lines are left at most.
-const FAULTY: [(&str, usize, &[Error]); 4] = [
+const FAULTY: [(&str, usize, &[Error]); 5] = [
     (
         "leaning",
         9,
@@ -57,6 +57,18 @@ const FAULTY: [(&str, usize, &[Error]); 4] = [
     ),
     // A full yard and one commit more.
     ("full", 182, &[Error::StartBeforePlaces]),
+    (
+        "openings",
+        1,
+        &[
+            Error::HalfUp,
+            Error::HalfDown,
+            Error::RoundedUp,
+            Error::RoundedDown,
+            Error::RoundedDownAndOpened,
+            Error::RefusedBelowAHundred,
+        ],
+    ),
 ];
 
 /// The rules give the last answer, the faulty yard another one.
@@ -174,6 +186,20 @@ fn a_full_yard_whatever_was_shown() {
     caught(Error::StartBeforePlaces, text.trim_end(), "refused 13", "refused 16");
 }
 
+/// N3. 1.5 and 4.5 are the halves at which up and down go wrong, 0.99 and 1.2 are
+/// nearer to 1.
+#[test]
+fn bounds_rounded_otherwise() {
+    caught(Error::HalfUp, "open 30 15", "open 0 4", "open 0 5");
+    caught(Error::HalfUp, "open 10 5", "refused 3", "open 0 1");
+    caught(Error::HalfDown, "open 30 5", "open 0 2", "open 0 1");
+    caught(Error::RoundedUp, "open 6 20", "open 0 1", "open 0 2");
+    caught(Error::RoundedUp, "open 50 1", "refused 3", "open 0 1");
+    caught(Error::RoundedDown, "open 9 11", "open 0 1", "refused 3");
+    caught(Error::RoundedDownAndOpened, "open 9 11", "open 0 1", "open 0 0");
+    caught(Error::RefusedBelowAHundred, "open 17 3", "open 0 1", "refused 3");
+}
+
 fn choice(kind: &str, scripts: u64) -> Choice<'_> {
     Choice { scripts, seed: 7, kind: Some(kind), ..Choice::default() }
 }
@@ -183,7 +209,10 @@ fn the_comparison_finds_every_faulty_yard() {
     for (kind, most, errors) in FAULTY {
         for error in errors {
             let faulty = Inside(|| Faulty::new(*error));
-            let failure = compare(&faulty, &choice(kind, 80)).expect_err(&format!("{error:?}"));
+            // All scripts of openings are alike, and long.
+            let scripts = if kind == "openings" { 1 } else { 80 };
+            let failure =
+                compare(&faulty, &choice(kind, scripts)).expect_err(&format!("{error:?}"));
             let lines = failure.lines.len();
             assert!(lines <= most, "{error:?} is left with {lines} lines");
             assert!(failure.what.contains("should be"), "{error:?}: {}", failure.what);

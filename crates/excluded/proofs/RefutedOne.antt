@@ -13,7 +13,7 @@ use Rattle.rules.proofs.Granted.{refusals-none}
 use Rattle.guarantee.specs.Past.{Gives}
 use Rattle.guarantee.specs.DemandOne.{DemandOne, DemandOneOpening}
 use Rattle.excluded.specs.WrongOrders.{shownAsWaiting, anySoundStart, shownIgnored}
-use Rattle.excluded.specs.WrongRefusals.{lineAccepted, lastRow, shownFirst, otherNumber, alwaysFull, hurryRefused, standstillRefused, ticketUsedUp, listCleared, ticketNotSaid, smallProduct, openedAsAsked, openingWrites, limitSaid, percentLost}
+use Rattle.excluded.specs.WrongRefusals.{lineAccepted, lastRow, shownFirst, otherNumber, alwaysFull, hurryRefused, standstillRefused, ticketUsedUp, listCleared, ticketNotSaid, zeroBound, smallProductRefused, openedAsAsked, openingWrites, limitSaid, percentLost, roundedDown}
 use Rattle.excluded.specs.Stations.{station}
 use Rattle.guarantee.proofs.Tables.{firstOf-is, is-firstOf}
 
@@ -115,10 +115,17 @@ ticket-not-said d = go (d .answered (refusals-none station (commit 1 10 60 0) re
 
 -- Openings
 
--- `number`: 50 is below 100
-small-product : DemandOneOpening smallProduct (settings 1 50) → ⊥
-small-product d =
+-- `number`: half of 1 is rounded to 0
+zero-bound : DemandOneOpening zeroBound (settings 1 50) → ⊥
+zero-bound d =
     let h : opened 0 ≡ refused 3 = d .refused-by .number 3 .1 (inr (refl, inr (refl, inl (refl, refl)))) in
+    let z : _≡_ {A = ℕ} 0 1 = cc in
+    omega arith
+
+-- `answered`, and with it `number`: 0.99 is rounded to 1
+small-product-refused : DemandOneOpening smallProductRefused (settings 9 11) → ⊥
+small-product-refused d =
+    let h : refused 3 ≡ opened 1 = d .answered (refl, (refl, (refl, tt))) .0 in
     let z : _≡_ {A = ℕ} 0 1 = cc in
     omega arith
 
@@ -147,4 +154,11 @@ limit-said d =
 percent-lost : DemandOneOpening percentLost (settings 10 10) → ⊥
 percent-lost d =
     let h : _≡_ {A = ℕ} 100 10 = ap (λ (s : State). s .percent) (d .answered (refl, (refl, (refl, tt))) .1) in
+    omega arith
+
+-- `answered`: 1.5 is rounded to 2
+rounded-down : DemandOneOpening roundedDown (settings 30 5) → ⊥
+rounded-down d =
+    let h : opened 1 ≡ opened 2 = d .answered (refl, (refl, (refl, tt))) .0 in
+    let z : _≡_ {A = ℕ} 1 2 = cc in
     omega arith

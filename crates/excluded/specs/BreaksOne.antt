@@ -3,7 +3,7 @@ use mathlib.Core.List.{List, [], _∷_, _++_, map}
 use Rattle.rules.specs.Entry.{lentList}
 use Rattle.rules.specs.Calls.{settings, preview, commit, move, opening, step}
 use Rattle.excluded.specs.WrongOrders.{shownAsWaiting, anySoundStart, shownIgnored}
-use Rattle.excluded.specs.WrongRefusals.{lineAccepted, lastRow, shownFirst, otherNumber, alwaysFull, hurryRefused, standstillRefused, ticketUsedUp, listCleared, ticketNotSaid, smallProduct, openedAsAsked, openingWrites, limitSaid, percentLost}
+use Rattle.excluded.specs.WrongRefusals.{lineAccepted, lastRow, shownFirst, otherNumber, alwaysFull, hurryRefused, standstillRefused, ticketUsedUp, listCleared, ticketNotSaid, zeroBound, smallProductRefused, openedAsAsked, openingWrites, limitSaid, percentLost, roundedDown}
 use Rattle.excluded.specs.Stations.{station}
 use Rattle.excluded.specs.Breaks.{Entry, computedBy, onlyOf}
 use Rattle.excluded.specs.FieldsOne.{Field, number, same-station, same-list, answered, fields, place, Trial, calledOn, openedBy, tested}
@@ -38,11 +38,14 @@ wrongCalls =
 
 abbrev pub wrongOpenings : List Breach
 wrongOpenings =
-    only (openedBy smallProduct (settings 1 50)) (number ∷ [])
+    only (openedBy zeroBound (settings 1 50)) (number ∷ [])
+    -- as above, an opening that is refused where no condition applies does not answer D either
+    ∷ only (openedBy smallProductRefused (settings 9 11)) (number ∷ answered ∷ [])
     ∷ only (openedBy openedAsAsked (settings 61 100)) (same-station ∷ [])
     ∷ only (openedBy openingWrites (settings 61 100)) (same-list ∷ [])
     ∷ only (openedBy limitSaid (settings 10 10)) (answered ∷ [])
     ∷ only (openedBy percentLost (settings 10 10)) (answered ∷ [])
+    ∷ only (openedBy roundedDown (settings 30 5)) (answered ∷ [])
     ∷ []
 
 -- the rules themselves for the same call or opening

@@ -138,6 +138,17 @@ ticketing t s =
       charges = s .charges;
     }
 
+abbrev pub bounding : ℕ → State → State
+bounding d s =
+    record {
+      limit = s .limit;
+      percent = s .percent;
+      bound = d;
+      clock = s .clock;
+      next = s .next;
+      charges = s .charges;
+    }
+
 abbrev pub putOff : Charge → Charge
 putOff c = starting c (suc (c .start))
 

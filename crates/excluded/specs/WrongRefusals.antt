@@ -1,12 +1,12 @@
 -- Wrong stations: refusals and openings that differ from the rules in one thing.
-use Prim.Native.Nat.{ℕ, suc, _+_}
+use Prim.Native.Nat.{ℕ, suc, _+_, _*_, _/_}
 use mathlib.Core.Bool.{Bool, cond, _||_}
 use mathlib.Core.List.{List, [], _∷_, _++_, map, reverse}
 use lib.Dec.{ltb, eqb}
 use Rattle.rules.specs.Basics.{firstOf, keep}
-use Rattle.rules.specs.Calls.{Settings, settings, State, refused, opened, waiting, Result, answering, boundOf, fresh, openRefusals, opening, refusals, previewing, committing, moving, step}
+use Rattle.rules.specs.Calls.{Settings, settings, State, refused, opened, waiting, Result, answering, fresh, openRefusals, opening, refusals, previewing, committing, moving, step}
 use Rattle.guarantee.specs.Past.{Gives, isRefused}
-use Rattle.excluded.specs.Parts.{withRefusals, withPreviews, withCommits, withMoves, unnumbered, saying, leaving, writing, ticketing}
+use Rattle.excluded.specs.Parts.{withRefusals, withPreviews, withCommits, withMoves, unnumbered, saying, leaving, writing, ticketing, bounding}
 
 -- line 4 is accepted
 abbrev pub lineAccepted : Gives
@@ -63,9 +63,13 @@ ticketNotSaid = withCommits (λ s line p d shown. saying (waiting shown) (commit
 abbrev openedBy : List (Bool × ℕ) → ℕ → State → Result
 openedBy rows d s = answering (firstOf rows) (fresh (settings 1 100)) [] (record { answer = opened d; state = s; list = [] })
 
--- c × N below 100 is accepted
-abbrev pub smallProduct : Settings → Result
-smallProduct x = openedBy (unnumbered 3 (openRefusals x)) (fresh x .bound) (fresh x)
+-- a D of 0 is accepted
+abbrev pub zeroBound : Settings → Result
+zeroBound x = openedBy (unnumbered 3 (openRefusals x)) (fresh x .bound) (fresh x)
+
+-- c × N below 100 is refused, where D may be 1
+abbrev pub smallProductRefused : Settings → Result
+smallProductRefused x = openedBy ((ltb (x .percent * x .limit) 100, 3) ∷ openRefusals x) (fresh x .bound) (fresh x)
 
 -- beside a refused opening stands what was asked for
 abbrev pub openedAsAsked : Settings → Result
@@ -82,3 +86,9 @@ limitSaid x = openedBy (openRefusals x) (x .limit) (fresh x)
 -- the percentage is not kept
 abbrev pub percentLost : Settings → Result
 percentLost x = openedBy (openRefusals x) (fresh x .bound) (fresh (settings (x .limit) 100))
+
+-- c × N / 100 rounded down
+abbrev pub roundedDown : Settings → Result
+roundedDown x =
+    let d : ℕ = x .percent * x .limit / 100 in
+    openedBy (openRefusals x) d (bounding d (fresh x))

@@ -14,7 +14,9 @@ use Rattle.rules.specs.Calls.{State, limitsOf, holding, Answer, refused, previe
 use Rattle.guarantee.specs.Past.{Gives}
 use Rattle.guarantee.specs.DemandOne.{NoneApplies}
 
--- Constraints III and IV in every minute from the clock on, with the lines as parameters.
+-- Constraints III and IV in every minute from the clock on, with the lines as parameters. "Soundness is compared with this D
+-- and no longer with the paper's formula (2); the other constraints still come from the paper": III is the paper's formula
+-- (1); its (2) asks that two counts differ by at most c × N / 100, and D is that number rounded, up or down (`boundOf`).
 pub record SoundPlan (s : State) (xs : List Load) : Type 0 where
   -- III: "each count is at most N"
   pub limit : (l t : ℕ) → IsLine l → s .clock ≤ t → count xs l t ≤ s .limit
@@ -32,7 +34,7 @@ Unbroken c = (t : ℕ) → (active (loadOf c) t ≡ true) ↔ ((c .start ≤ t) 
 pub record Better (s : State) (ss : List ℕ) (new : List Charge) : Type 0 where
   -- "it starts nothing before the clock,"
   pub not-before-clock : Each (λ u. s .clock ≤ u) ss
-  -- "meets constraints I to IV of the published paper,"
+  -- "meets constraints I to IV of the published paper,": I to III as the paper has them, IV with D for its formula (2)
   -- I: follows from the field above, since order minutes are not above the clock and begun charges keep their starts
   pub not-before-order : Each (λ c. c .orderMinute ≤ c .start) new
   -- II

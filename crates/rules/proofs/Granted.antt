@@ -1,16 +1,16 @@
 -- What holds of a call to which no refusal applies, read by name.
 use mathlib.Core.Path.{_≡_, refl, sym, ap}
-use Prim.Native.Nat.{ℕ, _*_, _≤_, _<_}
+use Prim.Native.Nat.{ℕ, _≤_, _<_}
 use mathlib.Core.Bool.{true, false, not, true≢false}
 use mathlib.Core.List.{List, [], _∷_}
 use native.Mathlib.Omega.{arith}
 use lib.Dec.{ltb, eqb}
 use lib.ListN.{length}
-use borrow.Author.Tests.{ltb-false, leb-false, not-false, eqb-true, eq-eqb}
+use borrow.Author.Tests.{ltb-false, leb-false, not-false, eqb-true, eqb-false, eq-eqb}
 use Rattle.rules.specs.Basics.{Found, at, nothing, firstOf, some}
 use Rattle.rules.specs.Load.{IsLine}
 use Rattle.rules.specs.Charge.{Charge, waitingCharges}
-use Rattle.rules.specs.Calls.{Settings, State, openRefusals, Call, preview, commit, move, offer, replanLatest, replanLines, enquire, drawFor, startFor, isStart, orderRefusals, refusals}
+use Rattle.rules.specs.Calls.{Settings, State, boundOf, openRefusals, Call, preview, commit, move, offer, replanLatest, replanLines, enquire, drawFor, startFor, isStart, orderRefusals, refusals}
 use Rattle.rules.proofs.Ranges.{or-left, or-right}
 use Rattle.rules.proofs.Lists.{each-append}
 use Rattle.rules.proofs.Tables.{NoneHolds, Numbered, firstOf-none, none-front}
@@ -38,15 +38,15 @@ pub record OpenGranted (x : Settings) : Type 0 where
   pub limit-low : 1 ≤ x .limit
   pub limit-high : x .limit ≤ 60
   pub percent-high : x .percent ≤ 100
-  pub bound-enough : 100 ≤ x .percent * x .limit
+  pub bound-low : 1 ≤ boundOf (x .limit) (x .percent)
 
 pub open-granted : (x : Settings) → NoneHolds (openRefusals x) → OpenGranted x
-open-granted x (limit, (percent, (enough, end))) =
+open-granted x (limit, (percent, (bound, end))) =
     record {
       limit-low = ltb-false (x .limit) 1 (or-left (ltb (x .limit) 1) (ltb 60 (x .limit)) limit);
       limit-high = ltb-false 60 (x .limit) (or-right (ltb (x .limit) 1) (ltb 60 (x .limit)) limit);
       percent-high = ltb-false 100 (x .percent) percent;
-      bound-enough = ltb-false (x .percent * x .limit) 100 enough;
+      bound-low = omega (arith, eqb-false (boundOf (x .limit) (x .percent)) 0 bound);
     }
 
 -- The calls

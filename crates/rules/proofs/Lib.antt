@@ -1,6 +1,7 @@
 pub mod Cases
 pub mod Ranges
 pub mod Lists
+pub mod Rounding
 pub mod Counts
 pub mod Searches
 pub mod Sorting

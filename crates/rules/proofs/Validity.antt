@@ -27,7 +27,7 @@ fresh-valid x g =
       limit-high = g .limit-high;
       percent-high = g .percent-high;
       bound-is = refl;
-      bound-low = omega (arith, g .bound-enough);
+      bound-low = g .bound-low;
       clock-high = omega arith;
       next-low = omega arith;
       next-high = omega arith;
@@ -50,7 +50,7 @@ opening-valid x = go (firstOf (openRefusals x)) refl
     go zero e = fresh-valid x (open-granted x (firstOf-none (openRefusals x) (openRefusals-numbered x) e))
     go (suc i) e =
         fresh-valid (settings 1 100)
-        (record { limit-low = omega arith; limit-high = omega arith; percent-high = omega arith; bound-enough = omega arith })
+        (record { limit-low = omega arith; limit-high = omega arith; percent-high = omega arith; bound-low = omega arith })
 
 -- All calls
 

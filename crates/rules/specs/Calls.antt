@@ -1,5 +1,5 @@
 -- The station, its calls, their refusals and answers (docs/RULES.md, sections 2 and 3).
-use Prim.Native.Nat.{ℕ, zero, suc, _-_, _*_, _/_}
+use Prim.Native.Nat.{ℕ, zero, suc, _+_, _-_, _*_, _/_, _%_}
 use mathlib.Core.Bool.{Bool, false, cond, not, _&&_, _||_}
 use mathlib.Core.List.{List, [], _∷_, _++_}
 use lib.Dec.{ltb, leb, eqb}
@@ -72,9 +72,14 @@ pub record Settings : Type 0 where
 abbrev pub settings : ℕ → ℕ → Settings
 settings n c = record { limit = n; percent = c }
 
--- "D is c × N / 100 rounded down."
+-- x / 100, up where more than a half is left, and where exactly a half is, up from an odd number and down to an even one
+abbrev pub nearestHundreds : ℕ → ℕ
+nearestHundreds x =
+    cond (ltb 50 (x % 100)) (x / 100 + 1) (cond (eqb (x % 100) 50) (x / 100 + x / 100 % 2) (x / 100))
+
+-- "D becomes c × N / 100 rounded to the nearest whole number, an exact half to the even one."
 abbrev pub boundOf : ℕ → ℕ → ℕ
-boundOf n c = c * n / 100
+boundOf n c = nearestHundreds (c * n)
 
 -- "A fresh station: clock 0, next ticket 1, no charges."
 abbrev pub fresh : Settings → State
@@ -94,8 +99,8 @@ openRefusals x =
     (ltb (x .limit) 1 || ltb 60 (x .limit), 1)
     -- "c above 100"
     ∷ (ltb 100 (x .percent), 2)
-    -- "c × N below 100"
-    ∷ (ltb (x .percent * x .limit) 100, 3)
+    -- "when this D is 0"
+    ∷ (eqb (boundOf (x .limit) (x .percent)) 0, 3)
     ∷ []
 
 -- "Beside a refused opening stands the fresh station of 1, 100."

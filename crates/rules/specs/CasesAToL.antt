@@ -41,7 +41,7 @@ casesAToL =
     -- a to d
     opens 5 20 (opened 1)
     ∷ opens 10 10 (opened 1)
-    ∷ opens 9 11 (refused 3)
+    ∷ opens 9 11 (opened 1)
     ∷ opens 60 100 (opened 60)
     ∷ opens 61 100 (refused 1)
     -- e

@@ -37,11 +37,16 @@ searches =
 -- Refusals, and what is just not refused
 abbrev refusalsAtEdges : List Case
 refusalsAtEdges =
-    -- "N not 1 to 60", "c above 100"; a, d and h open at 1, 60, 100 and with a product of 100
+    -- "N not 1 to 60", "c above 100"; d and h open at 1, 60 and 100
     opens 0 100 (refused 1)
     ∷ opens 1 101 (refused 2)
-    -- D is rounded down: 30 × 5 / 100 is 1.5.
-    ∷ opens 5 30 (opened 1)
+    -- An exact half goes to the even number: 1.5 up to 2, 4.5 down to 4.
+    ∷ opens 30 5 (opened 2)
+    ∷ opens 30 15 (opened 4)
+    -- A D of 0 is refused: 0.5 goes down to it, 0.51 does not.
+    ∷ opens 10 5 (refused 3)
+    ∷ opens 50 1 (refused 3)
+    ∷ opens 17 3 (opened 1)
     -- The refusals of a station that stands, each with the next condition of its table met too where it can be. The start
     -- that the commits show, 9, is not the earliest.
     ∷ case 1 100 1

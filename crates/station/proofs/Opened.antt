@@ -1,11 +1,11 @@
 -- The fresh station is valid, and what an opening that is not refused has been given.
 use mathlib.Core.Path.{_≡_, ap, sym, _∙_}
-use Prim.Native.Nat.{ℕ, _*_, _/_, _≤_, _<_}
+use Prim.Native.Nat.{ℕ, _*_, _≤_, _<_}
 use mathlib.Core.List.{[]}
 use native.Mathlib.Omega.{arith}
 use native.Mathlib.Nat.{mul-le-mul}
 use Rattle.rules.specs.Basics.{firstOf}
-use Rattle.rules.specs.Calls.{Settings, settings, State, refused, opened, fresh, openRefusals, opening}
+use Rattle.rules.specs.Calls.{Settings, settings, State, refused, opened, boundOf, fresh, openRefusals, opening}
 use Rattle.rules.proofs.Tables.{firstOf-none}
 use Rattle.rules.proofs.Granted.{OpenGranted, open-granted, openRefusals-numbered}
 use Rattle.charges.specs.declared.Charges.{Charges}
@@ -22,12 +22,12 @@ opens x e = open-granted x (firstOf-none (openRefusals x) (openRefusals-numbered
 pub product-most : (n c : ℕ) → n ≤ 60 → c ≤ 100 → c * n ≤ 6000
 product-most n c h l = omega (arith, mul-le-mul l h)
 
-abbrev pub freshStation : ℕ → ℕ → Charges → Station
-freshStation n c h = record { limit = n; percent = c; bound = c * n / 100; clock = 0; next = 1; charges = h }
+abbrev pub freshStation : ℕ → ℕ → ℕ → Charges → Station
+freshStation n c d h = record { limit = n; percent = c; bound = d; clock = 0; next = 1; charges = h }
 
-module _ (n c : ℕ) (h : Charges) (none : Holds [] h) where
-  pub view-fresh : view (freshStation n c h) ≡ fresh (settings n c)
-  view-fresh = rw (none .charges)
+pub view-fresh :
+    (n c d : ℕ) (h : Charges) → d ≡ boundOf n c → Holds [] h → view (freshStation n c d h) ≡ fresh (settings n c)
+view-fresh n c d h e none = rw (e, none .charges)
 
 -- The result of an opening
 

@@ -14,6 +14,7 @@ use Rattle.rules.specs.Charge.{lateness, waitingCharges}
 use Rattle.rules.specs.Replan.{Proposal, starts, none, latest, Replanned, byLines}
 use Rattle.rules.specs.Judgement.{restarted, judged}
 use Rattle.rules.specs.Calls.{Answer, refused, planned, limitsOf, decided, tested, offering, replanningLatest, replanningLines, refusals, Call, lent, granted, offer, replanLatest, replanLines, step}
+use Rattle.rules.proofs.Rounding.{bound-at-most}
 use Rattle.charges.specs.declared.Charges.{Charges}
 use Rattle.charges.specs.Arrays.{chargesOf, Columns, Holds}
 use Rattle.planner.specs.declared.Proposed.{Proposed}
@@ -27,7 +28,6 @@ use Rattle.station.specs.View.{view, Valid}
 use Rattle.station.specs.Answers.{giving}
 use Rattle.station.proofs.Refusing.{call-refused, call-granted}
 use Rattle.station.proofs.Listing.{valid-listed}
-use Rattle.station.proofs.Opened.{product-most}
 
 -- what the planners ask of a valid station
 pub valid-ready : (s : Station) → Valid s → Ready (s .clock) (s .limit) (s .bound) (s .charges)
@@ -42,7 +42,8 @@ valid-ready s v =
           omega (
             arith,
             v .state .bound-is,
-            product-most (s .limit) (s .percent) (v .state .limit-high) (v .state .percent-high),
+            v .state .limit-high,
+            bound-at-most (s .limit) (s .percent) (v .state .percent-high),
           );
     }
 

@@ -3,7 +3,7 @@ use crate::Station;
 ghost use mathlib.Core.Path.{_≡_};
 ghost use mathlib.Core.List.{[]};
 ghost use Rattle.rules.specs.Basics.{firstOf};
-ghost use Rattle.rules.specs.Calls.{fresh as freshState, openRefusals, opening};
+ghost use Rattle.rules.specs.Calls.{nearestHundreds, fresh as freshState, openRefusals, opening};
 ghost use Rattle.charges.specs.Arrays.{Columns};
 ghost use Rattle.station.specs.View.{view};
 ghost use Rattle.station.specs.Answers.{Gives, settingsOf, openAnswer};
@@ -24,6 +24,21 @@ pub struct Opening {
     pub station: Station,
 }
 
+// product / 100 "rounded to the nearest whole number, an exact half to the even one".
+fn nearest_hundreds(product: u32) -> u32
+    ensures { λ r. ⌜ r ≡ nearestHundreds product ⌝ }
+{
+    let whole = product / 100;
+    let rest = product % 100;
+    if 50 < rest {
+        return whole + 1;
+    }
+    if rest == 50 {
+        return whole + whole % 2;
+    }
+    whole
+}
+
 // The number of the first refusal of an opening, 0 where none applies.
 fn open_refusal(settings: Settings) -> u32
     ensures { λ r. ⌜ r ≡ firstOf (openRefusals (settingsOf settings)) ⌝ }
@@ -39,7 +54,9 @@ fn open_refusal(settings: Settings) -> u32
     if 100 < percent {
         return 2;
     }
-    if percent * limit < 100 {
+    let product = percent * limit;
+    let bound = nearest_hundreds(product);
+    if bound == 0 {
         return 3;
     }
     0
@@ -51,10 +68,12 @@ fn fresh(settings: Settings) -> Station
 {
     let limit = settings.limit;
     let percent = settings.percent;
+    let product = percent * limit;
+    let bound = nearest_hundreds(product);
     Station {
         limit,
         percent,
-        bound: percent * limit / 100,
+        bound,
         clock: 0,
         next: 1,
         charges: charges::Charges::none(),

@@ -34,6 +34,13 @@ impl Charge {
     }
 }
 
+/// c × N / 100 rounded to the nearest whole number, an exact half to the even one.
+fn bound(limit: u32, percent: u32) -> u32 {
+    let (whole, rest) = (limit * percent / 100, limit * percent % 100);
+    let up = rest > 50 || (rest == 50 && whole % 2 == 1);
+    whole + u32::from(up)
+}
+
 pub struct Station {
     pub rules: Rules,
     pub clock: u32,
@@ -44,7 +51,7 @@ pub struct Station {
 impl Station {
     pub fn fresh(limit: u32, percent: u32) -> Station {
         Station {
-            rules: Rules { limit: limit as u8, bound: (limit * percent / 100) as u8 },
+            rules: Rules { limit: limit as u8, bound: bound(limit, percent) as u8 },
             clock: 0,
             next_ticket: 1,
             charges: Vec::with_capacity(PLACES),
@@ -95,7 +102,7 @@ impl Yard for Station {
             1
         } else if percent > 100 {
             2
-        } else if percent * limit < 100 {
+        } else if bound(limit, percent) == 0 {
             3
         } else {
             *self = Station::fresh(limit, percent);

@@ -32,13 +32,27 @@ pub fn order(author: &mut Author, line: u32, longest: u64) {
     author.commit(order, author.shown(order));
 }
 
+/// The smallest percentage that gives this limit a bound of at least 1: more than half
+/// a point.
+pub fn least_percent(limit: u64) -> u64 {
+    50 / limit + 1
+}
+
 /// An opening with this limit and a bound of at least 1.
 pub fn open(author: &mut Author, limit: u64) {
-    let least = 100u64.div_ceil(limit);
-    let percent = match author.random.below(3) {
+    let least = least_percent(limit);
+    let percent = match author.random.below(4) {
         0 => least,
-        1 => author.random.between(least, (2 * least).min(100)),
+        1 => author.random.between(least, (4 * least).min(100)),
+        2 => halfway(author, limit).unwrap_or(least),
         _ => author.random.between(least, 100),
     };
     author.open(limit as u32, percent as u32);
+}
+
+/// A percentage with which c × N / 100 lies just between two whole numbers.
+fn halfway(author: &mut Author, limit: u64) -> Option<u64> {
+    let halves: Vec<u64> =
+        (least_percent(limit)..=100).filter(|percent| percent * limit % 100 == 50).collect();
+    (!halves.is_empty()).then(|| author.random.pick(&halves))
 }

@@ -3,6 +3,7 @@
 //! place goes before its number".
 
 use super::author::Author;
+use super::due;
 use crate::protocol::Call;
 use crate::yard::Order;
 
@@ -20,7 +21,7 @@ fn argument(author: &mut Author, usual: u32, edges: &[u32]) -> u32 {
 fn opening(author: &mut Author) {
     let usual = author.random.between(1, 5) as u32;
     let limit = argument(author, usual, &[0, 1, 2, 59, 60, 61]);
-    let least = 100u32.div_ceil(limit.clamp(1, 60));
+    let least = due::least_percent(u64::from(limit.clamp(1, 60))) as u32;
     let usual = author.random.between(u64::from(least), 100) as u32;
     let percent = argument(author, usual, &[0, 1, least - 1, least, 99, 100, 101]);
     author.open(limit, percent);

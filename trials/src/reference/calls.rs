@@ -3,7 +3,7 @@
 //! stay."
 
 use super::search::smallest_start;
-use super::station::{Charge, Station, PLACES};
+use super::station::{bound, Charge, Station, PLACES};
 use crate::yard::{Committed, Found, Moved, Order, Planned, Refusal, Yard};
 
 /// The refusals of a call, each with the condition for it, in the order of their places.
@@ -47,15 +47,13 @@ impl Station {
 }
 
 impl Yard for Station {
-    /// "Beside a refused opening stands the fresh station of 1, 100."
+    /// "Beside a refused opening stands the fresh station of 1, 100." "Refusal 3 is
+    /// given when this D is 0" (N3).
     fn open(&mut self, limit: u32, percent: u32) -> Result<u32, Refusal> {
         let (limit, percent) = (u64::from(limit), u64::from(percent));
         *self = Station::fresh(1, 100);
-        refuse_first(&[
-            (1, !(1..=60).contains(&limit)),
-            (2, percent > 100),
-            (3, percent * limit < 100),
-        ])?;
+        refuse_first(&[(1, !(1..=60).contains(&limit)), (2, percent > 100)])?;
+        refuse_first(&[(3, bound(limit, percent) == 0)])?;
         *self = Station::fresh(limit, percent);
         Ok(self.bound as u32)
     }

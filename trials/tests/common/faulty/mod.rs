@@ -3,6 +3,7 @@
 //! "When the yard takes delivery", and the wrong programs of each request. All else
 //! is the reference's.
 
+mod bounds;
 mod commits;
 mod lists;
 mod starts;
@@ -46,6 +47,15 @@ pub enum Error {
     PreviewShowsTheLastEnd,
     /// 16 before 13.
     StartBeforePlaces,
+    // N3, balance bound rounded to nearest
+    HalfUp,
+    HalfDown,
+    RoundedUp,
+    RoundedDown,
+    /// Rounded down, but refused 3 only where the right bound is 0.
+    RoundedDownAndOpened,
+    /// The right bound, but refused 3 by c × N below 100.
+    RefusedBelowAHundred,
 }
 
 #[derive(Clone)]
@@ -113,7 +123,7 @@ impl Faulty {
 impl Yard for Faulty {
     fn open(&mut self, limit: u32, percent: u32) -> Result<u32, Refusal> {
         self.reported = false;
-        self.station.open(limit, percent)
+        self.opened(limit, percent)
     }
 
     fn preview(&mut self, order: Order) -> Result<u64, Refusal> {

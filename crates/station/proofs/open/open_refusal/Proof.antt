@@ -1,6 +1,8 @@
-use borrow.Author.Tests.{lt-ltb, le-ltb}
-use Rattle.station.proofs.Opened.{product-most}
+use mathlib.Core.Path.{sym, _∙_}
 use native.Mathlib.Omega.{arith}
+use borrow.Author.Tests.{lt-ltb, le-ltb, eq-eqb, ne-eqb}
+use borrow.Author.Needs.{needs}
+use Rattle.station.proofs.Opened.{product-most}
 use Rattle.station.proofs.open.open_refusal.Statement.{statement}
 use Rattle.station.proofs.open.open_refusal.Tie as tie
 
@@ -14,16 +16,20 @@ returns-3 : tie.Need-returns-3
 returns-3 c =
     simp (le-ltb _ _ (c .before .before .if1 .left), le-ltb _ _ (c .before .if2 .left), lt-ltb _ _ (c .if3 .taken))
 
-mul-if4 : tie.Need-mul-if4
-mul-if4 c = omega (arith, product-most _ _ (c .before .if2 .left) (c .if3 .left))
+mul-product : tie.Need-mul-product
+mul-product c = omega (arith, product-most _ _ (c .before .if2 .left) (c .if3 .left))
+
+nearest-hundreds-requires : tie.Need-nearest-hundreds-requires
+nearest-hundreds-requires c κs = search needs
 
 returns-4 : tie.Need-returns-4
 returns-4 c =
-    simp (le-ltb _ _ (c .before .before .before .if1 .left), le-ltb _ _ (c .before .before .if2 .left), le-ltb _ _ (c .before .if3 .left), lt-ltb _ _ (c .if4 .taken))
+    simp (le-ltb _ _ (c .before .before .before .before .if1 .left), le-ltb _ _ (c .before .before .before .if2 .left), le-ltb _ _ (c .before .before .if3 .left), eq-eqb _ 0 (sym (c .before .nearest-hundreds .ensures) ∙ omega arith))
 
 returns-5 : tie.Need-returns-5
 returns-5 c =
-    simp (le-ltb _ _ (c .before .before .before .if1 .left), le-ltb _ _ (c .before .before .if2 .left), le-ltb _ _ (c .before .if3 .left), le-ltb _ _ (c .if4 .left))
+    simp (le-ltb _ _ (c .before .before .before .before .if1 .left), le-ltb _ _ (c .before .before .before .if2 .left), le-ltb _ _ (c .before .before .if3 .left), ne-eqb _ 0 (λ e. c .if4 .left (c .before .nearest-hundreds .ensures ∙ e)))
 
 pub open-refusal-spec : {M : Type 1} → statement M
-open-refusal-spec = tie.close (tie.spec returns returns-2 returns-3 mul-if4 returns-4 returns-5)
+open-refusal-spec =
+    tie.close (tie.spec returns returns-2 returns-3 mul-product nearest-hundreds-requires returns-4 returns-5)
