@@ -7,6 +7,8 @@
 
 use crate::protocol::{read_call, Call};
 use crate::script::{self, Line};
+use crate::yard;
+use std::cmp::Ordering;
 use std::fmt;
 
 /// What is wrong, and with which answer (the first is 1) it came out.
@@ -22,8 +24,8 @@ impl fmt::Display for Broken {
     }
 }
 
-/// "An order is accepted when it is answered with a ticket. Its order minute is
-/// the clock at that moment; its line and p are those passed in."
+/// "an order is accepted at its commit" (N2), "when it is answered with a ticket. Its
+/// order minute is the clock at that moment; its line and p are those passed in."
 struct Order {
     line: u32,
     time: u64,
@@ -98,12 +100,23 @@ fn ensure(holds: bool, what: impl FnOnce() -> String) -> Checked {
     }
 }
 
+/// So many hundredths "rounded to the nearest whole number, an exact half to the even
+/// one" (N3).
+fn nearest(hundredths: u64) -> u64 {
+    let below = hundredths / 100;
+    match (hundredths % 100).cmp(&50) {
+        Ordering::Less => below,
+        Ordering::Equal => below + below % 2,
+        Ordering::Greater => below + 1,
+    }
+}
+
 impl Trace {
     /// "limit and bound are that station's N and D", "also from the one beside a
     /// refusal", which is the station of 1, 100.
     fn from_opening(limit: u32, percent: u32, refused: bool) -> Trace {
         let (limit, percent) = if refused { (1, 100) } else { (limit.into(), percent.into()) };
-        let bound = limit * percent / 100;
+        let bound = nearest(limit * percent);
         Trace { limit, bound, clock: 0, orders: Vec::new(), asked: false }
     }
 
@@ -118,7 +131,7 @@ impl Trace {
                 *self = Trace::from_opening(*limit, *percent, refused);
                 Ok(())
             }
-            (Call::Order { line, time, .. }, false) => self.accepted(*line, *time, answer),
+            (Call::Commit { order, .. }, false) => self.accepted(order, answer),
             (Call::Move { target, .. }, false) => self.moved(u64::from(*target), answer),
             _ => Ok(()),
         }
@@ -142,16 +155,21 @@ impl Trace {
     }
 
     /// "tickets are 1, 2, 3 and so on in the order of acceptance"
-    fn accepted(&mut self, line: u32, time: u32, answer: &Answer) -> Checked {
+    fn accepted(&mut self, order: &yard::Order, answer: &Answer) -> Checked {
         ensure(answer.words == "ticket start" && answer.numbers.len() == 2, || {
-            format!("an order is answered with '{}'", answer.words)
+            format!("a commit is answered with '{}'", answer.words)
         })?;
         let ticket = self.orders.len() as u64 + 1;
         ensure(answer.numbers[0] == ticket, || {
             format!("ticket {} where {ticket} is next", answer.numbers[0])
         })?;
-        let (time, order) = (u64::from(time), self.clock);
-        self.orders.push(Order { line, time, order, reported: None, waiting: None });
+        self.orders.push(Order {
+            line: order.line,
+            time: u64::from(order.time),
+            order: self.clock,
+            reported: None,
+            waiting: None,
+        });
         Ok(())
     }
 

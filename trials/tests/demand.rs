@@ -7,14 +7,14 @@ use trials::demand;
 use trials::script::{self, Line};
 
 const SCRIPT: &str = "open 2 50
-order 1 10 60
-order 1 10 15
-order 2 5 60
+commit 1 10 60 0
+commit 1 10 15 10
+commit 2 5 60 0
 move 4 360
-order 3 4 60
+commit 3 4 60 4
 move 12 360
-order 1 3 20
-order 1 3 20
+commit 1 3 20 20
+commit 1 3 20 23
 enquire 0
 enquire 1
 enquire 2
@@ -116,7 +116,7 @@ fn counts_and_ends() {
 /// that is long gone.
 #[test]
 fn minutes_gone() {
-    let text = "open 1 100\norder 1 5 5\norder 1 5 10\nmove 20 360\nenquire 1\nenquire 2";
+    let text = "open 1 100\ncommit 1 5 5 0\ncommit 1 5 10 5\nmove 20 360\nenquire 1\nenquire 2";
     let mut answers = script::reference_answers(&lines(text));
     assert_eq!(demand::check(&lines(text), &answers), Ok(()));
     answers[3] = b"moved 2 dropped 2 1 0 2 4".to_vec();
@@ -127,7 +127,7 @@ fn minutes_gone() {
 /// An order that was neither reported nor asked for leaves the claim open.
 #[test]
 fn unknown_starts() {
-    let text = "order 1 5 5";
+    let text = "commit 1 5 5 0";
     let answers = script::reference_answers(&lines(text));
     let broken = demand::check(&lines(text), &answers).unwrap_err();
     assert_eq!(broken.what, "ticket 1 neither reported nor found");
@@ -137,8 +137,25 @@ fn unknown_starts() {
 /// Each opening ends the claim about the station before it.
 #[test]
 fn stations_one_after_the_other() {
-    let text = "order 1 5 5\nenquire 1\nopen 61 1\norder 2 5 5\norder 2 5 9\nmove 5 360\n\
-                enquire 1\nenquire 2\nopen 60 100\norder 3 1 1\nenquire 1";
+    let text = "commit 1 5 5 0\nenquire 1\nopen 61 1\ncommit 2 5 5 0\ncommit 2 5 9 5\nmove 5 360\n\
+                enquire 1\nenquire 2\nopen 60 100\ncommit 3 1 1 0\nenquire 1";
     let answers = script::reference_answers(&lines(text));
     assert_eq!(demand::check(&lines(text), &answers), Ok(()));
+}
+
+/// N3: beside empty lines so many of one line hold as the bound says, and one more
+/// does not.
+#[test]
+fn bounds_rounded_to_nearest() {
+    for (limit, percent, bound) in [(30, 5, 2), (30, 15, 4), (17, 3, 1), (9, 11, 1), (2, 75, 2)] {
+        let mut text = format!("open {limit} {percent}\n");
+        text += &"commit 1 1 1 0\n".repeat(bound);
+        text += "commit 1 1 1 1\n";
+        text.extend((1..=bound + 1).map(|ticket| format!("enquire {ticket}\n")));
+        let mut answers = script::reference_answers(&lines(&text));
+        assert_eq!(demand::check(&lines(&text), &answers), Ok(()));
+        *answers.last_mut().unwrap() = b"waiting 0".to_vec();
+        let broken = demand::check(&lines(&text), &answers).unwrap_err();
+        assert_eq!(broken.what, format!("minute 0 has counts [{}, 0, 0]", bound + 1));
+    }
 }

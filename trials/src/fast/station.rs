@@ -3,7 +3,7 @@
 //! kept it from call to call would save that; docs/BENCHMARKS.md says how much.
 
 use super::profile::{Load, Profile, Rules};
-use crate::yard::{Found, Moved, Ordered, Planned, Refusal, Yard};
+use crate::yard::{Committed, Found, Moved, Order, Planned, Refusal, Yard};
 
 const PLACES: usize = 180;
 const LAST_TICKET: u32 = 65_535;
@@ -34,6 +34,13 @@ impl Charge {
     }
 }
 
+/// c × N / 100 rounded to the nearest whole number, an exact half to the even one.
+fn bound(limit: u32, percent: u32) -> u32 {
+    let (whole, rest) = (limit * percent / 100, limit * percent % 100);
+    let up = rest > 50 || (rest == 50 && whole % 2 == 1);
+    whole + u32::from(up)
+}
+
 pub struct Station {
     pub rules: Rules,
     pub clock: u32,
@@ -44,14 +51,15 @@ pub struct Station {
 impl Station {
     pub fn fresh(limit: u32, percent: u32) -> Station {
         Station {
-            rules: Rules { limit: limit as u8, bound: (limit * percent / 100) as u8 },
+            rules: Rules { limit: limit as u8, bound: bound(limit, percent) as u8 },
             clock: 0,
             next_ticket: 1,
             charges: Vec::with_capacity(PLACES),
         }
     }
 
-    fn check_order(&self, line: u32, time: u32, due: u32) -> Result<(), Refusal> {
+    fn check_order(&self, order: Order) -> Result<(), Refusal> {
+        let Order { line, time, due } = order;
         if !(1..=3).contains(&line) {
             return Err(4);
         }
@@ -68,6 +76,13 @@ impl Station {
             return Err(14);
         }
         Ok(())
+    }
+
+    /// One search serves preview and commit.
+    fn earliest(&self, order: Order) -> Result<u32, Refusal> {
+        self.check_order(order)?;
+        let profile = Profile::of(self.charges.iter().map(Charge::load), self.clock);
+        Ok(profile.earliest(order.line as usize - 1, order.time, self.clock, self.rules))
     }
 
     pub fn waiting(&self) -> impl Iterator<Item = &Charge> {
@@ -87,7 +102,7 @@ impl Yard for Station {
             1
         } else if percent > 100 {
             2
-        } else if percent * limit < 100 {
+        } else if bound(limit, percent) == 0 {
             3
         } else {
             *self = Station::fresh(limit, percent);
@@ -97,15 +112,20 @@ impl Yard for Station {
         Err(refusal)
     }
 
-    fn order(&mut self, line: u32, time: u32, due: u32) -> Result<Ordered, Refusal> {
-        self.check_order(line, time, due)?;
-        let line = line as usize - 1;
-        let profile = Profile::of(self.charges.iter().map(Charge::load), self.clock);
-        let start = profile.earliest(line, time, self.clock, self.rules);
+    fn preview(&mut self, order: Order) -> Result<u64, Refusal> {
+        Ok(u64::from(self.earliest(order)?))
+    }
+
+    fn commit(&mut self, order: Order, shown: u32) -> Result<Committed, Refusal> {
+        let start = self.earliest(order)?;
+        if shown != start {
+            return Err(16);
+        }
+        let Order { line, time, due } = order;
         let ticket = self.next_ticket;
-        self.charges.push(Charge { ticket, line, time, due, start });
+        self.charges.push(Charge { ticket, line: line as usize - 1, time, due, start });
         self.next_ticket += 1;
-        Ok(Ordered { ticket, start: u64::from(start) })
+        Ok(Committed { ticket, start: u64::from(start) })
     }
 
     fn move_clock(&mut self, target: u32, report: &mut [u32]) -> Result<Moved, Refusal> {

@@ -66,10 +66,9 @@ pub struct Station {
 }
 
 impl Station {
-    /// "A fresh station: clock 0, next ticket 1, no charges." "D is c × N / 100
-    /// rounded down."
+    /// "A fresh station: clock 0, next ticket 1, no charges."
     pub fn fresh(limit: u64, percent: u64) -> Station {
-        let bound = percent * limit / 100;
+        let bound = bound(limit, percent);
         Station { limit, percent, bound, clock: 0, next_ticket: 1, charges: Vec::new() }
     }
 
@@ -96,6 +95,14 @@ impl Station {
         }
         charges
     }
+}
+
+/// "D becomes c × N / 100 rounded to the nearest whole number, an exact half to the
+/// even one" (N3). Found by trying: of all whole numbers up to N the one that is least
+/// away, in hundredths, and the even one of two that are.
+pub fn bound(limit: u64, percent: u64) -> u64 {
+    let away = |whole: u64| (100 * whole).abs_diff(percent * limit);
+    (0..=limit).min_by_key(|whole| (away(*whole), whole % 2)).expect("0 is always tried")
 }
 
 /// "**Lateness** is the sum of max(0, end − d) over the charges held"

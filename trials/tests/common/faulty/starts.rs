@@ -23,8 +23,9 @@ impl Faulty {
         })
     }
 
-    /// The start of an order, where the error is about it.
-    pub fn start_of(&self, charge: &Charge) -> Option<u64> {
+    /// The earliest start of an order. A plan that an error has made unsound may leave
+    /// none; then it is the clock.
+    pub fn earliest(&self, charge: &Charge) -> u64 {
         let Station { clock, charges: held, .. } = &self.station;
         let rules = self.station.rules();
         let start = match self.error {
@@ -45,9 +46,9 @@ impl Faulty {
                 };
                 counts.iter().all(sound)
             }),
-            _ => return None,
+            _ => smallest_start(held, charge, *clock, rules),
         };
-        Some(start.unwrap_or(*clock))
+        start.unwrap_or(*clock)
     }
 }
 
