@@ -12,10 +12,10 @@ use trials::script::Line;
 use trials::{demand, generate, script};
 
 /// With the kind of scripts that finds them, and how many lines are left at most.
-const FAULTY: [(&str, usize, &[Error]); 5] = [
+const FAULTY: [(&str, usize, &[Error]); 6] = [
     (
         "leaning",
-        9,
+        13,
         &[
             Error::BalanceOnlyAtTheStart,
             Error::BegunTakenAsSound,
@@ -69,6 +69,20 @@ const FAULTY: [(&str, usize, &[Error]); 5] = [
             Error::RefusedBelowAHundred,
         ],
     ),
+    (
+        "rates",
+        9,
+        &[
+            Error::RateNotInTheBalance,
+            Error::SecondHalfOnTheNextLine,
+            Error::RateAgainstTheLimitOnly,
+            Error::RateAfterDue,
+            Error::RateLostByAPlan,
+            Error::RateNotShown,
+            Error::CapsCountCharges,
+            Error::PlacedChargeHidden,
+        ],
+    ),
 ];
 
 /// The rules give the last answer, the faulty yard another one.
@@ -83,7 +97,8 @@ fn caught(error: Error, text: &str, right: &str, wrong: &str) {
 /// break it later." Line 2 ends in minute 5, and then the lines count 2, 0, 1.
 #[test]
 fn balance_only_at_the_start() {
-    let text = "open 2 50\ncommit 2 5 60 0\ncommit 1 10 60 0\ncommit 3 10 60 0\npreview 1 10 60";
+    let text =
+        "open 2 50\ncommit 2 5 60 1 0\ncommit 1 10 60 1 0\ncommit 3 10 60 1 0\npreview 1 10 60 1";
     caught(Error::BalanceOnlyAtTheStart, text, "start 10", "start 0");
 }
 
@@ -91,10 +106,11 @@ fn balance_only_at_the_start() {
 /// as in g."
 #[test]
 fn begun_charges_alone() {
-    let text = "open 2 50\ncommit 1 10 60 0\ncommit 3 10 60 0\ncommit 2 5 60 0\ncommit 2 5 60 0\n\
-                commit 2 5 20 5\ncommit 1 10 60 0\nmove 1 360\ncommit 3 3 10 1\nlatest";
+    let text =
+        "open 2 50\ncommit 1 10 60 1 0\ncommit 3 10 60 1 0\ncommit 2 5 60 1 0\ncommit 2 5 60 1 0\n\
+                commit 2 5 20 1 5\ncommit 1 10 60 1 0\nmove 1 360\ncommit 3 3 10 1 1\nlatest";
     caught(Error::BegunTakenAsSound, text, "plan 1 0 0 0", "plan 7 0 0 0");
-    let text = "open 1 100\ncommit 1 10 60 0\npreview 1 10 15";
+    let text = "open 1 100\ncommit 1 10 60 1 0\npreview 1 10 15 1";
     caught(Error::WaitingIgnored, text, "start 10", "start 0");
 }
 
@@ -102,17 +118,17 @@ fn begun_charges_alone() {
 /// minute late."
 #[test]
 fn counted_in_the_minute_of_the_end() {
-    let text = "open 1 100\ncommit 1 10 60 0\npreview 1 10 15";
+    let text = "open 1 100\ncommit 1 10 60 1 0\npreview 1 10 15 1";
     caught(Error::CountedInTheMinuteOfTheEnd, text, "start 10", "start 11");
 }
 
 /// "Treating a start equal to the clock as begun."
 #[test]
 fn start_at_the_clock() {
-    let h = "open 1 100\ncommit 1 10 60 0\ncommit 1 10 15 10\n";
+    let h = "open 1 100\ncommit 1 10 60 1 0\ncommit 1 10 15 1 10\n";
     let error = Error::StartAtTheClockIsBegun;
     caught(error, &format!("{h}latest"), "plan 0 5 0 0", "plan 7 5 5 0");
-    caught(error, &format!("{h}enquire 1"), "waiting 0", "charging 0 10");
+    caught(error, &format!("{h}enquire 1"), "waiting 0 1", "charging 0 10 1");
     caught(error, &format!("{h}offer 10 0"), "plan 0 5 0 0", "refused 10");
     caught(error, &format!("{h}move 1 360"), "moved 1 dropped 0 1 0", "moved 0 dropped 0");
 }
@@ -121,7 +137,7 @@ fn start_at_the_clock() {
 /// none of line 3 are balanced pair by neighbouring pair.
 #[test]
 fn neighbouring_lines_only() {
-    let text = "open 2 50\ncommit 2 10 60 0\ncommit 1 10 60 0\npreview 1 10 60";
+    let text = "open 2 50\ncommit 2 10 60 1 0\ncommit 1 10 60 1 0\npreview 1 10 60 1";
     caught(Error::NeighbouringLinesOnly, text, "start 10", "start 0");
 }
 
@@ -129,31 +145,31 @@ fn neighbouring_lines_only() {
 #[test]
 fn latest_starts_below_zero() {
     let queue =
-        "open 1 100\ncommit 1 40 40 0\ncommit 1 10 7 40\ncommit 1 20 24 50\ncommit 1 10 0 70";
+        "open 1 100\ncommit 1 40 40 1 0\ncommit 1 10 7 1 40\ncommit 1 20 24 1 50\ncommit 1 10 0 1 70";
     for replan in ["latest", "lines 1"] {
         let text = format!("{queue}\n{replan}\nenquire 4");
-        caught(Error::LatestStartCutAtZero, &text, "waiting 0", "waiting 50");
+        caught(Error::LatestStartCutAtZero, &text, "waiting 0 1", "waiting 50 1");
         // Negative ones last would be later than the held plan, so ticket 4 stays last.
-        caught(Error::LatestStartUnsigned, &text, "waiting 0", "waiting 70");
+        caught(Error::LatestStartUnsigned, &text, "waiting 0 1", "waiting 70 1");
     }
 }
 
 /// N1. Two latest starts of -3.
 #[test]
 fn equal_latest_starts_below_zero() {
-    let queue = "open 1 100\ncommit 1 20 60 0\ncommit 1 10 7 20\ncommit 1 13 10 30";
+    let queue = "open 1 100\ncommit 1 20 60 1 0\ncommit 1 10 7 1 20\ncommit 1 13 10 1 30";
     for replan in ["latest", "lines 1"] {
         let text = format!("{queue}\n{replan}\nenquire 2");
-        caught(Error::HigherTicketFirst, &text, "waiting 0", "waiting 13");
+        caught(Error::HigherTicketFirst, &text, "waiting 0 1", "waiting 13 1");
     }
 }
 
 /// N1. "its lateness counts from the due minute given", be it 0 at a late clock.
 #[test]
 fn lateness_from_the_due_minute_given() {
-    let text = "open 1 100\nmove 500 360\ncommit 1 10 0 500\nlatest";
+    let text = "open 1 100\nmove 500 360\ncommit 1 10 0 1 500\nlatest";
     caught(Error::LatenessFromTheClock, text, "plan 7 510 510 0", "plan 7 0 0 0");
-    let text = "open 1 100\nmove 500 360\ncommit 1 10 509 500";
+    let text = "open 1 100\nmove 500 360\ncommit 1 10 509 1 500";
     caught(Error::HurryRefused6, text, "ticket 1 start 500", "refused 6");
     caught(Error::HurryRefused7, text, "ticket 1 start 500", "refused 7");
 }
@@ -161,26 +177,26 @@ fn lateness_from_the_due_minute_given() {
 /// N2. Minute 1 is sound and not the earliest; minute 0 is gone after a move.
 #[test]
 fn commits_with_another_start() {
-    let text = "open 1 100\ncommit 2 9 60 0\ncommit 1 10 60 1";
+    let text = "open 1 100\ncommit 2 9 60 1 0\ncommit 1 10 60 1 1";
     caught(Error::TakesAnySoundStart, text, "refused 16", "ticket 2 start 1");
     caught(Error::GivesTheEarliestStart, text, "refused 16", "ticket 2 start 0");
-    let text = "open 1 100\npreview 1 10 60\nmove 1 360\ncommit 1 10 60 0";
+    let text = "open 1 100\npreview 1 10 60 1\nmove 1 360\ncommit 1 10 60 1 0";
     caught(Error::TakesTheStartShownBefore, text, "refused 16", "ticket 1 start 0");
 }
 
 /// N2. "changes nothing", and shows "the start it would give".
 #[test]
 fn previews_that_are_no_previews() {
-    let text = "open 1 100\npreview 1 10 60\ncommit 1 10 60 0";
+    let text = "open 1 100\npreview 1 10 60 1\ncommit 1 10 60 1 0";
     caught(Error::PreviewTakesATicket, text, "ticket 1 start 0", "ticket 2 start 0");
-    let text = "open 1 100\ncommit 1 10 60 0\npreview 2 10 60";
+    let text = "open 1 100\ncommit 1 10 60 1 0\npreview 2 10 60 1";
     caught(Error::PreviewShowsTheLastEnd, text, "start 0", "start 10");
 }
 
 /// N2. "16, after 14": a full yard is refused 13 whatever start was shown.
 #[test]
 fn a_full_yard_whatever_was_shown() {
-    let text = format!("open 60 100\n{}commit 1 5 60 7", "commit 1 1 9 ?\n".repeat(180));
+    let text = format!("open 60 100\n{}commit 1 5 60 1 7", "commit 1 1 9 1 ?\n".repeat(180));
     let filled = script::join(&fill(reference(), &lines(&text)));
     let text = script::show(&filled);
     caught(Error::StartBeforePlaces, text.trim_end(), "refused 13", "refused 16");
@@ -198,6 +214,51 @@ fn bounds_rounded_otherwise() {
     caught(Error::RoundedDown, "open 9 11", "open 0 1", "refused 3");
     caught(Error::RoundedDownAndOpened, "open 9 11", "open 0 1", "open 0 0");
     caught(Error::RefusedBelowAHundred, "open 17 3", "open 0 1", "refused 3");
+}
+
+/// N4. A charge of rate 2 leaves its line two ahead, so with D = 2 one of rate 1 has to
+/// wait for its end.
+#[test]
+fn rates_counted_otherwise() {
+    let text = "open 4 50\ncommit 1 10 60 2 0\npreview 1 10 60 1";
+    caught(Error::RateNotInTheBalance, text, "start 10", "start 0");
+    caught(Error::SecondHalfOnTheNextLine, text, "start 10", "start 0");
+}
+
+/// N4. "18, after 17, rate above N or above D", and both after 5 and before 6.
+#[test]
+fn rates_refused_otherwise() {
+    let text = "open 2 50\npreview 1 10 60 2";
+    caught(Error::RateAgainstTheLimitOnly, text, "refused 18", "start 0");
+    let text = "open 2 50\npreview 1 10 2000001 2";
+    caught(Error::RateAfterDue, text, "refused 18", "refused 6");
+    let text = "open 2 50\npreview 1 10 2000001 3";
+    caught(Error::RateAfterDue, text, "refused 17", "refused 6");
+}
+
+/// N4. "Enquiries show the rate", also after a plan was taken.
+#[test]
+fn rates_that_get_lost() {
+    let h = "open 2 100\ncommit 1 10 60 2 0\ncommit 1 10 15 2 10\n";
+    let text = format!("{h}latest\nenquire 1");
+    caught(Error::RateLostByAPlan, &text, "waiting 10 2", "waiting 10 1");
+    caught(Error::RateNotShown, &format!("{h}enquire 1"), "waiting 0 2", "waiting 0 1");
+}
+
+/// N4. Two charges of rate 2 in one minute are four points; the cap becomes 2, which has
+/// room for one of them.
+#[test]
+fn caps_that_count_charges() {
+    let text = "open 4 50\ncommit 1 10 60 2 0\ncommit 1 10 60 2 10\nlines 2";
+    caught(Error::CapsCountCharges, text, "plan 7 0 0 2", "plan 2 0 0 2");
+}
+
+/// N4. In minute 1 line 1 has two charges, a begun one that counts as two and a placed
+/// one.
+#[test]
+fn a_placed_charge_beside_a_begun_one() {
+    let text = "open 3 67\ncommit 1 10 60 2 0\ncommit 1 5 60 1 10\nmove 1 360\nlines 2";
+    caught(Error::PlacedChargeHidden, text, "plan 7 0 0 2", "plan 1 0 0 1");
 }
 
 fn choice(kind: &str, scripts: u64) -> Choice<'_> {
@@ -220,6 +281,17 @@ fn the_comparison_finds_every_faulty_yard() {
     }
 }
 
+/// The rounds that the tests make by themselves are those of the rules, where no error
+/// is put into them.
+#[test]
+fn own_rounds_without_an_error() {
+    for kind in ["leaning", "rates"] {
+        let yard = Inside(|| Faulty::new(Error::OwnRounds));
+        let found = compare(&yard, &choice(kind, 40)).map_err(|failure| failure.what);
+        assert_eq!(found.map(|summary| summary.scripts), Ok(41), "{kind}");
+    }
+}
+
 /// Demand 3 alone rejects yards with unsound plans, changed reports or one start
 /// for everybody, and accepts those that are sound but useless: "a replan that
 /// always keeps", "an order that always queues", "a station full from the start". A
@@ -237,6 +309,7 @@ fn demand_3_finds_what_it_should() {
         Error::TakesAnySoundStart,
         Error::GivesTheEarliestStart,
         Error::PreviewShowsTheLastEnd,
+        Error::CapsCountCharges,
     ];
     let unsound = [
         Error::BalanceOnlyAtTheStart,
@@ -247,6 +320,11 @@ fn demand_3_finds_what_it_should() {
         Error::OneStartForEverybody,
         Error::TakesTheStartShownBefore,
         Error::PreviewTakesATicket,
+        Error::RateNotInTheBalance,
+        Error::SecondHalfOnTheNextLine,
+        Error::RateAgainstTheLimitOnly,
+        Error::RateLostByAPlan,
+        Error::RateNotShown,
     ];
     let breaks = |lines: &[Line], error: Error| {
         demand::check(lines, &script::answers_of(Faulty::new(error), lines)).is_err()
@@ -259,7 +337,8 @@ fn demand_3_finds_what_it_should() {
             breaks(&lines, error) || breaks(&own, error)
         })
     };
-    let found = |error: Error| ["leaning", "commits"].iter().any(|kind| fails(kind, error));
+    let found =
+        |error: Error| ["leaning", "commits", "rates"].iter().any(|kind| fails(kind, error));
     for error in sound {
         assert!(!found(error), "{error:?}");
     }

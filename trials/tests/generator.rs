@@ -37,8 +37,8 @@ fn every_script_begins_with_an_opening() {
 
 const REFUSALS: [(&str, &[u32]); 7] = [
     ("open", &[1, 2, 3]),
-    ("preview", &[4, 5, 6, 13, 14]),
-    ("commit", &[4, 5, 6, 13, 14, 16]),
+    ("preview", &[4, 5, 17, 18, 6, 13, 14]),
+    ("commit", &[4, 5, 17, 18, 6, 13, 14, 16]),
     ("move", &[8, 9, 12]),
     ("offer", &[10]),
     ("lines", &[11]),
@@ -176,7 +176,7 @@ fn the_fast_program_agrees() {
 #[test]
 fn shrinking_leaves_what_fails() {
     let script =
-        lines("open 5 20\ncommit 1 10 60 0\ncommit 2 11 60 0\nmove 900 360\nlatest\nlatest");
+        lines("open 5 20\ncommit 1 10 60 1 0\ncommit 2 11 60 1 0\nmove 900 360\nlatest\nlatest");
     let fails = |lines: &[Vec<u8>]| {
         let move_far =
             |line: &Vec<u8>| line.starts_with(b"move") && line.len() >= b"move 90 360".len();
