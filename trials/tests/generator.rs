@@ -166,6 +166,26 @@ fn shown_starts_are_committed_late() {
     }
 }
 
+/// N4: rates inside and outside their range, under bounds of 1, 2 and 3.
+#[test]
+fn rates_of_all_sorts_occur() {
+    let mut seen = BTreeSet::new();
+    for number in 0..150 {
+        let mut yard = Interpreter::new(reference());
+        for line in generate::script_of_kind("rates", 1, number).unwrap().lines {
+            if let Ok(Some(Call::Commit { order, .. })) = read_call(&line) {
+                seen.insert((yard.yard().bound, order.rate.min(u32::MAX - 1)));
+            }
+            yard.answer(&line, &mut Vec::new());
+        }
+    }
+    for bound in 1..=3 {
+        for rate in [0, 1, 2, 3, u32::MAX - 1] {
+            assert!(seen.contains(&(bound, rate)), "{bound} {rate}: {seen:?}");
+        }
+    }
+}
+
 #[test]
 fn the_fast_program_agrees() {
     let scripts = Choice { without: Some(LOOPS), ..choice(400, 11) };
