@@ -3,9 +3,11 @@
 //! knows neither station nor reference.
 
 use crate::demand;
+use crate::fill::{fill, unfill};
 use crate::generate;
 use crate::loops;
 use crate::program::{Answering, Outcome};
+use crate::reference::Station;
 use crate::script::{self, Line, Script};
 use crate::shrink::shrink;
 
@@ -150,12 +152,25 @@ fn difference_found(program: &dyn Answering, batch: &[Script], place: usize) -> 
     if differs(program, &lines).is_none() {
         lines = batch[..=number].iter().flat_map(|script| script.lines.clone()).collect();
     }
-    let lines = shrink(&lines, |lines| differs(program, lines).is_some());
+    let lines = shrunk(program, lines);
     let what = differs(program, &lines).map_or_else(
         || "the difference is gone when the script is run again".to_string(),
         |difference| difference.what,
     );
     Failure { title: title(&batch[number]), lines, what }
+}
+
+/// The shortest script that still differs. Where a line goes, the starts of the
+/// commits after it are not the earliest any more, so they are filled in anew, unless
+/// the difference lies in how a start is written.
+fn shrunk(program: &dyn Answering, lines: Vec<Line>) -> Vec<Line> {
+    let filled = |lines: &[Line]| fill(Station::fresh(1, 100), lines);
+    let fails = |lines: &[Line]| differs(program, lines).is_some();
+    let open = unfill(&lines);
+    match fails(&filled(&open)) {
+        true => filled(&shrink(&open, |lines| fails(&filled(lines)))),
+        false => shrink(&lines, fails),
+    }
 }
 
 fn title(script: &Script) -> String {

@@ -29,7 +29,8 @@ fn sort_of(line: &[u8], answer: &str) -> String {
     };
     let name = match call {
         Call::Open { .. } => "open",
-        Call::Order { .. } => "order",
+        Call::Preview { .. } => "preview",
+        Call::Commit { .. } => "commit",
         Call::Move { .. } => "move",
         Call::Offer { .. } => "offer",
         Call::Latest => "latest",

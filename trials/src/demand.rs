@@ -7,6 +7,8 @@
 
 use crate::protocol::{read_call, Call};
 use crate::script::{self, Line};
+use crate::yard;
+use std::cmp::Ordering;
 use std::fmt;
 
 /// What is wrong, and with which answer (the first is 1) it came out.
@@ -22,11 +24,13 @@ impl fmt::Display for Broken {
     }
 }
 
-/// "An order is accepted when it is answered with a ticket. Its order minute is
-/// the clock at that moment; its line and p are those passed in."
+/// "an order is accepted at its commit" (N2), "when it is answered with a ticket. Its
+/// order minute is the clock at that moment; its line and p are those passed in", and
+/// so is its rate.
 struct Order {
     line: u32,
     time: u64,
+    rate: u32,
     order: u64,
     /// "the one reported by the clock move that passed it"
     reported: Option<u64>,
@@ -98,12 +102,23 @@ fn ensure(holds: bool, what: impl FnOnce() -> String) -> Checked {
     }
 }
 
+/// So many hundredths "rounded to the nearest whole number, an exact half to the even
+/// one" (N3).
+fn nearest(hundredths: u64) -> u64 {
+    let below = hundredths / 100;
+    match (hundredths % 100).cmp(&50) {
+        Ordering::Less => below,
+        Ordering::Equal => below + below % 2,
+        Ordering::Greater => below + 1,
+    }
+}
+
 impl Trace {
     /// "limit and bound are that station's N and D", "also from the one beside a
     /// refusal", which is the station of 1, 100.
     fn from_opening(limit: u32, percent: u32, refused: bool) -> Trace {
         let (limit, percent) = if refused { (1, 100) } else { (limit.into(), percent.into()) };
-        let bound = limit * percent / 100;
+        let bound = nearest(limit * percent);
         Trace { limit, bound, clock: 0, orders: Vec::new(), asked: false }
     }
 
@@ -118,7 +133,7 @@ impl Trace {
                 *self = Trace::from_opening(*limit, *percent, refused);
                 Ok(())
             }
-            (Call::Order { line, time, .. }, false) => self.accepted(*line, *time, answer),
+            (Call::Commit { order, .. }, false) => self.accepted(order, answer),
             (Call::Move { target, .. }, false) => self.moved(u64::from(*target), answer),
             _ => Ok(()),
         }
@@ -142,16 +157,22 @@ impl Trace {
     }
 
     /// "tickets are 1, 2, 3 and so on in the order of acceptance"
-    fn accepted(&mut self, line: u32, time: u32, answer: &Answer) -> Checked {
+    fn accepted(&mut self, order: &yard::Order, answer: &Answer) -> Checked {
         ensure(answer.words == "ticket start" && answer.numbers.len() == 2, || {
-            format!("an order is answered with '{}'", answer.words)
+            format!("a commit is answered with '{}'", answer.words)
         })?;
         let ticket = self.orders.len() as u64 + 1;
         ensure(answer.numbers[0] == ticket, || {
             format!("ticket {} where {ticket} is next", answer.numbers[0])
         })?;
-        let (time, order) = (u64::from(time), self.clock);
-        self.orders.push(Order { line, time, order, reported: None, waiting: None });
+        self.orders.push(Order {
+            line: order.line,
+            time: u64::from(order.time),
+            rate: order.rate,
+            order: self.clock,
+            reported: None,
+            waiting: None,
+        });
         Ok(())
     }
 
@@ -194,7 +215,7 @@ impl Trace {
     /// "An enquiry finds a begun order charging until it is finished, with its
     /// reported start, and that start + p as the end; for a finished one the
     /// answer is refusal 15." "Any other order has never been reported, and an
-    /// enquiry finds it waiting."
+    /// enquiry finds it waiting." "Enquiries show the rate" (N4).
     fn enquiry(&mut self, ticket: u32, answer: &Answer) -> Checked {
         let clock = self.clock;
         let Some(order) = self.order(u64::from(ticket)) else {
@@ -202,15 +223,15 @@ impl Trace {
         };
         let found = || format!("ticket {ticket}: {} {:?}", answer.words, answer.numbers);
         match (order.reported, answer.words.as_str(), answer.numbers.as_slice()) {
-            (None, "waiting", [start]) => {
+            (None, "waiting", [start, rate]) => {
                 let same = order.waiting.is_none_or(|before| before == *start);
-                ensure(*start >= clock && same, found)?;
+                ensure(*start >= clock && same && *rate == order.rate.into(), found)?;
                 order.waiting = Some(*start);
                 Ok(())
             }
-            (Some(start), "charging", [shown, end]) => {
+            (Some(start), "charging", [shown, end, rate]) => {
                 let right = *shown == start && *end == start + order.time && clock < *end;
-                ensure(right, found)
+                ensure(right && *rate == order.rate.into(), found)
             }
             (Some(start), "refused", [15]) => ensure(start + order.time <= clock, found),
             _ => Err(found()),
@@ -248,14 +269,14 @@ impl Trace {
     /// "in every minute, gone or to come under the plan held, no line has more
     /// than its limit charging and no two lines differ by more than the bound";
     /// "A line's count in a minute takes all accepted orders of the list, dropped
-    /// ones too". Counts change only where an order starts or ends, so these
+    /// ones too"; they are "weighted counts" (N4). Counts change only where an order starts or ends, so these
     /// minutes stand for all.
     fn check_counts(&self) -> Checked {
         let mut changes = Vec::new();
         for order in &self.orders {
-            let start = order.start().unwrap_or(0);
-            changes.push((start, order.line as usize - 1, 1));
-            changes.push((start + order.time, order.line as usize - 1, -1));
+            let (start, line) = (order.start().unwrap_or(0), order.line as usize - 1);
+            changes.push((start, line, i64::from(order.rate)));
+            changes.push((start + order.time, line, -i64::from(order.rate)));
         }
         changes.sort_unstable();
         let mut counts = [0i64; 3];

@@ -25,6 +25,10 @@ impl<Y: Yard> Interpreter<Y> {
         &self.yard
     }
 
+    pub fn yard_mut(&mut self) -> &mut Y {
+        &mut self.yard
+    }
+
     /// Appends the answer to `text`, without a line feed. Says whether there
     /// was one: lines passed over have none.
     pub fn answer(&mut self, text: &[u8], out: &mut Vec<u8>) -> bool {
@@ -48,8 +52,9 @@ impl<Y: Yard> Interpreter<Y> {
             Call::Open { limit, percent } => {
                 protocol::write_opened(out, yard.open(*limit, *percent)?);
             }
-            Call::Order { line, time, due } => {
-                protocol::write_ordered(out, yard.order(*line, *time, *due)?);
+            Call::Preview { order } => protocol::write_previewed(out, yard.preview(*order)?),
+            Call::Commit { order, shown } => {
+                protocol::write_committed(out, yard.commit(*order, *shown)?);
             }
             Call::Move { target, places } => {
                 self.list.clear();

@@ -10,6 +10,7 @@ pub mod coverage;
 pub mod demand;
 pub mod fast;
 pub mod feed;
+pub mod fill;
 pub mod generate;
 pub mod interpret;
 pub mod listen;

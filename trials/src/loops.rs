@@ -4,10 +4,12 @@
 
 use crate::compare::{difference, Failure, Summary};
 use crate::feed::Way;
+use crate::fill::fill;
 use crate::generate;
 use crate::program::Answering;
 use crate::protocol::LONGEST_LINE;
 use crate::random::Random;
+use crate::reference::Station;
 use crate::script::{self, Line};
 
 /// Blocks that a program may read are of this length, or this is a multiple of it.
@@ -49,8 +51,11 @@ fn trial(title: impl Into<String>, input: Vec<u8>, way: Way) -> Trial {
     Trial { title: title.into(), input, way }
 }
 
-/// Orders and moves of 15 bytes in turn, each with an answer of its own: the order
-/// is for one minute, and the move reports and drops it.
+/// Every call of `Calls` has so many bytes with its line feed, a part of a block.
+const CALL: usize = 32;
+
+/// Commits and moves in turn, each with an answer of its own: the order is for one
+/// minute, and the move reports and drops it.
 struct Calls {
     given: usize,
 }
@@ -60,8 +65,8 @@ impl Calls {
         let turn = self.given / 2;
         self.given += 1;
         match self.given % 2 {
-            1 => b"order 1 1 99999".to_vec(),
-            _ => format!("move {:06} 360", turn + 1).into_bytes(),
+            1 => format!("commit 1 1 9 1 {turn:016}").into_bytes(),
+            _ => format!("move {:022} 360", turn + 1).into_bytes(),
         }
     }
 
@@ -101,7 +106,7 @@ const ENDS: [(&str, &str); 8] = [
     ("a call", "latest"),
     ("a call with a line feed", "latest\n"),
     ("a comment", "#"),
-    ("two calls", "order 1 5 5\nenquire 1"),
+    ("two calls", "commit 1 5 5 1 0\nenquire 1"),
     ("an error and a comment", "x\n#x"),
 ];
 
@@ -113,14 +118,14 @@ fn ends() -> Vec<Trial> {
         inputs.push((name.to_string(), text.as_bytes().to_vec()));
     }
     for length in [LONGEST_LINE - 1, LONGEST_LINE, LONGEST_LINE + 1, 2 * BLOCK + 1] {
-        let input = [b"order 1 5 5\n".to_vec(), long_call(length)].concat();
+        let input = [b"commit 1 5 5 1 0\n".to_vec(), long_call(length)].concat();
         inputs.push((format!("a last line of {length} bytes"), input));
     }
     for length in [BLOCK - 1, BLOCK, BLOCK + 1, 2 * BLOCK] {
         let mut calls = Calls { given: 0 };
         let mut input = Vec::new();
-        fill_to(&mut input, length - 15, &mut calls);
-        input.extend(b"order 2 1 99999");
+        fill_to(&mut input, length - (CALL - 1), &mut calls);
+        input.extend(calls.next());
         inputs.push((format!("{length} bytes"), input.clone()));
         input.pop();
         input.push(b'\n');
@@ -133,25 +138,35 @@ fn ends() -> Vec<Trial> {
     inputs.into_iter().flat_map(each).collect()
 }
 
-const CUT: [&str; 8] = [
-    "order 1 10 60\n",
-    "order 1 10 60\n",
-    "enquire 2\n",
-    "# no answer\n",
-    "\n",
-    "x\n",
-    "move 3 360\n",
-    "offer 21 0\n",
+const CUT: [&str; 9] = [
+    "commit 1 10 60 1 ?",
+    "preview 2 10 60 1",
+    "commit 1 10 60 1 0",
+    "enquire 2",
+    "# no answer",
+    "",
+    "x",
+    "move 3 360",
+    "offer 21 0",
 ];
 
 /// Each line cut at each place, its begin and its end too.
 fn cut_once() -> Trial {
-    let (mut input, mut sizes) = (Vec::new(), Vec::new());
+    let (mut lines, mut cuts) = (Vec::new(), Vec::new());
     for line in CUT {
-        for first in 0..=line.len() {
-            input.extend(line.as_bytes());
-            sizes.extend([first, line.len() - first]);
+        // A line feed follows, and a start has up to three digits.
+        for cut in 0..line.len() + 4 {
+            lines.push(line.as_bytes().to_vec());
+            cuts.push(cut);
         }
+    }
+    let (mut input, mut sizes) = (Vec::new(), Vec::new());
+    for (line, cut) in fill(Station::fresh(1, 100), &lines).into_iter().zip(cuts) {
+        let length = line.len() + 1;
+        let first = cut.min(length);
+        input.extend(line);
+        input.push(b'\n');
+        sizes.extend([first, length - first]);
     }
     sizes.retain(|size| *size > 0);
     trial("lines cut once", input, Way::Pieces(sizes))
@@ -161,10 +176,10 @@ fn cut_once() -> Trial {
 fn cut_twice() -> Trial {
     let (mut input, mut sizes) = (Vec::new(), Vec::new());
     let mut calls = Calls { given: 0 };
-    for first in 1..16 {
-        for second in first + 1..16 {
+    for first in 1..CALL {
+        for second in first + 1..CALL {
             calls.push_to(&mut input);
-            sizes.extend([first, second - first, 16 - second]);
+            sizes.extend([first, second - first, CALL - second]);
         }
     }
     trial("lines cut twice", input, Way::Pieces(sizes))
@@ -229,8 +244,8 @@ fn over_reads() -> Vec<Trial> {
     sizes.map(|size| trial(title(size), input.clone(), Way::Pieces(vec![size]))).into()
 }
 
-/// Calls of 16 bytes with their line feed, so that every block's end cuts one at
-/// the same place; all places in turn.
+/// Calls of the same length, so that every block's end cuts one at the same place;
+/// all places in turn.
 fn over_blocks() -> Vec<Trial> {
     let of_shift = |shift: usize| {
         let mut calls = Calls { given: 0 };
@@ -241,7 +256,7 @@ fn over_blocks() -> Vec<Trial> {
         }
         trial(format!("blocks that end {shift} bytes on"), input, Way::File)
     };
-    (0..16).map(of_shift).collect()
+    (0..CALL).map(of_shift).collect()
 }
 
 /// Lines of the longest length, just past it and over several blocks, with their
@@ -286,8 +301,10 @@ fn long_reports() -> Trial {
         if input.len() > 4 * BLOCK {
             break;
         }
-        for _ in 0..180 {
-            input.extend(b"order 1 1 9999\n");
+        // Sixty in a minute, for three minutes.
+        for place in 0..180 {
+            let start = 3 * (turn - 1) + place / 60;
+            input.extend(format!("commit 1 1 9 1 {start}\n").into_bytes());
         }
         input.extend(format!("move {} 360\n", 3 * turn).into_bytes());
     }
@@ -309,8 +326,8 @@ mod tests {
     #[test]
     fn lines_at_a_blocks_end() {
         for (shift, trial) in over_blocks().iter().enumerate() {
-            let cut = &trial.input[BLOCK - (16 - shift) % 16..];
-            assert!(cut.starts_with(b"order 1") || cut.starts_with(b"move 00"), "{shift}");
+            let cut = &trial.input[BLOCK - (CALL - shift) % CALL..];
+            assert!(cut.starts_with(b"commit 1") || cut.starts_with(b"move 00"), "{shift}");
         }
         for trial in at_edges() {
             let feeds = |place: usize| trial.input[place] == b'\n';

@@ -1,16 +1,19 @@
 //! The commands; README.md lists them.
 
 use std::collections::HashMap;
-use std::io::{self, Write};
+use std::io::{self, Read, Write};
 use std::process::ExitCode;
 use std::time::{Duration, Instant};
 use trials::compare::{compare, Choice, Failure, LOOPS};
 use trials::program::Program;
-use trials::{benchmark, coverage, demand, fast, generate, interpret, loops, reference, script};
+use trials::{
+    benchmark, coverage, demand, fast, fill, generate, interpret, loops, reference, script,
+};
 
 const USAGE: &str = "\
 trials answers < SCRIPT                      answers of the reference
 trials fast < SCRIPT                         answers of the fast program
+trials fill < SCRIPT                         the script with a start for each commit's '?'
 trials generate [--kind KIND] [--seed S] [--scripts K]
 trials compare PROGRAM [--scripts K] [--seed S] [--kind KIND] [--without KIND]
                        [--patience SECONDS]
@@ -87,6 +90,7 @@ fn run(words: &Words) -> Outcome {
     match words.others.first().map(String::as_str) {
         Some("answers") => serve(reference::Station::fresh(1, 100)),
         Some("fast") => serve(fast::Station::fresh(1, 100)),
+        Some("fill") => fill_script(),
         Some("generate") => print_scripts(&words.choice(1)?),
         Some("compare") => run_comparison(words),
         Some("loops") => print_loops(words.others.get(1)),
@@ -100,6 +104,12 @@ fn run(words: &Words) -> Outcome {
 fn serve(yard: impl trials::yard::Yard) -> Outcome {
     let (input, output) = (io::stdin().lock(), io::stdout().lock());
     interpret::serve(yard, input, output).map_err(|error| error.to_string())
+}
+
+fn fill_script() -> Outcome {
+    let mut bytes = Vec::new();
+    io::stdin().lock().read_to_end(&mut bytes).map_err(|error| error.to_string())?;
+    print_lines(&fill::fill(reference::Station::fresh(1, 100), &script::split(&bytes)))
 }
 
 fn print_scripts(choice: &Choice) -> Outcome {

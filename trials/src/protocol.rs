@@ -3,17 +3,18 @@
 //! | line | answer |
 //! | --- | --- |
 //! | `open N c` | `open 0 D`, or `refused K` |
-//! | `order line p d` | `ticket T start S`, or `refused K` |
+//! | `preview line p d rate` | `start S`, or `refused K` |
+//! | `commit line p d rate S` | `ticket T start S`, or `refused K` |
 //! | `move target places` | `moved R dropped X T S T S ..`, or `refused K` |
 //! | `offer s1 s2 ..` | `plan CAUSE BEFORE AFTER ROUNDS`, or `refused 10` |
 //! | `latest` | `plan ..` |
 //! | `lines allowance` | `plan ..`, or `refused 11` |
-//! | `enquire T` | `waiting S`, `charging S E`, or `refused 15` |
+//! | `enquire T` | `waiting S RATE`, `charging S E RATE`, or `refused 15` |
 //!
 //! Words are separated by exactly one space byte. Empty lines and lines that
 //! begin with `#` get no answer. Anything else gets `error` and a reason.
 
-use crate::yard::{Found, Moved, Ordered, Planned, Refusal};
+use crate::yard::{Committed, Found, Moved, Order, Planned, Refusal};
 
 /// More bytes than these in a line, without the line feed, are too many.
 pub const LONGEST_LINE: usize = 4096;
@@ -23,7 +24,8 @@ pub const MOST_PLACES: u32 = 4096;
 #[derive(Clone, Debug, PartialEq, Eq)]
 pub enum Call {
     Open { limit: u32, percent: u32 },
-    Order { line: u32, time: u32, due: u32 },
+    Preview { order: Order },
+    Commit { order: Order, shown: u32 },
     Move { target: u32, places: u32 },
     Offer { starts: Vec<u32> },
     Latest,
@@ -66,7 +68,14 @@ pub fn read_call(text: &[u8]) -> Result<Option<Call>, Fault> {
     let mut words = text.split(|byte| *byte == b' ');
     let call = match words.next().unwrap_or(b"") {
         b"open" => numbers(words).map(|[limit, percent]| Call::Open { limit, percent }),
-        b"order" => numbers(words).map(|[line, time, due]| Call::Order { line, time, due }),
+        b"preview" => numbers(words).map(|[line, time, due, rate]| {
+            let order = Order { line, time, due, rate };
+            Call::Preview { order }
+        }),
+        b"commit" => numbers(words).map(|[line, time, due, rate, shown]| {
+            let order = Order { line, time, due, rate };
+            Call::Commit { order, shown }
+        }),
         b"move" => numbers(words).map(|[target, places]| Call::Move { target, places }),
         b"offer" => starts(words).map(|starts| Call::Offer { starts }),
         b"latest" => numbers(words).map(|[]| Call::Latest),
@@ -117,7 +126,8 @@ fn number(word: &[u8]) -> Result<u32, Fault> {
 pub fn write_call(call: &Call) -> String {
     match call {
         Call::Open { limit, percent } => format!("open {limit} {percent}"),
-        Call::Order { line, time, due } => format!("order {line} {time} {due}"),
+        Call::Preview { order } => format!("preview {}", write_order(order)),
+        Call::Commit { order, shown } => format!("commit {} {shown}", write_order(order)),
         Call::Move { target, places } => format!("move {target} {places}"),
         Call::Offer { starts } => {
             let words: Vec<String> = starts.iter().map(|start| format!(" {start}")).collect();
@@ -127,6 +137,11 @@ pub fn write_call(call: &Call) -> String {
         Call::Lines { allowance } => format!("lines {allowance}"),
         Call::Enquire { ticket } => format!("enquire {ticket}"),
     }
+}
+
+fn write_order(order: &Order) -> String {
+    let Order { line, time, due, rate } = order;
+    format!("{line} {time} {due} {rate}")
 }
 
 /// Appends a word and numbers to an answer, separated by single spaces.
@@ -166,9 +181,13 @@ pub fn write_opened(out: &mut Vec<u8>, bound: u32) {
     words(out, "open", &[0, u64::from(bound)]);
 }
 
-pub fn write_ordered(out: &mut Vec<u8>, ordered: Ordered) {
-    words(out, "ticket", &[u64::from(ordered.ticket)]);
-    words(out, " start", &[ordered.start]);
+pub fn write_previewed(out: &mut Vec<u8>, start: u64) {
+    words(out, "start", &[start]);
+}
+
+pub fn write_committed(out: &mut Vec<u8>, committed: Committed) {
+    words(out, "ticket", &[u64::from(committed.ticket)]);
+    words(out, " start", &[committed.start]);
 }
 
 /// The pairs are read from the lent list, as a caller would.
@@ -187,7 +206,9 @@ pub fn write_planned(out: &mut Vec<u8>, planned: Planned) {
 
 pub fn write_found(out: &mut Vec<u8>, found: Found) {
     match found {
-        Found::Waiting { start } => words(out, "waiting", &[start]),
-        Found::Charging { start, end } => words(out, "charging", &[start, end]),
+        Found::Waiting { start, rate } => words(out, "waiting", &[start, rate.into()]),
+        Found::Charging { start, end, rate } => {
+            words(out, "charging", &[start, end, rate.into()]);
+        }
     }
 }

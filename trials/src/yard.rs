@@ -1,12 +1,21 @@
-//! The calls of document 01, "The calls", as one trait, so that the reference,
+//! The calls of document 01, "The calls", and of the requests, as one trait, so that the reference,
 //! the fast program and the faulty ones of the tests answer the same protocol.
 
 /// The number of a refusal: "A refusal returns its number alone".
 pub type Refusal = u32;
 
-/// Answer of an order: "ticket and start".
+/// What a driver asks for, in a preview and in the commit of the same order.
 #[derive(Clone, Copy, Debug, PartialEq, Eq)]
-pub struct Ordered {
+pub struct Order {
+    pub line: u32,
+    pub time: u32,
+    pub due: u32,
+    pub rate: u32,
+}
+
+/// Answer of a commit: "a ticket and exactly that start".
+#[derive(Clone, Copy, Debug, PartialEq, Eq)]
+pub struct Committed {
     pub ticket: u32,
     pub start: u64,
 }
@@ -28,11 +37,12 @@ pub struct Planned {
     pub rounds: u32,
 }
 
-/// Answer of an enquiry: "waiting with its start, charging with start and end".
+/// Answer of an enquiry: "waiting with its start, charging with start and end", and
+/// "Enquiries show the rate" (N4).
 #[derive(Clone, Copy, Debug, PartialEq, Eq)]
 pub enum Found {
-    Waiting { start: u64 },
-    Charging { start: u64, end: u64 },
+    Waiting { start: u64, rate: u32 },
+    Charging { start: u64, end: u64, rate: u32 },
 }
 
 /// A place where a station stands; every call works on that station.
@@ -40,7 +50,10 @@ pub trait Yard {
     /// Puts a fresh station in place and answers its bound. Beside a refusal
     /// the fresh station of 1, 100 is put in place.
     fn open(&mut self, limit: u32, percent: u32) -> Result<u32, Refusal>;
-    fn order(&mut self, line: u32, time: u32, due: u32) -> Result<Ordered, Refusal>;
+    /// "answers the start it would give and changes nothing"; a faulty yard may.
+    fn preview(&mut self, order: Order) -> Result<u64, Refusal>;
+    /// "takes the same order with the start shown"
+    fn commit(&mut self, order: Order, shown: u32) -> Result<Committed, Refusal>;
     fn move_clock(&mut self, target: u32, report: &mut [u32]) -> Result<Moved, Refusal>;
     fn offer(&mut self, starts: &[u32]) -> Result<Planned, Refusal>;
     fn replan_by_latest_start(&mut self) -> Planned;

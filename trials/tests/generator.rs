@@ -4,6 +4,7 @@
 mod common;
 
 use common::{fast, lines, reference, Inside};
+use std::collections::BTreeSet;
 use trials::compare::{compare, Choice, LOOPS};
 use trials::coverage::coverage;
 use trials::generate;
@@ -34,9 +35,10 @@ fn every_script_begins_with_an_opening() {
     }
 }
 
-const REFUSALS: [(&str, &[u32]); 6] = [
+const REFUSALS: [(&str, &[u32]); 7] = [
     ("open", &[1, 2, 3]),
-    ("order", &[4, 5, 6, 13, 14]),
+    ("preview", &[4, 5, 17, 18, 6, 13, 14]),
+    ("commit", &[4, 5, 17, 18, 6, 13, 14, 16]),
     ("move", &[8, 9, 12]),
     ("offer", &[10]),
     ("lines", &[11]),
@@ -47,9 +49,10 @@ const REFUSALS: [(&str, &[u32]); 6] = [
 const CAUSES: [(&str, &[u32]); 3] =
     [("offer", &[0, 3, 4, 5, 6, 7]), ("latest", &[0, 1, 4, 7]), ("lines", &[0, 1, 2, 4, 7])];
 
-const OTHERS: [&str; 11] = [
+const OTHERS: [&str; 12] = [
     "open: open",
-    "order: ticket",
+    "preview: start",
+    "commit: ticket",
     "move: moved",
     "enquire: waiting",
     "enquire: charging",
@@ -83,13 +86,13 @@ fn every_answer_occurs() {
 #[test]
 fn drivers_in_a_hurry_occur() {
     for (kind, scripts) in [("hurry", 40), ("evening", 20)] {
-        let mut seen = std::collections::BTreeSet::new();
+        let mut seen = BTreeSet::new();
         for number in 0..scripts {
             let mut yard = Interpreter::new(reference());
             for line in generate::script_of_kind(kind, 1, number).unwrap().lines {
                 let clock = yard.yard().clock;
-                if let Ok(Some(Call::Order { time, due, .. })) = read_call(&line) {
-                    let (time, due) = (u64::from(time), u64::from(due));
+                if let Ok(Some(Call::Commit { order, .. })) = read_call(&line) {
+                    let (time, due) = (u64::from(order.time), u64::from(order.due));
                     seen.extend((due < clock).then_some("below the clock"));
                     seen.extend((due == 0).then_some("0"));
                     seen.extend((due + 1 == clock + time).then_some("clock + p - 1"));
@@ -108,7 +111,7 @@ fn drivers_in_a_hurry_occur() {
 /// fewer, right and wrong in their words.
 #[test]
 fn long_lists_occur() {
-    let mut seen = std::collections::BTreeSet::new();
+    let mut seen = BTreeSet::new();
     for number in 0..80 {
         let script = generate::script_of_kind("lists", 1, number).unwrap();
         for (line, answer) in script::answered(&script.lines).zip(&script.answers) {
@@ -128,6 +131,61 @@ fn long_lists_occur() {
     assert!(has(501, true, "refused"), "{seen:?}");
 }
 
+/// N2: a start shown before a move, another commit or a taken plan is committed to,
+/// and is still the earliest or not any more.
+#[test]
+fn shown_starts_are_committed_late() {
+    let mut seen = BTreeSet::new();
+    for number in 0..80 {
+        let script = generate::script_of_kind("commits", 1, number).unwrap();
+        let (mut last, mut since) = (None, "nothing");
+        for (line, answer) in script::answered(&script.lines).zip(&script.answers) {
+            let answer = script::show(answer);
+            let word = answer.split(' ').next().unwrap_or("").to_string();
+            match (read_call(line), word.as_str()) {
+                (Ok(Some(Call::Preview { order })), "start") => {
+                    (last, since) = (Some((order, answer.replace("start ", ""))), "nothing");
+                }
+                (Ok(Some(Call::Commit { order, shown })), _)
+                    if last == Some((order, shown.to_string())) =>
+                {
+                    seen.insert((since, word));
+                    (last, since) = (None, "nothing");
+                }
+                (_, "ticket") => since = "a commit",
+                (_, "moved") => since = "a move",
+                (_, "plan") if answer.starts_with("plan 0 ") => since = "a taken plan",
+                _ => (),
+            }
+        }
+    }
+    let has = |since, word: &str| seen.contains(&(since, word.to_string()));
+    assert!(has("nothing", "ticket"), "{seen:?}");
+    for since in ["a commit", "a move", "a taken plan"] {
+        assert!(has(since, "ticket") && has(since, "refused"), "{since}: {seen:?}");
+    }
+}
+
+/// N4: rates inside and outside their range, under bounds of 1, 2 and 3.
+#[test]
+fn rates_of_all_sorts_occur() {
+    let mut seen = BTreeSet::new();
+    for number in 0..150 {
+        let mut yard = Interpreter::new(reference());
+        for line in generate::script_of_kind("rates", 1, number).unwrap().lines {
+            if let Ok(Some(Call::Commit { order, .. })) = read_call(&line) {
+                seen.insert((yard.yard().bound, order.rate.min(u32::MAX - 1)));
+            }
+            yard.answer(&line, &mut Vec::new());
+        }
+    }
+    for bound in 1..=3 {
+        for rate in [0, 1, 2, 3, u32::MAX - 1] {
+            assert!(seen.contains(&(bound, rate)), "{bound} {rate}: {seen:?}");
+        }
+    }
+}
+
 #[test]
 fn the_fast_program_agrees() {
     let scripts = Choice { without: Some(LOOPS), ..choice(400, 11) };
@@ -137,7 +195,8 @@ fn the_fast_program_agrees() {
 
 #[test]
 fn shrinking_leaves_what_fails() {
-    let script = lines("open 5 20\norder 1 10 60\norder 2 11 60\nmove 900 360\nlatest\nlatest");
+    let script =
+        lines("open 5 20\ncommit 1 10 60 1 0\ncommit 2 11 60 1 0\nmove 900 360\nlatest\nlatest");
     let fails = |lines: &[Vec<u8>]| {
         let move_far =
             |line: &Vec<u8>| line.starts_with(b"move") && line.len() >= b"move 90 360".len();

@@ -5,6 +5,7 @@ mod common;
 use common::{expect, reference};
 use trials::interpret;
 use trials::protocol::{read_call, write_call, Call, Fault};
+use trials::yard::Order;
 
 fn fault(text: &[u8]) -> Fault {
     read_call(text).expect_err(&String::from_utf8_lossy(text))
@@ -16,6 +17,10 @@ fn unknown_calls() {
         assert_eq!(fault(text.as_bytes()), Fault::UnknownCall, "{text:?}");
     }
     assert_eq!(fault(b"\xff\x00"), Fault::UnknownCall);
+    // Preview and commit have taken its place.
+    for text in ["order", "order 1 10 60", "order 1 10 60 0", "order x"] {
+        assert_eq!(fault(text.as_bytes()), Fault::UnknownCall, "{text:?}");
+    }
 }
 
 #[test]
@@ -57,12 +62,14 @@ fn numbers_of_more_than_32_bits() {
 /// Words are judged from left to right, and one too many is not judged.
 #[test]
 fn the_first_fault_counts() {
-    assert_eq!(fault(b"order 4294967296 x"), Fault::NumberTooLarge);
-    assert_eq!(fault(b"order x 4294967296"), Fault::NotANumber);
-    assert_eq!(fault(b"order 1 2"), Fault::MissingNumber);
-    assert_eq!(fault(b"order"), Fault::MissingNumber);
-    assert_eq!(fault(b"order 1 2 3 x"), Fault::ExtraNumber);
-    assert_eq!(fault(b"order 1 2 3 "), Fault::ExtraNumber);
+    assert_eq!(fault(b"commit 4294967296 x"), Fault::NumberTooLarge);
+    assert_eq!(fault(b"commit x 4294967296"), Fault::NotANumber);
+    assert_eq!(fault(b"commit 1 2 3 1"), Fault::MissingNumber);
+    assert_eq!(fault(b"commit"), Fault::MissingNumber);
+    assert_eq!(fault(b"commit 1 2 3 1 4 x"), Fault::ExtraNumber);
+    assert_eq!(fault(b"commit 1 2 3 1 4 "), Fault::ExtraNumber);
+    assert_eq!(fault(b"preview 1 2 3"), Fault::MissingNumber);
+    assert_eq!(fault(b"preview 1 2 3 1 4"), Fault::ExtraNumber);
     assert_eq!(fault(b"latest "), Fault::ExtraNumber);
     assert_eq!(fault(b"latest x"), Fault::ExtraNumber);
 }
@@ -107,7 +114,8 @@ fn lines_of_4096_bytes() {
 fn written_calls_are_read_back() {
     for call in [
         Call::Open { limit: 0, percent: u32::MAX },
-        Call::Order { line: 1, time: 10, due: 100 },
+        Call::Preview { order: Order { line: 1, time: 10, due: 100, rate: 2 } },
+        Call::Commit { order: Order { line: 1, time: 10, due: 100, rate: 0 }, shown: u32::MAX },
         Call::Move { target: 7, places: 360 },
         Call::Offer { starts: vec![] },
         Call::Offer { starts: vec![1, u32::MAX] },
@@ -123,7 +131,7 @@ fn written_calls_are_read_back() {
 /// nothing.
 #[test]
 fn errors_change_nothing() {
-    let text = "order 1 5 5\n\n# comment\norder 1 5\nopen 2 50 0\norder 1 5 10";
+    let text = "commit 1 5 5 1 0\n\n# comment\ncommit 1 5 5 0\nopen 2 50 0\ncommit 1 5 10 1 5";
     let expected =
         ["ticket 1 start 0", "error missing number", "error extra number", "ticket 2 start 5"];
     expect(text, &expected);
@@ -151,10 +159,10 @@ fn served(input: impl std::io::Read) -> String {
 /// without a line feed.
 #[test]
 fn pieces_of_input() {
-    let mut input = b"order 1 5 5\n\n".to_vec();
+    let mut input = b"commit 1 5 5 1 0\n\n".to_vec();
     input.extend(vec![b'z'; 200_000]);
     input.extend(b"\nlatest\nenquire 1");
-    let expected = "ticket 1 start 0\nerror line too long\nplan 7 0 0 0\nwaiting 0\n";
+    let expected = "ticket 1 start 0\nerror line too long\nplan 7 0 0 0\nwaiting 0 1\n";
     assert_eq!(served(&input[..]), expected);
     assert_eq!(served(Slow(&input)), expected);
     assert_eq!(served(&b""[..]), "");

@@ -13,7 +13,7 @@ use Rattle.rules.proofs.Granted.{refusals-none}
 use Rattle.guarantee.specs.Past.{Gives}
 use Rattle.guarantee.specs.DemandOne.{DemandOne, DemandOneOpening}
 use Rattle.excluded.specs.WrongOrders.{shownAsWaiting, anySoundStart, shownIgnored}
-use Rattle.excluded.specs.WrongRefusals.{lineAccepted, highestNumber, lowestNumber, rateAboveBound, shownFirst, otherNumber, alwaysFull, hurryRefused, standstillRefused, ticketUsedUp, listCleared, ticketNotSaid, openedAsAsked, openingWrites, limitSaid, percentLost, zeroBound, smallProductRefused, roundedDown}
+use Rattle.excluded.specs.WrongRefusals.{lineAccepted, lastRow, lowestNumber, rateAboveBound, shownFirst, otherNumber, alwaysFull, hurryRefused, standstillRefused, ticketUsedUp, listCleared, ticketNotSaid, openedAsAsked, openingWrites, limitSaid, percentLost, zeroBound, smallProductRefused, roundedDown}
 use Rattle.excluded.specs.Stations.{station, stationTwo}
 use Rattle.guarantee.proofs.Tables.{firstOf-is, is-firstOf}
 
@@ -28,8 +28,8 @@ line-accepted d =
     omega arith
 
 -- `number`: 5 in the place of 4
-highest-number : DemandOne highestNumber station (preview 4 0 60 1) → ⊥
-highest-number d =
+last-row : DemandOne lastRow station (preview 4 0 60 1) → ⊥
+last-row d =
     let h : refused 5 ≡ refused 4 = d .refused-by .number 4 .1 (inl (refl, refl)) in
     let z : _≡_ {A = ℕ} 5 4 = cc in
     omega arith

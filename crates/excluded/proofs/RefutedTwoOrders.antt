@@ -17,7 +17,7 @@ use Rattle.excluded.specs.WrongOrders.{ownLineOnly, limitIgnored, queued
 use Rattle.excluded.specs.WrongMoves.{slowClock}
 use Rattle.excluded.specs.Starts.{isEarliest}
 use Rattle.excluded.specs.Stations.{station, stationFive, stationThree, stationTwo, stationH}
-use Rattle.guarantee.proofs.DemandTwo.{plan-sound}
+use Rattle.guarantee.proofs.Orders.{plan-sound}
 use Rattle.excluded.proofs.Refuting.{line-one, line-two}
 use Rattle.excluded.proofs.TestsStarts.{earliest-tests}
 
@@ -51,7 +51,7 @@ slow-clock d = let h : 5 ≤ 4 = preview-earliest slowClock stationFive 1 10 60 
 
 -- `sound .limit`: N = 1
 limit-ignored : DemandTwo limitIgnored stationThree → ⊥
-unfolding limited balanced sound earliest committing
+unfolding limited balanced sound earliest
 limit-ignored d =
     let h : 2 ≤ 1
     = preview-earliest limitIgnored stationThree 1 10 60 1 0 d refl refl
@@ -60,7 +60,7 @@ limit-ignored d =
 
 -- `sound .balance`: N = 2, D = 1
 own-line-only : DemandTwo ownLineOnly stationTwo → ⊥
-unfolding limited balanced sound earliest earliestUnder committing
+unfolding earliestUnder
 own-line-only d =
     let h : 2 ≤ 1
     = preview-earliest ownLineOnly stationTwo 1 10 60 1 0 d refl refl
@@ -69,18 +69,16 @@ own-line-only d =
 
 -- `earliest`: an order on line 2 can start at 0, beside those of line 1
 starts-at-zero : EarliestStart stationH (drawFor stationH 2 10 1) 20 → ⊥
-unfolding limited balanced sound earliest committing
+unfolding limited balanced sound
 starts-at-zero e =
     let h : 20 ≤ 0
     = e .earliest 0 (omega arith) (plan-sound stationH (added (loadsOf (stationH .charges)) (drawFor stationH 2 10 1) 0) refl) in
     omega arith
 
 queued-order : DemandTwo queued stationH → ⊥
-unfolding limited balanced sound earliest committing
 queued-order d = starts-at-zero (preview-earliest queued stationH 2 10 60 1 20 d refl refl)
 
 last-end-shown : DemandTwo lastEndShown stationH → ⊥
-unfolding limited balanced sound earliest committing
 last-end-shown d = starts-at-zero (preview-earliest lastEndShown stationH 2 10 60 1 20 d refl refl)
 
 -- `same-station`

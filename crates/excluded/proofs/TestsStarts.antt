@@ -12,7 +12,7 @@ use Rattle.rules.specs.Calls.{State}
 use Rattle.rules.proofs.Ranges.{fails, below-or-not, throughout-at, throughout-all}
 use Rattle.guarantee.specs.DemandTwo.{SoundPlan, EarliestStart}
 use Rattle.excluded.specs.Starts.{soundWith, noEarlier, isEarliest}
-use Rattle.guarantee.proofs.DemandTwo.{plan-sound, sound-plan}
+use Rattle.guarantee.proofs.Orders.{plan-sound, sound-plan}
 use Rattle.excluded.proofs.Tests.{Tests, leb-tests, fails-tests, both-tests}
 
 module _ (s : State) (a : Draw) where

@@ -3,7 +3,7 @@ use mathlib.Core.List.{List, [], _∷_, _++_, map}
 use Rattle.rules.specs.Entry.{lentList}
 use Rattle.rules.specs.Calls.{settings, preview, commit, move, opening, step}
 use Rattle.excluded.specs.WrongOrders.{shownAsWaiting, anySoundStart, shownIgnored}
-use Rattle.excluded.specs.WrongRefusals.{lineAccepted, highestNumber, lowestNumber, rateAboveBound, shownFirst, otherNumber, alwaysFull, hurryRefused, standstillRefused, ticketUsedUp, listCleared, ticketNotSaid, openedAsAsked, openingWrites, limitSaid, percentLost, zeroBound, smallProductRefused, roundedDown}
+use Rattle.excluded.specs.WrongRefusals.{lineAccepted, lastRow, lowestNumber, rateAboveBound, shownFirst, otherNumber, alwaysFull, hurryRefused, standstillRefused, ticketUsedUp, listCleared, ticketNotSaid, openedAsAsked, openingWrites, limitSaid, percentLost, zeroBound, smallProductRefused, roundedDown}
 use Rattle.excluded.specs.Stations.{station, stationTwo}
 use Rattle.excluded.specs.Breaks.{Entry, computedBy, onlyOf}
 use Rattle.excluded.specs.FieldsOne.{Field, number, same-station, same-list, answered, fields, place, Trial, calledOn, openedBy, tested}
@@ -20,7 +20,7 @@ only = onlyOf place fields
 abbrev pub wrongCalls : List Breach
 wrongCalls =
     only (calledOn lineAccepted station (preview 4 10 60 1)) (number ∷ [])
-    ∷ only (calledOn highestNumber station (preview 4 0 60 1)) (number ∷ [])
+    ∷ only (calledOn lastRow station (preview 4 0 60 1)) (number ∷ [])
     -- N is 2 and D is 1: the rate is above D alone, and no start is found for it
     ∷ only (calledOn rateAboveBound stationTwo (preview 1 10 60 2)) (number ∷ [])
     ∷ only (calledOn lowestNumber station (preview 1 10 2000001 3)) (number ∷ [])

@@ -1,7 +1,7 @@
 -- Wrong stations: refusals and openings that differ from the rules in one thing.
 use Prim.Native.Nat.{ℕ, suc, _+_, _*_, _/_}
 use mathlib.Core.Bool.{Bool, cond, _||_}
-use mathlib.Core.List.{List, [], _∷_, _++_, map}
+use mathlib.Core.List.{List, [], _∷_, _++_, map, reverse}
 use lib.Dec.{ltb, eqb}
 use Rattle.rules.specs.Basics.{firstOf, keep, sortedBy}
 use Rattle.rules.specs.Calls.{Settings, settings, State, refused, opened, waiting, Result, answering, fresh, openRefusals, opening, refusals, previewing, committing, moving, step}
@@ -12,9 +12,9 @@ use Rattle.excluded.specs.Parts.{withRefusals, withPreviews, withCommits
 abbrev pub lineAccepted : Gives
 lineAccepted = withRefusals (λ s c. unnumbered 4 (refusals s c))
 
--- where several apply, the highest number
-abbrev pub highestNumber : Gives
-highestNumber = withRefusals (λ s c. sortedBy (λ a b. ltb (b .1) (a .1)) (refusals s c))
+-- where several apply, the last in the table
+abbrev pub lastRow : Gives
+lastRow = withRefusals (λ s c. reverse (refusals s c))
 
 -- where several apply, the lowest number, in whatever place it stands: 6 before 17
 abbrev pub lowestNumber : Gives

@@ -8,5 +8,6 @@ pub mod Steps
 pub mod DemandThree
 pub mod DemandOne
 pub mod Proposals
+pub mod Orders
 pub mod DemandTwo
 pub mod Demands

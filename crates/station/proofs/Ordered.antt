@@ -38,11 +38,11 @@ rates-fit s v = listed-rates (valid-listed s v)
 
 -- every start is below what `start_for` passes, so that all held charges are in the profile
 pub all-shown :
-    (s : Station) (p : Profile)
+    (s : Station) (p : Profile) (clock : ℕ)
     → Valid s
-    → Shows p (s .clock) (loadsOf (begunCharges 4294967295 (chargesOf (s .charges))))
-    → Shows p (s .clock) (loadsOf (chargesOf (s .charges)))
-all-shown s p v h =
+    → Shows p clock (loadsOf (begunCharges 4294967295 (chargesOf (s .charges))))
+    → Shows p clock (loadsOf (chargesOf (s .charges)))
+all-shown s p clock v h =
     rw (all-before (s .charges) 4294967295 (λ i low. omega (arith, valid-listed s v .small i low .start-most))) at h
 
 last-held : (s : Station) → Valid s → lastUntil (loadsOf (chargesOf (s .charges))) ≤ 100000000
@@ -72,8 +72,13 @@ orderable s line time due rate e =
     }
 
 pub can-search :
-    (s : Station) (p : Profile) (time : ℕ) → Valid s → Shows p (s .clock) (loadsOf (chargesOf (s .charges))) → time ≤ 1440 → CanStart p time
-can-search s p time v shows h =
+    (s : Station) (p : Profile) (clock time : ℕ)
+    → Valid s
+    → Shows p clock (loadsOf (chargesOf (s .charges)))
+    → clock ≤ 1000000
+    → time ≤ 1440
+    → CanStart p time
+can-search s p clock time v shows h k =
     can-start shows time
     (omega (
       arith,
@@ -81,7 +86,7 @@ can-search s p time v shows h =
       length-tabulate (chargeAt (s .charges)) (s .charges .held) 0,
       v .columns .few,
     ))
-    (omega (arith, last-held s v, v .state .clock-high))
+    (omega (arith, last-held s v))
 
 -- What is answered
 

@@ -30,10 +30,16 @@ pub struct Cost {
 }
 
 impl Measured {
-    /// The last of so many orders.
-    fn last_orders(first: Vec<Line>, orders: Vec<Line>) -> Measured {
+    /// The last of so many commits.
+    fn last_commits(first: Vec<Line>, orders: Vec<Line>) -> Measured {
         let calls = orders.len();
         Measured { first, with: orders, without: Vec::new(), calls, anew: true, rounds: 0 }
+    }
+
+    /// A call that leaves the station as it is.
+    fn repeatable(first: Vec<Line>, call: Line) -> Measured {
+        let (with, without) = (vec![call], Vec::new());
+        Measured { first, with, without, calls: 1, anew: false, rounds: 0 }
     }
 
     /// The call stands in `first` already once: a plan that is better than the held
@@ -43,7 +49,7 @@ impl Measured {
         let answers = answers_of(Station::fresh(1, 100), &first);
         let last = show(answers.last().map_or(b"".as_slice(), Vec::as_slice));
         let rounds = last.rsplit(' ').next().and_then(|word| word.parse().ok()).unwrap_or(0);
-        Measured { first, with: vec![call], without: Vec::new(), calls: 1, anew: false, rounds }
+        Measured { rounds, ..Measured::repeatable(first, call) }
     }
 
     /// Scripts with the calls and without them.
@@ -78,8 +84,8 @@ fn lines_call() -> Line {
     write_call(&Call::Lines { allowance: ALLOWANCE }).into_bytes()
 }
 
-/// An order that is the last of so many and finds room at once.
-pub fn typical_order(held: usize) -> Measured {
+/// A commit that is the last of so many and finds room at once.
+pub fn typical_commit(held: usize) -> Measured {
     let first = states::lasting(held - 1);
     let (with, without) = (states::passing(true), states::passing(false));
     let calls = states::PASSING as usize;
@@ -102,13 +108,21 @@ pub fn typical_offer(held: usize) -> Measured {
         write_call(&call).into_bytes()
     }));
     let answers = answers_of(Station::fresh(1, 100), &first);
-    let start = |answer: &Line| show(answer).strip_prefix("waiting ")?.parse().ok();
+    let start = |answer: &Line| {
+        let text = show(answer);
+        text.strip_prefix("waiting ")?.split(' ').next()?.parse().ok()
+    };
     let starts = answers.iter().filter_map(start).collect();
     Measured::kept(first, write_call(&Call::Offer { starts }).into_bytes())
 }
 
-pub fn worst_order() -> Measured {
-    Measured::last_orders(states::dense(150).0, states::behind_dense(30))
+pub fn worst_commit() -> Measured {
+    Measured::last_commits(states::dense(150).0, states::behind_dense(30))
+}
+
+/// Unlike a commit it can be asked for again on the same full plan.
+pub fn worst_preview() -> Measured {
+    Measured::repeatable(states::dense(179).0, states::preview_behind_dense())
 }
 
 pub fn worst_latest() -> Measured {
@@ -133,7 +147,7 @@ mod tests {
 
     #[test]
     fn scripts_differ_by_the_calls() {
-        for measured in [typical_order(18), worst_order(), typical_latest(18)] {
+        for measured in [typical_commit(18), worst_commit(), worst_preview(), typical_latest(18)] {
             let [with, without] = measured.scripts(4);
             assert_eq!(with.len() - without.len(), 4 * measured.calls);
         }
@@ -147,6 +161,16 @@ mod tests {
             let answers = answers_of(Station::fresh(1, 100), &measured.scripts(2)[0]);
             let last = show(&answers[answers.len() - 1]);
             assert!(last.starts_with("plan 7 "), "{last}");
+        }
+    }
+
+    /// Nothing that is measured ends with a refusal.
+    #[test]
+    fn commits_and_previews_that_are_answered() {
+        for measured in [typical_commit(180), worst_commit(), worst_preview()] {
+            let answers = answers_of(Station::fresh(1, 100), &measured.scripts(2)[0]);
+            let refused = answers.iter().find(|answer| answer.starts_with(b"refused"));
+            assert_eq!(refused.map(|answer| show(answer)), None);
         }
     }
 

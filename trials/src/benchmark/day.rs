@@ -1,9 +1,12 @@
 //! Days of the benchmark of source document 000, section 10.1, as scripts.
 
+use crate::fast::Station;
+use crate::fill::{fill, open_commit};
 use crate::generate::cars::{self, Car};
 use crate::protocol::{write_call, Call};
 use crate::random::Random;
 use crate::script::Line;
+use crate::yard::Order;
 
 /// "a car park with 180 spaces": each space has one car in a day, so no order is
 /// ever refused for want of a place.
@@ -77,12 +80,15 @@ pub fn script(class: Class, number: u64, replan: Replan) -> Vec<Line> {
     script_of(class, &cars, replan)
 }
 
+/// Every driver commits to the start that the station shows, so that an order is one
+/// call; the fast program finds these starts.
 fn script_of(class: Class, cars: &[Car], replan: Replan) -> Vec<Line> {
     let mut day = Day { clock: 0, lines: Vec::new() };
     day.call(&Call::Open { limit: class.limit, percent: class.percent });
     for (place, car) in cars.iter().enumerate() {
         day.move_to(car.arrival);
-        day.call(&Call::Order { line: car.line, time: car.time, due: car.due });
+        let Car { line, time, due, .. } = *car;
+        day.lines.push(open_commit(Order { line, time, due, rate: 1 }));
         // The first look after this arrival; a next car that comes before it
         // is part of the same look.
         let look = (car.arrival / SUPERVISED + 1) * SUPERVISED;
@@ -93,7 +99,7 @@ fn script_of(class: Class, cars: &[Car], replan: Replan) -> Vec<Line> {
         }
     }
     day.move_to(LAST_MINUTE);
-    day.lines
+    fill(Station::fresh(1, 100), &day.lines)
 }
 
 struct Day {
@@ -136,16 +142,16 @@ mod tests {
         let text: Vec<String> = lines.iter().map(|line| show(line)).collect();
         let expected = [
             "open 5 20",
-            "order 1 10 20",
+            "commit 1 10 20 1 0",
             "move 1 360",
-            "order 1 10 21",
+            "commit 1 10 21 1 10",
             "move 2 360",
             "latest",
-            "order 1 10 22",
+            "commit 1 10 22 1 20",
             "move 4 360",
             "latest",
             "move 7 360",
-            "order 1 10 27",
+            "commit 1 10 27 1 30",
             "move 8 360",
             "latest",
             "move 1000000 360",

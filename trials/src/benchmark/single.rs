@@ -28,8 +28,9 @@ fn rows(table: &mut Table, title: &str, measured: &Measured, pair: &Pair) -> Res
 
 pub fn print(pair: &Pair) -> Result<(), String> {
     let measured = [
-        ("order, room at once", calls::typical_order(HELD)),
-        ("order, through all steps", calls::worst_order()),
+        ("commit, room at once", calls::typical_commit(HELD)),
+        ("commit, through all steps", calls::worst_commit()),
+        ("preview, through all steps", calls::worst_preview()),
         ("offer, typical", calls::typical_offer(HELD)),
         ("offer, worst", calls::worst_offer()),
         ("replan by latest start, typical", calls::typical_latest(HELD)),
@@ -46,12 +47,12 @@ pub fn print(pair: &Pair) -> Result<(), String> {
 }
 
 pub fn print_growth(pair: &Pair) -> Result<(), String> {
-    let titles = ["order", "replan by latest start", "replan by lines, one round"];
+    let titles = ["commit", "replan by latest start", "replan by lines, one round"];
     for (title, call) in titles.iter().enumerate() {
         let mut table = Table::new(&["charges held", "program µs", "Rust µs", "ratio"]);
         for held in GROWING {
             let measured = match title {
-                0 => calls::typical_order(held),
+                0 => calls::typical_commit(held),
                 1 => calls::typical_latest(held),
                 _ => calls::typical_lines(held),
             };

@@ -1,9 +1,12 @@
 //! Stations with so many charges, as the scripts that lead to them.
 
+use crate::fast::Station;
+use crate::fill::{fill, open_commit};
 use crate::generate::cars;
 use crate::protocol::{write_call, Call};
 use crate::random::Random;
 use crate::script::Line;
+use crate::yard::Order;
 
 /// With this seed both replans of `peak` come to the last question of the common
 /// test at each number of cars measured; with most others some end before it.
@@ -15,8 +18,14 @@ fn line(call: &Call) -> Line {
     write_call(call).into_bytes()
 }
 
+/// An order of rate 1 whose start is still open.
 fn order(on: u32, time: u32, due: u32) -> Line {
-    line(&Call::Order { line: on, time, due })
+    open_commit(Order { line: on, time, due, rate: 1 })
+}
+
+/// The lines with the starts that the fast program would show.
+fn filled(lines: Vec<Line>) -> Vec<Line> {
+    fill(Station::fresh(1, 100), &lines)
 }
 
 /// A peak of the source's scenario 2, even lines, N = 20 and Δ = 0.2: all cars at
@@ -26,7 +35,7 @@ pub fn peak(held: usize) -> Vec<Line> {
     let mut lines = vec![line(&Call::Open { limit: 20, percent: 20 })];
     let orders = cars.iter().map(|car| order(car.line, car.time, car.due - car.arrival));
     lines.extend(orders);
-    lines
+    filled(lines)
 }
 
 /// So many minutes pass before a charge of `lasting` ends.
@@ -40,7 +49,7 @@ pub fn lasting(held: usize) -> Vec<Line> {
         let on = if place % 9 == 8 { 3 } else { 1 + place % 2 };
         lines.push(order(on, PASSING + 100 + 37 * place % 300, LOOSE));
     }
-    lines
+    filled(lines)
 }
 
 /// Each minute an order that starts at once and is gone a minute later; or the same
@@ -49,7 +58,8 @@ pub fn passing(orders: bool) -> Vec<Line> {
     let mut lines = Vec::new();
     for clock in 0..PASSING {
         if orders {
-            lines.push(order(3, 1, clock + 1));
+            let order = Order { line: 3, time: 1, due: clock + 1, rate: 1 };
+            lines.push(line(&Call::Commit { order, shown: clock }));
         }
         lines.push(line(&Call::Move { target: clock + 1, places: 360 }));
     }
@@ -76,12 +86,21 @@ pub fn dense(held: usize) -> (Vec<Line>, Line) {
     }
     let offer = line(&Call::Offer { starts });
     lines.push(offer.clone());
-    (lines, offer)
+    (filled(lines), offer)
 }
 
-/// Orders that find line 1 of `dense` full to its end.
-pub fn behind_dense(count: usize) -> Vec<Line> {
-    vec![order(1, 1, LOOSE); count]
+/// An order that finds line 1 of `dense` full to its end.
+const BEHIND_DENSE: Order = Order { line: 1, time: 1, due: LOOSE, rate: 1 };
+
+/// Such orders, one after the other.
+pub fn behind_dense(count: u32) -> Vec<Line> {
+    let commit = |place| Call::Commit { order: BEHIND_DENSE, shown: 2 * LONGEST + place };
+    (0..count).map(|place| line(&commit(place))).collect()
+}
+
+/// Such an order, previewed.
+pub fn preview_behind_dense() -> Line {
+    line(&Call::Preview { order: BEHIND_DENSE })
 }
 
 /// All charges on one line with one point, ordered against latest-start order, so
@@ -90,7 +109,7 @@ pub fn queue(held: usize) -> Vec<Line> {
     let mut lines = vec![line(&Call::Open { limit: 1, percent: 100 })];
     let due = |place: usize| 8 * (held - place) as u32;
     lines.extend((0..held).map(|place| order(1, 8, due(place))));
-    lines
+    filled(lines)
 }
 
 #[cfg(test)]
@@ -124,6 +143,8 @@ mod tests {
         let (mut lines, _) = dense(150);
         lines.extend(behind_dense(2));
         assert_eq!(last_answer(&lines), "ticket 152 start 2881");
+        lines.push(preview_behind_dense());
+        assert_eq!(last_answer(&lines), "start 2882");
     }
 
     #[test]
@@ -131,7 +152,7 @@ mod tests {
         let (lines, offer) = dense(180);
         let Ok(Some(Call::Offer { starts })) = read_call(&offer) else { panic!("no offer") };
         let times = lines.iter().filter_map(|line| match read_call(line) {
-            Ok(Some(Call::Order { time, .. })) => Some(time),
+            Ok(Some(Call::Commit { order, .. })) => Some(order.time),
             _ => None,
         });
         let changes = starts.iter().zip(times).flat_map(|(start, time)| [*start, start + time]);

@@ -54,8 +54,8 @@ mod tests {
     #[test]
     fn columns_are_even() {
         let mut table = Table::new(&["call", "µs"]);
-        table.row(vec!["an order".to_string(), "1.25".to_string()]);
-        let expected = "| call     |   µs |\n| -------- | ---: |\n| an order | 1.25 |\n";
+        table.row(vec!["a commit".to_string(), "1.25".to_string()]);
+        let expected = "| call     |   µs |\n| -------- | ---: |\n| a commit | 1.25 |\n";
         assert_eq!(table.text(), expected);
     }
 }

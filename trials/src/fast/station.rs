@@ -3,7 +3,7 @@
 //! kept it from call to call would save that; docs/BENCHMARKS.md says how much.
 
 use super::profile::{Load, Profile, Rules};
-use crate::yard::{Found, Moved, Ordered, Planned, Refusal, Yard};
+use crate::yard::{Committed, Found, Moved, Order, Planned, Refusal, Yard};
 
 const PLACES: usize = 180;
 const LAST_TICKET: u32 = 65_535;
@@ -15,6 +15,7 @@ pub struct Charge {
     pub line: usize,
     pub time: u32,
     pub due: u32,
+    pub rate: u16,
     pub start: u32,
 }
 
@@ -24,7 +25,7 @@ impl Charge {
     }
 
     pub fn load(&self) -> Load {
-        Load { line: self.line, from: self.start, until: self.end() }
+        Load { line: self.line, rate: self.rate, from: self.start, until: self.end() }
     }
 
     /// The key of latest-start order, which may be negative; charges lie in ticket
@@ -32,6 +33,13 @@ impl Charge {
     pub fn latest_start(&self) -> i32 {
         self.due as i32 - self.time as i32
     }
+}
+
+/// c × N / 100 rounded to the nearest whole number, an exact half to the even one.
+fn bound(limit: u32, percent: u32) -> u32 {
+    let (whole, rest) = (limit * percent / 100, limit * percent % 100);
+    let up = rest > 50 || (rest == 50 && whole % 2 == 1);
+    whole + u32::from(up)
 }
 
 pub struct Station {
@@ -44,19 +52,26 @@ pub struct Station {
 impl Station {
     pub fn fresh(limit: u32, percent: u32) -> Station {
         Station {
-            rules: Rules { limit: limit as u8, bound: (limit * percent / 100) as u8 },
+            rules: Rules { limit: limit as u16, bound: bound(limit, percent) as u16 },
             clock: 0,
             next_ticket: 1,
             charges: Vec::with_capacity(PLACES),
         }
     }
 
-    fn check_order(&self, line: u32, time: u32, due: u32) -> Result<(), Refusal> {
+    fn check_order(&self, order: Order) -> Result<(), Refusal> {
+        let Order { line, time, due, rate } = order;
         if !(1..=3).contains(&line) {
             return Err(4);
         }
         if !(1..=1_440).contains(&time) {
             return Err(5);
+        }
+        if rate != 1 && rate != 2 {
+            return Err(17);
+        }
+        if rate > u32::from(self.rules.limit) || rate > u32::from(self.rules.bound) {
+            return Err(18);
         }
         if due > 2_000_000 {
             return Err(6);
@@ -68,6 +83,14 @@ impl Station {
             return Err(14);
         }
         Ok(())
+    }
+
+    /// One search serves preview and commit.
+    fn earliest(&self, order: Order) -> Result<u32, Refusal> {
+        self.check_order(order)?;
+        let profile = Profile::of(self.charges.iter().map(Charge::load), self.clock);
+        let (line, rate) = (order.line as usize - 1, order.rate as u16);
+        Ok(profile.earliest(line, rate, order.time, self.clock, self.rules))
     }
 
     pub fn waiting(&self) -> impl Iterator<Item = &Charge> {
@@ -87,7 +110,7 @@ impl Yard for Station {
             1
         } else if percent > 100 {
             2
-        } else if percent * limit < 100 {
+        } else if bound(limit, percent) == 0 {
             3
         } else {
             *self = Station::fresh(limit, percent);
@@ -97,15 +120,19 @@ impl Yard for Station {
         Err(refusal)
     }
 
-    fn order(&mut self, line: u32, time: u32, due: u32) -> Result<Ordered, Refusal> {
-        self.check_order(line, time, due)?;
-        let line = line as usize - 1;
-        let profile = Profile::of(self.charges.iter().map(Charge::load), self.clock);
-        let start = profile.earliest(line, time, self.clock, self.rules);
-        let ticket = self.next_ticket;
-        self.charges.push(Charge { ticket, line, time, due, start });
+    fn preview(&mut self, order: Order) -> Result<u64, Refusal> {
+        Ok(u64::from(self.earliest(order)?))
+    }
+
+    fn commit(&mut self, order: Order, shown: u32) -> Result<Committed, Refusal> {
+        let start = self.earliest(order)?;
+        if shown != start {
+            return Err(16);
+        }
+        let (ticket, line, rate) = (self.next_ticket, order.line as usize - 1, order.rate as u16);
+        self.charges.push(Charge { ticket, line, time: order.time, due: order.due, rate, start });
         self.next_ticket += 1;
-        Ok(Ordered { ticket, start: u64::from(start) })
+        Ok(Committed { ticket, start: u64::from(start) })
     }
 
     fn move_clock(&mut self, target: u32, report: &mut [u32]) -> Result<Moved, Refusal> {
@@ -155,11 +182,11 @@ impl Yard for Station {
     fn enquire(&self, ticket: u32) -> Result<Found, Refusal> {
         let place = self.charges.binary_search_by_key(&ticket, |charge| charge.ticket);
         let charge = &self.charges[place.map_err(|_| 15u32)?];
-        let start = u64::from(charge.start);
+        let (start, rate) = (u64::from(charge.start), u32::from(charge.rate));
         Ok(if charge.start >= self.clock {
-            Found::Waiting { start }
+            Found::Waiting { start, rate }
         } else {
-            Found::Charging { start, end: u64::from(charge.end()) }
+            Found::Charging { start, end: u64::from(charge.end()), rate }
         })
     }
 }

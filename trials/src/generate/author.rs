@@ -10,6 +10,7 @@ use crate::protocol::{read_call, write_call, Call};
 use crate::random::Random;
 use crate::reference::Station;
 use crate::script::Script;
+use crate::yard::Order;
 
 /// Enough places for every move that is meant to succeed.
 pub const PLACES: u32 = 360;
@@ -53,8 +54,28 @@ impl Author {
         self.call(Call::Open { limit, percent });
     }
 
+    pub fn preview(&mut self, order: Order) {
+        self.call(Call::Preview { order });
+    }
+
+    pub fn commit(&mut self, order: Order, shown: u32) {
+        self.call(Call::Commit { order, shown });
+    }
+
+    /// The start that a preview would show; of a refused order the clock.
+    pub fn shown(&self, order: Order) -> u32 {
+        let earliest = |charge| self.station().earliest(&charge) as u32;
+        self.station().ordered(order).map_or(self.clock(), earliest)
+    }
+
+    /// An order that is committed with the start that a preview would show.
+    pub fn take(&mut self, order: Order) {
+        self.commit(order, self.shown(order));
+    }
+
+    /// Such an order of rate 1.
     pub fn order(&mut self, line: u32, time: u32, due: u32) {
-        self.call(Call::Order { line, time, due });
+        self.take(Order { line, time, due, rate: 1 });
     }
 
     pub fn move_to(&mut self, target: u32) {

@@ -1,9 +1,11 @@
 //! Tiny yards, every argument at and just outside its range and near 2^32.
-//! Several arguments are bad at the same time, because "Where several apply, the
-//! lowest number".
+//! Several arguments are bad at the same time, because "where several apply, its stated
+//! place goes before its number".
 
 use super::author::Author;
+use super::due;
 use crate::protocol::Call;
+use crate::yard::Order;
 
 const NEAR_WORD: [u32; 4] = [u32::MAX, u32::MAX - 1, 1 << 31, (1 << 31) - 1];
 
@@ -19,7 +21,7 @@ fn argument(author: &mut Author, usual: u32, edges: &[u32]) -> u32 {
 fn opening(author: &mut Author) {
     let usual = author.random.between(1, 5) as u32;
     let limit = argument(author, usual, &[0, 1, 2, 59, 60, 61]);
-    let least = 100u32.div_ceil(limit.clamp(1, 60));
+    let least = due::least_percent(u64::from(limit.clamp(1, 60))) as u32;
     let usual = author.random.between(u64::from(least), 100) as u32;
     let percent = argument(author, usual, &[0, 1, least - 1, least, 99, 100, 101]);
     author.open(limit, percent);
@@ -43,7 +45,16 @@ fn order(author: &mut Author) {
         2_000_001,
     ];
     let due = argument(author, usual, &edges);
-    author.order(line, time, due);
+    let usual = author.random.pick(&[1, 1, 2]);
+    let rate = argument(author, usual, &[0, 1, 2, 3]);
+    let order = Order { line, time, due, rate };
+    if author.random.percent(25) {
+        author.preview(order);
+    }
+    let earliest = author.shown(order);
+    let edges = [0, earliest.wrapping_sub(1), earliest, earliest.wrapping_add(1)];
+    let shown = argument(author, earliest, &edges);
+    author.commit(order, shown);
 }
 
 fn clock_move(author: &mut Author) {

@@ -5,10 +5,10 @@ use super::author::Author;
 use super::{due, mixed};
 use crate::protocol::LONGEST_LINE;
 
-const SAMPLES: [&str; 44] = [
+const SAMPLES: [&str; 53] = [
     "",
     "#",
-    "# order 1 1 1",
+    "# commit 1 1 1 1 0",
     " ",
     " latest",
     "latest ",
@@ -30,16 +30,26 @@ const SAMPLES: [&str; 44] = [
     "open 5 20\r",
     "open 4294967296 20",
     "open 99999999999999999999999999 20",
-    "order 1 10",
-    "order 1 10 -1",
-    "order 1 10 +60",
-    "order 1 10 6O",
-    "order 1 1.0 60",
-    "order 1\t10 60",
-    "order 4294967296 x 60",
-    "order x 4294967296 60",
-    "order 18446744073709551616 1 1",
-    "order 001 0000000000000002 4294967295",
+    // The call that preview and commit have replaced.
+    "order",
+    "order 1 10 600",
+    "order 1 10 600 0",
+    "preview",
+    "preview 1 10 600",
+    "preview 1 10 600 1 0",
+    "preview 1 10 600 x",
+    "preview 001 0000000000000002 600 01",
+    "commit",
+    "commit 1 10 600 1",
+    "commit 1 10 600 1 -1",
+    "commit 1 10 600 1 +0",
+    "commit 1 10 600 1 ?",
+    "commit 1 1.0 60 1 0",
+    "commit 1\t10 60 1 0",
+    "commit 4294967296 x 60 1 0",
+    "commit 1 10 60 4294967296 x",
+    "commit 1 10 60 1 4294967296",
+    "commit 1 10 60 1 0 0",
     "move 1",
     "move 1 360 1",
     "move 0x1 360",
@@ -54,7 +64,7 @@ const SAMPLES: [&str; 44] = [
 
 fn broken(author: &mut Author) -> Vec<u8> {
     let mut line = match author.random.below(3) {
-        0 => b"order 1 10 600".to_vec(),
+        0 => b"commit 1 10 600 1 0".to_vec(),
         1 => b"move 3 360".to_vec(),
         _ => b"offer 1 2 3".to_vec(),
     };
@@ -84,7 +94,7 @@ fn other_byte(author: &mut Author) -> u8 {
 fn long(author: &mut Author) -> Vec<u8> {
     let past = if author.random.percent(3) { 70_000 } else { author.random.pick(&[0, 0, 1, 900]) };
     let length = LONGEST_LINE + past;
-    let head: &[u8] = author.random.pick(&[&b"enquire 0"[..], b"order ", b"#", b"x", b"lines "]);
+    let head: &[u8] = author.random.pick(&[&b"enquire 0"[..], b"commit ", b"#", b"x", b"lines "]);
     let fill = if head == b"x" { b'y' } else { b'0' };
     let mut line = head.to_vec();
     line.resize(length - 1, fill);

@@ -4,6 +4,7 @@
 
 mod author;
 pub mod cars;
+mod commits;
 mod due;
 mod edges;
 mod evening;
@@ -15,7 +16,9 @@ mod lists;
 mod malformed;
 mod mixed;
 mod offers;
+mod openings;
 mod plans;
+mod rates;
 mod rounds;
 mod spent;
 mod tickets;
@@ -33,7 +36,7 @@ pub struct Kind {
     write: fn(&mut Author),
 }
 
-pub const KINDS: [Kind; 14] = [
+pub const KINDS: [Kind; 17] = [
     Kind { name: "edges", share: 15, write: edges::write },
     Kind { name: "mixed", share: 24, write: mixed::write },
     Kind { name: "offers", share: 15, write: offers::write },
@@ -45,9 +48,12 @@ pub const KINDS: [Kind; 14] = [
     Kind { name: "far", share: 2, write: far::write },
     Kind { name: "lists", share: 3, write: lists::write },
     Kind { name: "hurry", share: 10, write: hurry::write },
-    // These two are long and come once in a thousand, at turns of their own.
+    Kind { name: "commits", share: 15, write: commits::write },
+    Kind { name: "rates", share: 15, write: rates::write },
+    // These are long and come once in a thousand, at turns of their own.
     Kind { name: "tickets", share: 0, write: tickets::write },
     Kind { name: "spent", share: 0, write: spent::write },
+    Kind { name: "openings", share: 0, write: openings::write },
     // Only where a run of a program begins.
     Kind { name: UNOPENED, share: 0, write: unopened::write },
 ];
@@ -58,6 +64,7 @@ pub const UNOPENED: &str = "unopened";
 const THOUSAND: u64 = 1_000;
 const TICKETS_TURN: u64 = 99;
 const SPENT_TURN: u64 = 199;
+const OPENINGS_TURN: u64 = 299;
 
 /// The script with this number among those of a seed.
 pub fn script(seed: u64, number: u64) -> Script {
@@ -79,6 +86,7 @@ fn choose(random: &mut Random, number: u64) -> &'static Kind {
     match number % THOUSAND {
         TICKETS_TURN => return named("tickets").expect("a kind of the table"),
         SPENT_TURN => return named("spent").expect("a kind of the table"),
+        OPENINGS_TURN => return named("openings").expect("a kind of the table"),
         _ => (),
     }
     let mut draw = random.below(KINDS.iter().map(|kind| kind.share).sum());

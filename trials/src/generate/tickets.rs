@@ -1,7 +1,9 @@
 //! All tickets used up: 65,535 orders, cheap because each crowd of 180 is gone
-//! after one minute. A full yard is refused 13 before the tickets are refused 14.
+//! after one minute. A full yard is refused 13 before the tickets are refused 14, and a
+//! start that is not the earliest 16 after both.
 
 use super::author::Author;
+use crate::yard::Order;
 
 const LAST_TICKET: u32 = 65_535;
 
@@ -31,7 +33,9 @@ pub fn write(author: &mut Author) {
     author.order(1, 5, due);
     author.move_on(3);
     author.order(1, 5, due + 3);
-    author.order(1, 6, due + 3);
+    let order = Order { line: 1, time: 6, due: due + 3, rate: 2 };
+    author.preview(order);
+    author.commit(order, u32::MAX);
     author.latest();
     author.lines(10);
     author.enquire(LAST_TICKET);

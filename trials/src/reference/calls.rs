@@ -1,11 +1,12 @@
-//! The calls and what they refuse: "Where several apply, the lowest number. A
-//! refusal returns its number alone; the station and every list stay."
+//! The calls and what they refuse: "where several apply, its stated place goes before
+//! its number" (N2). "A refusal returns its number alone; the station and every list
+//! stay."
 
 use super::search::smallest_start;
-use super::station::{Charge, Station, PLACES};
-use crate::yard::{Found, Moved, Ordered, Planned, Refusal, Yard};
+use super::station::{bound, Charge, Station, PLACES};
+use crate::yard::{Committed, Found, Moved, Order, Planned, Refusal, Yard};
 
-/// The refusals of a call, each with the condition for it, in rising order.
+/// The refusals of a call, each with the condition for it, in the order of their places.
 fn refuse_first(refusals: &[(Refusal, bool)]) -> Result<(), Refusal> {
     match refusals.iter().find(|(_, applies)| *applies) {
         Some((number, _)) => Err(*number),
@@ -15,18 +16,22 @@ fn refuse_first(refusals: &[(Refusal, bool)]) -> Result<(), Refusal> {
 
 impl Station {
     /// The charge that an order asks for, with the clock in the place of its start,
-    /// or the refusal.
-    pub fn ordered(&self, line: u32, time: u32, due: u32) -> Result<Charge, Refusal> {
+    /// or the refusal: "Both meet the order's refusals".
+    pub fn ordered(&self, order: Order) -> Result<Charge, Refusal> {
+        let Order { line, time, due, rate } = order;
         let (time, due) = (u64::from(time), u64::from(due));
+        let above = |most: u64| u64::from(rate) > most;
         refuse_first(&[
             (4, !(1..=3).contains(&line)),
             (5, !(1..=1_440).contains(&time)),
+            (17, rate != 1 && rate != 2),
+            (18, above(self.limit) || above(self.bound)),
             (6, due > 2_000_000),
             (13, self.charges.len() == PLACES),
             (14, self.next_ticket > 65_535),
         ])?;
         let (ticket, order) = (self.next_ticket, self.clock);
-        Ok(Charge { ticket, line, order, time, due, start: order })
+        Ok(Charge { ticket, line, order, time, due, rate, start: order })
     }
 
     /// "The start is the smallest s not below the clock with which the held plan and
@@ -37,31 +42,39 @@ impl Station {
     }
 
     /// "Answer: ticket and start. Tickets rise by one."
-    pub fn accept(&mut self, charge: Charge) -> Ordered {
+    pub fn accept(&mut self, charge: Charge) -> Committed {
         self.charges.push(charge);
         self.next_ticket += 1;
-        Ordered { ticket: charge.ticket, start: charge.start }
+        Committed { ticket: charge.ticket, start: charge.start }
     }
 }
 
 impl Yard for Station {
-    /// "Beside a refused opening stands the fresh station of 1, 100."
+    /// "Beside a refused opening stands the fresh station of 1, 100." "Refusal 3 is
+    /// given when this D is 0" (N3).
     fn open(&mut self, limit: u32, percent: u32) -> Result<u32, Refusal> {
         let (limit, percent) = (u64::from(limit), u64::from(percent));
         *self = Station::fresh(1, 100);
-        refuse_first(&[
-            (1, !(1..=60).contains(&limit)),
-            (2, percent > 100),
-            (3, percent * limit < 100),
-        ])?;
+        refuse_first(&[(1, !(1..=60).contains(&limit)), (2, percent > 100)])?;
+        refuse_first(&[(3, bound(limit, percent) == 0)])?;
         *self = Station::fresh(limit, percent);
         Ok(self.bound as u32)
     }
 
-    fn order(&mut self, line: u32, time: u32, due: u32) -> Result<Ordered, Refusal> {
-        let charge = self.ordered(line, time, due)?;
-        let start = self.earliest(&charge);
-        Ok(self.accept(charge.starting_at(start)))
+    /// "a preview that answers the start it would give and changes nothing"
+    fn preview(&mut self, order: Order) -> Result<u64, Refusal> {
+        let charge = self.ordered(order)?;
+        Ok(self.earliest(&charge))
+    }
+
+    /// "a commit that takes the same order with the start shown. The commit gives a
+    /// ticket and exactly that start. Refused: 16, after 14, commit whose shown start is
+    /// not the earliest start at that moment."
+    fn commit(&mut self, order: Order, shown: u32) -> Result<Committed, Refusal> {
+        let charge = self.ordered(order)?;
+        let shown = u64::from(shown);
+        refuse_first(&[(16, shown != self.earliest(&charge))])?;
+        Ok(self.accept(charge.starting_at(shown)))
     }
 
     /// "Charges with start at or above the old clock and below the target are
@@ -106,11 +119,11 @@ impl Yard for Station {
 
     fn enquire(&self, ticket: u32) -> Result<Found, Refusal> {
         let charge = self.charges.iter().find(|charge| charge.ticket == ticket).ok_or(15u32)?;
-        let start = charge.start;
+        let Charge { start, rate, .. } = *charge;
         Ok(if charge.begun(self.clock) {
-            Found::Charging { start, end: charge.end() }
+            Found::Charging { start, end: charge.end(), rate }
         } else {
-            Found::Waiting { start }
+            Found::Waiting { start, rate }
         })
     }
 }

@@ -1,6 +1,7 @@
 //! "A **station** holds a limit N, a percentage c, a bound D, a clock, the next
 //! ticket and up to 180 charges". "A **charge** has a ticket, a line, an order
-//! minute, a charging time p, a due minute d and a start s."
+//! minute, a charging time p, a due minute d and a start s." "Each order states a rate,
+//! 1 or 2" (N4).
 
 use super::minutes::Rules;
 
@@ -14,6 +15,7 @@ pub struct Charge {
     pub order: u64,
     pub time: u64,
     pub due: u64,
+    pub rate: u32,
     pub start: u64,
 }
 
@@ -36,6 +38,11 @@ impl Charge {
     /// "A charge whose end is at or below the clock is finished"
     pub fn finished(&self, clock: u64) -> bool {
         self.end() <= clock
+    }
+
+    /// "a charge of rate 2 counts as two wherever a line is counted" (N4)
+    pub fn weight(&self) -> u64 {
+        self.rate.into()
     }
 
     /// d − p: "A latest start may now be negative" (N1).
@@ -66,10 +73,9 @@ pub struct Station {
 }
 
 impl Station {
-    /// "A fresh station: clock 0, next ticket 1, no charges." "D is c × N / 100
-    /// rounded down."
+    /// "A fresh station: clock 0, next ticket 1, no charges."
     pub fn fresh(limit: u64, percent: u64) -> Station {
-        let bound = percent * limit / 100;
+        let bound = bound(limit, percent);
         Station { limit, percent, bound, clock: 0, next_ticket: 1, charges: Vec::new() }
     }
 
@@ -96,6 +102,14 @@ impl Station {
         }
         charges
     }
+}
+
+/// "D becomes c × N / 100 rounded to the nearest whole number, an exact half to the
+/// even one" (N3). Found by trying: of all whole numbers up to N the one that is least
+/// away, in hundredths, and the even one of two that are.
+pub fn bound(limit: u64, percent: u64) -> u64 {
+    let away = |whole: u64| (100 * whole).abs_diff(percent * limit);
+    (0..=limit).min_by_key(|whole| (away(*whole), whole % 2)).expect("0 is always tried")
 }
 
 /// "**Lateness** is the sum of max(0, end − d) over the charges held"

@@ -3,11 +3,14 @@
 //! "When the yard takes delivery", and the wrong programs of each request. All else
 //! is the reference's.
 
+mod bounds;
+mod commits;
 mod lists;
+mod rounds;
 mod starts;
 
 use trials::reference::{Charge, List, Station};
-use trials::yard::{Found, Moved, Ordered, Planned, Refusal, Yard};
+use trials::yard::{Committed, Found, Moved, Order, Planned, Refusal, Yard};
 
 #[derive(Clone, Copy, Debug, PartialEq, Eq)]
 pub enum Error {
@@ -36,6 +39,38 @@ pub enum Error {
     LatenessFromTheClock,
     HurryRefused6,
     HurryRefused7,
+    // N2, see the minute, then decide
+    TakesAnySoundStart,
+    GivesTheEarliestStart,
+    /// The one of the last preview, whatever came after it.
+    TakesTheStartShownBefore,
+    PreviewTakesATicket,
+    PreviewShowsTheLastEnd,
+    /// 16 before 13.
+    StartBeforePlaces,
+    // N3, balance bound rounded to nearest
+    HalfUp,
+    HalfDown,
+    RoundedUp,
+    RoundedDown,
+    /// Rounded down, but refused 3 only where the right bound is 0.
+    RoundedDownAndOpened,
+    /// The right bound, but refused 3 by c × N below 100.
+    RefusedBelowAHundred,
+    // N4, points with two rates
+    RateNotInTheBalance,
+    SecondHalfOnTheNextLine,
+    /// 18 for a rate above N alone.
+    RateAgainstTheLimitOnly,
+    /// 17 and 18 after 6.
+    RateAfterDue,
+    RateLostByAPlan,
+    RateNotShown,
+    CapsCountCharges,
+    /// A placed charge is not seen where the begun ones count for as much.
+    PlacedChargeHidden,
+    /// None of these, but the rounds are made as for the two before.
+    OwnRounds,
 }
 
 #[derive(Clone)]
@@ -43,11 +78,13 @@ pub struct Faulty {
     error: Error,
     station: Station,
     reported: bool,
+    /// What the last preview showed.
+    shown: Option<(Order, u64)>,
 }
 
 impl Faulty {
     pub fn new(error: Error) -> Faulty {
-        Faulty { error, station: Station::fresh(1, 100), reported: false }
+        Faulty { error, station: Station::fresh(1, 100), reported: false, shown: None }
     }
 
     /// A call of the reference, at which a start equal to the clock is begun if that
@@ -73,6 +110,9 @@ impl Faulty {
     ) -> Result<Planned, Refusal> {
         let before = self.station.clone();
         let mut planned = self.with_clock(u64::MAX, call)?;
+        if self.error == Error::RateLostByAPlan && planned.cause == 0 {
+            self.station.charges.iter_mut().for_each(|charge| charge.rate = 1);
+        }
         if self.error == Error::AlwaysKeeps {
             planned = before.keep(7, planned.rounds);
             self.station = before;
@@ -83,31 +123,45 @@ impl Faulty {
         Ok(planned)
     }
 
-    /// The refusal of an order that the rules take, where the error is about it.
-    fn refuses(&self, charge: &Charge) -> Result<(), Refusal> {
-        let in_a_hurry = charge.due < charge.order + charge.time;
-        match self.error {
-            Error::FullFromTheStart => Err(13),
-            Error::HurryRefused6 if in_a_hurry => Err(6),
-            Error::HurryRefused7 if in_a_hurry => Err(7),
-            _ => Ok(()),
+    /// The charge that an order asks for, or the refusal.
+    fn ordered(&self, order: Order) -> Result<Charge, Refusal> {
+        let mut station = self.station.clone();
+        if self.error == Error::RateAgainstTheLimitOnly {
+            station.bound = station.limit;
         }
+        let mut charge = match station.ordered(order) {
+            Err(17 | 18) if self.error == Error::RateAfterDue && order.due > 2_000_000 => {
+                return Err(6);
+            }
+            answer => answer?,
+        };
+        let met = charge.order + charge.time;
+        match self.error {
+            Error::FullFromTheStart => return Err(13),
+            Error::HurryRefused6 if charge.due < met => return Err(6),
+            Error::HurryRefused7 if charge.due < met => return Err(7),
+            Error::LatenessFromTheClock => charge.due = charge.due.max(met),
+            _ => (),
+        }
+        Ok(charge)
     }
 }
 
 impl Yard for Faulty {
     fn open(&mut self, limit: u32, percent: u32) -> Result<u32, Refusal> {
         self.reported = false;
-        self.station.open(limit, percent)
+        self.opened(limit, percent)
     }
 
-    fn order(&mut self, line: u32, time: u32, due: u32) -> Result<Ordered, Refusal> {
-        let mut charge = self.station.ordered(line, time, due)?;
-        self.refuses(&charge)?;
-        if self.error == Error::LatenessFromTheClock {
-            charge.due = charge.due.max(charge.order + charge.time);
-        }
-        let start = self.start_of(&charge).unwrap_or_else(|| self.station.earliest(&charge));
+    fn preview(&mut self, order: Order) -> Result<u64, Refusal> {
+        let charge = self.ordered(order)?;
+        Ok(self.previewed(order, &charge))
+    }
+
+    fn commit(&mut self, order: Order, shown: u32) -> Result<Committed, Refusal> {
+        self.refuse_before(order, shown.into())?;
+        let charge = self.ordered(order)?;
+        let start = self.committed(order, &charge, shown.into()).ok_or(16u32)?;
         Ok(self.station.accept(charge.starting_at(start)))
     }
 
@@ -150,6 +204,10 @@ impl Yard for Faulty {
     }
 
     fn enquire(&self, ticket: u32) -> Result<Found, Refusal> {
-        self.clone().with_clock(u64::MAX, |faulty| faulty.station.enquire(ticket))
+        let mut faulty = self.clone();
+        if self.error == Error::RateNotShown {
+            faulty.station.charges.iter_mut().for_each(|charge| charge.rate = 1);
+        }
+        faulty.with_clock(u64::MAX, |faulty| faulty.station.enquire(ticket))
     }
 }

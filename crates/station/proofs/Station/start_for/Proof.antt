@@ -39,7 +39,7 @@ profile-before-requires c κs =
 earliest-requires : tie.Need-earliest-requires
 earliest-requires c κs =
     let s = c .before .before .before .before .before .before .before in (
-      can-search (s .args .self) (c .before .before .before .profile-before .result) (s .args .time) (s .pre) (all-shown (s .args .self) _ (s .pre) (c .before .before .before .profile-before .ensures)) (granted (c .before .before .before .before .before) .time-most),
+      can-search (s .args .self) (c .before .before .before .profile-before .result) _ (s .args .time) (s .pre) (all-shown (s .args .self) _ _ (s .pre) (c .before .before .before .profile-before .ensures)) (omega (arith, s .pre .state .clock-high)) (granted (c .before .before .before .before .before) .time-most),
       granted (c .before .before .before .before .before) .is-rate,
       granted (c .before .before .before .before .before) .within-limit,
       granted (c .before .before .before .before .before) .within-bound,
@@ -58,7 +58,7 @@ returns-2 c =
     let r = c .before .before .before .before .before .before .before .before .before .order-refusal in
     shown-found (s .args .self) (s .args .line) (s .args .time) (s .args .due) (s .args .rate) (r .result) nothing (r .ensures)
     (none (c .before .before .before .before .before .before .before .before))
-    (earliest-shows (a .earliest .ensures) (s .args .self .clock) _ (all-shown (s .args .self) _ (s .pre) (a .before .before .before .before .profile-before .ensures))
+    (earliest-shows (a .earliest .ensures) _ _ (all-shown (s .args .self) _ _ (s .pre) (a .before .before .before .before .profile-before .ensures))
     ∙ ap foundAt (c .enum-told .given .1))
 
 returns-3 : tie.Need-returns-3
@@ -69,7 +69,7 @@ returns-3 c =
     let r = c .before .before .before .before .before .before .before .before .before .before .order-refusal in
     shown-found (s .args .self) (s .args .line) (s .args .time) (s .args .due) (s .args .rate) (r .result) (at _) (r .ensures)
     (none (c .before .before .before .before .before .before .before .before .before))
-    (earliest-shows (a .earliest .ensures) (s .args .self .clock) _ (all-shown (s .args .self) _ (s .pre) (a .before .before .before .before .profile-before .ensures))
+    (earliest-shows (a .earliest .ensures) _ _ (all-shown (s .args .self) _ _ (s .pre) (a .before .before .before .before .profile-before .ensures))
     ∙ ap foundAt (found .found .given .1))
 
 pub start-for-spec : {M : Type 1} → statement M

@@ -1,0 +1,24 @@
+//! Every pair of N and c around their ranges, opened once (N3): "D becomes c × N / 100
+//! rounded to the nearest whole number, an exact half to the even one". Some of the
+//! stations get orders on one line until the bound makes one wait.
+
+use super::author::Author;
+
+pub fn write(author: &mut Author) {
+    for limit in 0..=61 {
+        for percent in 0..=101 {
+            author.open(limit, percent);
+            if author.random.percent(3) {
+                fill_a_minute(author);
+            }
+        }
+    }
+}
+
+/// Beside empty lines the bound lets so many start at once, and no more.
+fn fill_a_minute(author: &mut Author) {
+    let line = author.random.between(1, 3) as u32;
+    for _ in 0..=author.station().bound {
+        author.order(line, 1, 1);
+    }
+}
