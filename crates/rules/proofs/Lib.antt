@@ -21,4 +21,5 @@ pub mod Validity
 pub mod Shown
 pub mod Earlier
 pub mod Unrated
+pub mod UnratedPlans
 pub mod RateOne

@@ -2,20 +2,21 @@
 -- them from any valid station that holds charges of rate 1.
 use mathlib.Core.Path.{_≡_, refl, ap, _∙_}
 use Prim.Native.Nat.{ℕ, zero, suc}
-use mathlib.Core.Bool.{Bool, not}
-use mathlib.Core.List.{List, [], _∷_, _++_}
+use mathlib.Core.Bool.{not}
+use mathlib.Core.List.{List, [], _∷_}
 use borrow.Author.Tests.{le-ltb}
 use Rattle.rules.specs.Basics.{Each, Found, at, nothing, firstOf}
 use Rattle.rules.specs.Charge.{loadsOf, isFinished}
 use Rattle.rules.specs.Replan.{Proposal, starts, none, latest, Replanned, byLines}
 use Rattle.rules.specs.Judgement.{judged}
-use Rattle.rules.specs.Calls.{State, limitsOf, Result, answering, Call, preview, commit, move, offer, replanLatest, replanLines, enquire, refusals, orderRefusals, drawFor, startFor, isStart, previewedAt, previewing, committing, moving, decided, tested, offering, replanningLatest, replanningLines, enquiring, step, run}
+use Rattle.rules.specs.Calls.{State, limitsOf, Result, answering, Call, preview, commit, move, offer, replanLatest, replanLines, enquire, refusals, drawFor, startFor, previewedAt, previewing, committing, moving, decided, tested, offering, replanningLatest, replanningLines, enquiring, step, run}
 use Rattle.rules.specs.Valid.{ValidState}
-use Rattle.rules.specs.Unrated.{testedBefore, startForBefore, orderRefusalsBefore, stepBefore, runBefore, AtRateOne, StatesOne}
+use Rattle.rules.specs.Unrated.{testedBefore, startForBefore, stepBefore, runBefore, AtRateOne, StatesOne}
 use Rattle.rules.proofs.Lists.{each-append, keep-each}
 use Rattle.rules.proofs.Restarts.{each-restarted}
 use Rattle.rules.proofs.Validity.{step-valid}
-use Rattle.rules.proofs.Unrated.{loads-one, earliest-is, latest-is, lines-is, judged-is}
+use Rattle.rules.proofs.Unrated.{loads-one, earliest-is}
+use Rattle.rules.proofs.UnratedPlans.{latest-is, lines-is, judged-is}
 
 -- One call
 
