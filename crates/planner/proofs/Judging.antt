@@ -1,17 +1,18 @@
 -- The test of a plan, from what the code finds: one law for each way out.
 use mathlib.Core.Path.{_≡_, refl, sym, _∙_, ap}
 use Prim.Native.Nat.{ℕ, zero, suc, _≤_, _<_}
-use mathlib.Core.Bool.{Bool, true, false, cond}
-use mathlib.Core.List.{List, [], _∷_}
+use mathlib.Core.Bool.{Bool, true, false}
+use mathlib.Core.List.{List}
 use native.Mathlib.Omega.{arith}
 use lib.Dec.{ltb}
 use borrow.Author.Tests.{lt-ltb, le-ltb}
-use Rattle.rules.specs.Basics.{some, Each}
+use Rattle.rules.specs.Basics.{some}
 use Rattle.rules.specs.Load.{limits, IsRate, limitAt, fromOn}
-use Rattle.rules.specs.Charge.{Charge, starting, endOf, isBegun, begunCharges, loadsOf, lastEnd, lateness}
+use Rattle.rules.specs.Charge.{endOf, begunCharges, loadsOf, lastEnd, lateness}
 use Rattle.rules.specs.Search.{firstUnbalanced}
 use Rattle.rules.specs.Judgement.{restarted, judged}
 use Rattle.rules.proofs.Lists.{each-tabulate, tabulate-each}
+use Rattle.rules.proofs.Restarts.{each-restarted}
 use Rattle.charges.specs.declared.Charges.{Charges}
 use Rattle.charges.specs.Arrays.{chargeAt, chargesOf, Holds}
 use Rattle.charges.specs.Held.{Listed}
@@ -43,25 +44,6 @@ module _ (next : Charges) {c : Charges} {x y : ℕ} (listed : Listed c) (ex : x 
   shows-next s = rw (all-before next 4294967295 (λ i low. omega (arith, end-most i low))) at s
 
 -- The new plan has the rates of the held one
-
-each-restarted :
-    (P : Charge → Type 0)
-    → ((x : Charge) (s : ℕ) → P x → P (starting x s))
-    → (clock : ℕ) (xs : List Charge) (ss : List ℕ)
-    → Each P xs
-    → Each P (restarted clock xs ss)
-each-restarted P f clock [] ss e = tt
-each-restarted P f clock (x ∷ xs) [] e = e
-each-restarted P f clock (x ∷ xs) (s ∷ ss) e =
-    go (isBegun clock x) (each-restarted P f clock xs (s ∷ ss) (e .1)) (each-restarted P f clock xs ss (e .1))
-  where
-    go :
-        (b : Bool)
-        → Each P (restarted clock xs (s ∷ ss))
-        → Each P (restarted clock xs ss)
-        → Each P (cond b (x ∷ restarted clock xs (s ∷ ss)) (starting x s ∷ restarted clock xs ss))
-    go true u v = (e .0, u)
-    go false u v = (f x s (e .0), v)
 
 pub next-rated : {c next : Charges} (clock : ℕ) (ss : List ℕ) → Listed c → Holds (restarted clock (chargesOf c) ss) next → Rated next
 next-rated {c} {next} clock ss listed h i low =

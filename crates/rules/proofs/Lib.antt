@@ -20,3 +20,5 @@ pub mod Restarts
 pub mod Validity
 pub mod Shown
 pub mod Earlier
+pub mod Unrated
+pub mod RateOne

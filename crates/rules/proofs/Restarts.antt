@@ -63,6 +63,26 @@ restarted-each P f empty e = tt
 restarted-each P f (same r) e = (e .0, restarted-each P f r (e .1))
 restarted-each P f (other {c = c} {s = s} h j r) e = (f c s j (e .0), restarted-each P f r (e .1))
 
+-- of the definition itself, whatever the starts
+pub each-restarted :
+    (P : Charge → Type 0)
+    → ((x : Charge) (s : ℕ) → P x → P (starting x s))
+    → (clock : ℕ) (xs : List Charge) (ss : List ℕ)
+    → Each P xs
+    → Each P (restarted clock xs ss)
+each-restarted P f clock [] ss e = tt
+each-restarted P f clock (x ∷ xs) [] e = e
+each-restarted P f clock (x ∷ xs) (s ∷ ss) e =
+    go (isBegun clock x) (each-restarted P f clock xs (s ∷ ss) (e .1)) (each-restarted P f clock xs ss (e .1))
+  where
+    go :
+        (b : Bool)
+        → Each P (restarted clock xs (s ∷ ss))
+        → Each P (restarted clock xs ss)
+        → Each P (cond b (x ∷ restarted clock xs (s ∷ ss)) (starting x s ∷ restarted clock xs ss))
+    go true u v = (e .0, u)
+    go false u v = (f x s (e .0), v)
+
 pub restarted-rising : (i : ℕ) {clock : ℕ} {cs ds : List Charge} → Restarted clock cs ds → Rising i cs → Rising i ds
 restarted-rising i empty n = tt
 restarted-rising i (same {c = c} r) n = (n .0, restarted-rising (suc (c .ticket)) r (n .1))

@@ -181,7 +181,7 @@ all-placed P find h placed (c ∷ cs) e =
         }
 
 -- the charges taken line by line are those that wait
-each-line-by-line : (P : Charge → Type 0) (cs : List Charge) → Each P cs → Each P (lineByLine cs)
+pub each-line-by-line : (P : Charge → Type 0) (cs : List Charge) → Each P cs → Each P (lineByLine cs)
 each-line-by-line P cs e =
     each-append P (byLatestStart (onLine 1 cs)) (byLatestStart (onLine 2 cs) ++ byLatestStart (onLine 3 cs)) (by 1)
     (each-append P (byLatestStart (onLine 2 cs)) (byLatestStart (onLine 3 cs)) (by 2) (by 3))

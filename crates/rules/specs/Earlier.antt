@@ -33,7 +33,7 @@ Together line p d rate shown before =
 
 -- Before N1
 
--- the refusals of an order: one row more
+-- the refusals of an order, with the row that N1 took away
 abbrev pub earlierRefusals : State → ℕ → ℕ → ℕ → ℕ → List (Bool × ℕ)
 earlierRefusals s line p d rate =
     -- "line not 1 to 3"

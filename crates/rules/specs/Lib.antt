@@ -6,6 +6,7 @@ pub mod Replan
 pub mod Judgement
 pub mod Calls
 pub mod Earlier
+pub mod Unrated
 pub mod Valid
 pub mod Entry
 pub mod CasesAToL
