@@ -25,10 +25,12 @@ impl fmt::Display for Broken {
 }
 
 /// "an order is accepted at its commit" (N2), "when it is answered with a ticket. Its
-/// order minute is the clock at that moment; its line and p are those passed in."
+/// order minute is the clock at that moment; its line and p are those passed in", and
+/// so is its rate.
 struct Order {
     line: u32,
     time: u64,
+    rate: u32,
     order: u64,
     /// "the one reported by the clock move that passed it"
     reported: Option<u64>,
@@ -166,6 +168,7 @@ impl Trace {
         self.orders.push(Order {
             line: order.line,
             time: u64::from(order.time),
+            rate: order.rate,
             order: self.clock,
             reported: None,
             waiting: None,
@@ -212,7 +215,7 @@ impl Trace {
     /// "An enquiry finds a begun order charging until it is finished, with its
     /// reported start, and that start + p as the end; for a finished one the
     /// answer is refusal 15." "Any other order has never been reported, and an
-    /// enquiry finds it waiting."
+    /// enquiry finds it waiting." "Enquiries show the rate" (N4).
     fn enquiry(&mut self, ticket: u32, answer: &Answer) -> Checked {
         let clock = self.clock;
         let Some(order) = self.order(u64::from(ticket)) else {
@@ -220,15 +223,15 @@ impl Trace {
         };
         let found = || format!("ticket {ticket}: {} {:?}", answer.words, answer.numbers);
         match (order.reported, answer.words.as_str(), answer.numbers.as_slice()) {
-            (None, "waiting", [start]) => {
+            (None, "waiting", [start, rate]) => {
                 let same = order.waiting.is_none_or(|before| before == *start);
-                ensure(*start >= clock && same, found)?;
+                ensure(*start >= clock && same && *rate == order.rate.into(), found)?;
                 order.waiting = Some(*start);
                 Ok(())
             }
-            (Some(start), "charging", [shown, end]) => {
+            (Some(start), "charging", [shown, end, rate]) => {
                 let right = *shown == start && *end == start + order.time && clock < *end;
-                ensure(right, found)
+                ensure(right && *rate == order.rate.into(), found)
             }
             (Some(start), "refused", [15]) => ensure(start + order.time <= clock, found),
             _ => Err(found()),
@@ -266,14 +269,14 @@ impl Trace {
     /// "in every minute, gone or to come under the plan held, no line has more
     /// than its limit charging and no two lines differ by more than the bound";
     /// "A line's count in a minute takes all accepted orders of the list, dropped
-    /// ones too". Counts change only where an order starts or ends, so these
+    /// ones too"; they are "weighted counts" (N4). Counts change only where an order starts or ends, so these
     /// minutes stand for all.
     fn check_counts(&self) -> Checked {
         let mut changes = Vec::new();
         for order in &self.orders {
-            let start = order.start().unwrap_or(0);
-            changes.push((start, order.line as usize - 1, 1));
-            changes.push((start + order.time, order.line as usize - 1, -1));
+            let (start, line) = (order.start().unwrap_or(0), order.line as usize - 1);
+            changes.push((start, line, i64::from(order.rate)));
+            changes.push((start + order.time, line, -i64::from(order.rate)));
         }
         changes.sort_unstable();
         let mut counts = [0i64; 3];

@@ -65,7 +65,7 @@ impl Calls {
         let turn = self.given / 2;
         self.given += 1;
         match self.given % 2 {
-            1 => format!("commit 1 1 9 {turn:018}").into_bytes(),
+            1 => format!("commit 1 1 9 1 {turn:016}").into_bytes(),
             _ => format!("move {:022} 360", turn + 1).into_bytes(),
         }
     }
@@ -106,7 +106,7 @@ const ENDS: [(&str, &str); 8] = [
     ("a call", "latest"),
     ("a call with a line feed", "latest\n"),
     ("a comment", "#"),
-    ("two calls", "commit 1 5 5 0\nenquire 1"),
+    ("two calls", "commit 1 5 5 1 0\nenquire 1"),
     ("an error and a comment", "x\n#x"),
 ];
 
@@ -118,7 +118,7 @@ fn ends() -> Vec<Trial> {
         inputs.push((name.to_string(), text.as_bytes().to_vec()));
     }
     for length in [LONGEST_LINE - 1, LONGEST_LINE, LONGEST_LINE + 1, 2 * BLOCK + 1] {
-        let input = [b"commit 1 5 5 0\n".to_vec(), long_call(length)].concat();
+        let input = [b"commit 1 5 5 1 0\n".to_vec(), long_call(length)].concat();
         inputs.push((format!("a last line of {length} bytes"), input));
     }
     for length in [BLOCK - 1, BLOCK, BLOCK + 1, 2 * BLOCK] {
@@ -139,9 +139,9 @@ fn ends() -> Vec<Trial> {
 }
 
 const CUT: [&str; 9] = [
-    "commit 1 10 60 ?",
-    "preview 2 10 60",
-    "commit 1 10 60 0",
+    "commit 1 10 60 1 ?",
+    "preview 2 10 60 1",
+    "commit 1 10 60 1 0",
     "enquire 2",
     "# no answer",
     "",
@@ -304,7 +304,7 @@ fn long_reports() -> Trial {
         // Sixty in a minute, for three minutes.
         for place in 0..180 {
             let start = 3 * (turn - 1) + place / 60;
-            input.extend(format!("commit 1 1 9 {start}\n").into_bytes());
+            input.extend(format!("commit 1 1 9 1 {start}\n").into_bytes());
         }
         input.extend(format!("move {} 360\n", 3 * turn).into_bytes());
     }

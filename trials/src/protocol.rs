@@ -3,13 +3,13 @@
 //! | line | answer |
 //! | --- | --- |
 //! | `open N c` | `open 0 D`, or `refused K` |
-//! | `preview line p d` | `start S`, or `refused K` |
-//! | `commit line p d S` | `ticket T start S`, or `refused K` |
+//! | `preview line p d rate` | `start S`, or `refused K` |
+//! | `commit line p d rate S` | `ticket T start S`, or `refused K` |
 //! | `move target places` | `moved R dropped X T S T S ..`, or `refused K` |
 //! | `offer s1 s2 ..` | `plan CAUSE BEFORE AFTER ROUNDS`, or `refused 10` |
 //! | `latest` | `plan ..` |
 //! | `lines allowance` | `plan ..`, or `refused 11` |
-//! | `enquire T` | `waiting S`, `charging S E`, or `refused 15` |
+//! | `enquire T` | `waiting S RATE`, `charging S E RATE`, or `refused 15` |
 //!
 //! Words are separated by exactly one space byte. Empty lines and lines that
 //! begin with `#` get no answer. Anything else gets `error` and a reason.
@@ -68,12 +68,12 @@ pub fn read_call(text: &[u8]) -> Result<Option<Call>, Fault> {
     let mut words = text.split(|byte| *byte == b' ');
     let call = match words.next().unwrap_or(b"") {
         b"open" => numbers(words).map(|[limit, percent]| Call::Open { limit, percent }),
-        b"preview" => numbers(words).map(|[line, time, due]| {
-            let order = Order { line, time, due };
+        b"preview" => numbers(words).map(|[line, time, due, rate]| {
+            let order = Order { line, time, due, rate };
             Call::Preview { order }
         }),
-        b"commit" => numbers(words).map(|[line, time, due, shown]| {
-            let order = Order { line, time, due };
+        b"commit" => numbers(words).map(|[line, time, due, rate, shown]| {
+            let order = Order { line, time, due, rate };
             Call::Commit { order, shown }
         }),
         b"move" => numbers(words).map(|[target, places]| Call::Move { target, places }),
@@ -140,8 +140,8 @@ pub fn write_call(call: &Call) -> String {
 }
 
 fn write_order(order: &Order) -> String {
-    let Order { line, time, due } = order;
-    format!("{line} {time} {due}")
+    let Order { line, time, due, rate } = order;
+    format!("{line} {time} {due} {rate}")
 }
 
 /// Appends a word and numbers to an answer, separated by single spaces.
@@ -206,7 +206,9 @@ pub fn write_planned(out: &mut Vec<u8>, planned: Planned) {
 
 pub fn write_found(out: &mut Vec<u8>, found: Found) {
     match found {
-        Found::Waiting { start } => words(out, "waiting", &[start]),
-        Found::Charging { start, end } => words(out, "charging", &[start, end]),
+        Found::Waiting { start, rate } => words(out, "waiting", &[start, rate.into()]),
+        Found::Charging { start, end, rate } => {
+            words(out, "charging", &[start, end, rate.into()]);
+        }
     }
 }

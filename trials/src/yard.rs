@@ -10,6 +10,7 @@ pub struct Order {
     pub line: u32,
     pub time: u32,
     pub due: u32,
+    pub rate: u32,
 }
 
 /// Answer of a commit: "a ticket and exactly that start".
@@ -36,11 +37,12 @@ pub struct Planned {
     pub rounds: u32,
 }
 
-/// Answer of an enquiry: "waiting with its start, charging with start and end".
+/// Answer of an enquiry: "waiting with its start, charging with start and end", and
+/// "Enquiries show the rate" (N4).
 #[derive(Clone, Copy, Debug, PartialEq, Eq)]
 pub enum Found {
-    Waiting { start: u64 },
-    Charging { start: u64, end: u64 },
+    Waiting { start: u64, rate: u32 },
+    Charging { start: u64, end: u64, rate: u32 },
 }
 
 /// A place where a station stands; every call works on that station.

@@ -3,7 +3,9 @@
 
 mod common;
 
-use common::{expect, fast, reference};
+use common::{answers, expect, fast, lines, reference};
+use trials::fill::fill;
+use trials::script;
 use trials::yard::{Moved, Order, Yard};
 
 const WORD: &str = "4294967295";
@@ -25,7 +27,7 @@ fn openings_refused() {
 #[test]
 fn a_refused_opening_leaves_the_small_station() {
     let text =
-        "open 60 100\ncommit 1 5 5 0\ncommit 1 5 5 0\nopen 60 101\ncommit 1 5 5 0\ncommit 1 5 9 5\nenquire 3";
+        "open 60 100\ncommit 1 5 5 1 0\ncommit 1 5 5 1 0\nopen 60 101\ncommit 1 5 5 1 0\ncommit 1 5 9 1 5\nenquire 3";
     let expected = [
         "open 0 60",
         "ticket 1 start 0",
@@ -42,18 +44,23 @@ fn a_refused_opening_leaves_the_small_station() {
 #[test]
 fn orders_refused_by_the_first_place() {
     let orders = [
-        (format!("0 0 {WORD}"), "refused 4"),
-        ("4 1 1".to_string(), "refused 4"),
-        (format!("1 0 {WORD}"), "refused 5"),
-        ("1 1441 0".to_string(), "refused 5"),
-        (format!("1 {WORD} {WORD}"), "refused 5"),
-        ("1 1440 2000001".to_string(), "refused 6"),
+        (format!("0 0 {WORD} 0"), "refused 4"),
+        ("4 1 1 1".to_string(), "refused 4"),
+        (format!("1 0 {WORD} 0"), "refused 5"),
+        ("1 1441 0 3".to_string(), "refused 5"),
+        (format!("1 {WORD} {WORD} {WORD}"), "refused 5"),
+        ("1 1440 2000001 0".to_string(), "refused 17"),
+        ("1 1440 2000001 3".to_string(), "refused 17"),
+        (format!("1 1440 2000000 {WORD}"), "refused 17"),
+        ("1 1440 2000001 2".to_string(), "refused 18"),
+        ("1 1440 2000000 2".to_string(), "refused 18"),
+        ("1 1440 2000001 1".to_string(), "refused 6"),
     ];
     for (order, refused) in orders {
         let text = format!("preview {order}\ncommit {order} 0\ncommit {order} {WORD}");
         expect(&text, &[refused; 3]);
     }
-    let text = format!("preview 1 1440 2000000\ncommit 1 1440 2000000 {WORD}");
+    let text = format!("preview 1 1440 2000000 1\ncommit 1 1440 2000000 1 {WORD}");
     expect(&text, &["start 0", "refused 16"]);
 }
 
@@ -61,8 +68,9 @@ fn orders_refused_by_the_first_place() {
 /// and the report has nothing of it.
 #[test]
 fn previews_change_nothing() {
-    let text = "open 1 100\npreview 1 5 9\npreview 1 5 9\nenquire 1\nlatest\noffer\nmove 9 360\n\
-                preview 1 5 9\ncommit 1 5 9 9";
+    let text =
+        "open 1 100\npreview 1 5 9 1\npreview 1 5 9 1\nenquire 1\nlatest\noffer\nmove 9 360\n\
+                preview 1 5 9 1\ncommit 1 5 9 1 9";
     let mut expected = vec!["open 0 1", "start 0", "start 0", "refused 15", "plan 7 0 0 0"];
     expected.extend(["plan 7 0 0 0", "moved 0 dropped 0", "start 9", "ticket 1 start 9"]);
     expect(text, &expected);
@@ -74,17 +82,18 @@ fn previews_change_nothing() {
 #[test]
 fn starts_that_are_not_the_earliest_any_more() {
     let text = format!(
-        "open 1 100\ncommit 1 10 60 0\ncommit 1 10 15 10\npreview 2 5 90\nmove 1 360\n\
-         commit 2 5 90 0\ncommit 2 5 90 2\ncommit 2 5 90 1\npreview 2 5 90\n\
-         commit 2 5 90 6\ncommit 2 5 90 6\ncommit 2 5 90 {WORD}\npreview 2 5 90\ncommit 2 5 90 11"
+        "open 1 100\ncommit 1 10 60 1 0\ncommit 1 10 15 1 10\npreview 2 5 90 1\nmove 1 360\n\
+         commit 2 5 90 1 0\ncommit 2 5 90 1 2\ncommit 2 5 90 1 1\npreview 2 5 90 1\n\
+         commit 2 5 90 1 6\ncommit 2 5 90 1 6\ncommit 2 5 90 1 {WORD}\npreview 2 5 90 1\ncommit 2 5 90 1 11"
     );
     let mut expected = vec!["open 0 1", "ticket 1 start 0", "ticket 2 start 10", "start 0"];
     expected.extend(["moved 1 dropped 0 1 0", "refused 16", "refused 16", "ticket 3 start 1"]);
     expected.extend(["start 6", "ticket 4 start 6", "refused 16", "refused 16"]);
     expected.extend(["start 11", "ticket 5 start 11"]);
     expect(&text, &expected);
-    let text = "open 1 100\ncommit 1 5 60 0\ncommit 1 5 5 5\ncommit 2 3 60 0\npreview 2 3 60\n\
-                offer 5 0 4\ncommit 2 3 60 3\ncommit 2 3 60 7\ncommit 2 3 60 0";
+    let text =
+        "open 1 100\ncommit 1 5 60 1 0\ncommit 1 5 5 1 5\ncommit 2 3 60 1 0\npreview 2 3 60 1\n\
+                offer 5 0 4\ncommit 2 3 60 1 3\ncommit 2 3 60 1 7\ncommit 2 3 60 1 0";
     let mut expected = vec!["open 0 1", "ticket 1 start 0", "ticket 2 start 5"];
     expected.extend(["ticket 3 start 0", "start 3", "plan 0 5 0 0"]);
     expected.extend(["refused 16", "refused 16", "ticket 4 start 0"]);
@@ -116,7 +125,7 @@ fn moves_refused() {
 #[test]
 fn lists_allowances_and_tickets_refused() {
     let text = format!(
-        "open 1 100\ncommit 1 10 60 0\noffer\noffer 0 0\nlines 0\nlines 1001\nlines {WORD}\n\
+        "open 1 100\ncommit 1 10 60 1 0\noffer\noffer 0 0\nlines 0\nlines 1001\nlines {WORD}\n\
          enquire 0\nenquire 2\nenquire {WORD}\nenquire 1\nmove 10 360\nenquire 1"
     );
     let expected = [
@@ -130,7 +139,7 @@ fn lists_allowances_and_tickets_refused() {
         "refused 15",
         "refused 15",
         "refused 15",
-        "waiting 0",
+        "waiting 0 1",
         "moved 1 dropped 1 1 0",
         "refused 15",
     ];
@@ -140,8 +149,8 @@ fn lists_allowances_and_tickets_refused() {
 /// "the station and every list stay", and "Places after them keep what they held".
 fn report_list<Y: Yard>(mut yard: Y) {
     yard.open(2, 50).unwrap();
-    yard.commit(Order { line: 1, time: 5, due: 9 }, 0).unwrap();
-    yard.commit(Order { line: 2, time: 5, due: 9 }, 0).unwrap();
+    yard.commit(Order { line: 1, time: 5, due: 9, rate: 1 }, 0).unwrap();
+    yard.commit(Order { line: 2, time: 5, due: 9, rate: 1 }, 0).unwrap();
     let untouched: Vec<u32> = (0..400).map(|place| 7 * place + 1).collect();
     let mut list = untouched.clone();
     assert_eq!(yard.move_clock(1_000_001, &mut list), Err(8));
@@ -164,7 +173,8 @@ fn report_lists_are_left_alone() {
 /// "ordered by start, then ticket", and charges reported and dropped at once.
 #[test]
 fn a_move_over_everything() {
-    let text = "open 1 100\ncommit 1 3 9 0\ncommit 1 3 9 3\ncommit 2 3 9 0\nmove 7 360\nmove 7 360";
+    let text =
+        "open 1 100\ncommit 1 3 9 1 0\ncommit 1 3 9 1 3\ncommit 2 3 9 1 0\nmove 7 360\nmove 7 360";
     let expected = [
         "open 0 1",
         "ticket 1 start 0",
@@ -181,7 +191,7 @@ fn a_move_over_everything() {
 #[test]
 fn causes_of_offers_in_their_order() {
     let text = format!(
-        "open 2 50\ncommit 1 5 5 0\ncommit 1 5 5 5\ncommit 1 5 5 10\nmove 1 360\n\
+        "open 2 50\ncommit 1 5 5 1 0\ncommit 1 5 5 1 5\ncommit 1 5 5 1 10\nmove 1 360\n\
          offer 0 {WORD}\noffer {WORD} 10\noffer 4294967290 10\noffer 11 10\n\
          offer 5 5\noffer 1 5\noffer 5 6\noffer 1 1\noffer 10 5\noffer 5 10"
     );
@@ -208,17 +218,30 @@ fn causes_of_offers_in_their_order() {
 /// A difference in an early minute and a count too high in a late one: cause 5.
 #[test]
 fn a_late_count_beats_an_early_difference() {
-    let text = "open 2 50\ncommit 1 5 5 0\ncommit 1 5 5 5\ncommit 1 5 5 10\ncommit 1 5 5 15\ncommit 1 5 5 20\n\
+    let text = "open 2 50\ncommit 1 5 5 1 0\ncommit 1 5 5 1 5\ncommit 1 5 5 1 10\ncommit 1 5 5 1 15\ncommit 1 5 5 1 20\n\
                 offer 0 0 10 10 10";
     let last = trials::script::reference_answers(&common::lines(text)).pop().unwrap();
     assert_eq!(trials::script::show(&last), "plan 5 50 50 0");
+}
+
+/// N4: 128 charges of rate 2 in one minute are 256 points, which is nothing in a byte.
+#[test]
+fn counts_past_a_byte() {
+    for count in [128, 180] {
+        let queue = "commit 1 1 1 2 ?\n".repeat(count);
+        let text = format!("open 60 100\n{queue}offer{}", " 0".repeat(count));
+        let text = script::show(&script::join(&fill(reference(), &lines(&text))));
+        for answers in [answers(reference(), &text), answers(fast(), &text)] {
+            assert!(answers.last().is_some_and(|last| last.starts_with("plan 5 ")));
+        }
+    }
 }
 
 /// Cause 1 by lines: the begun charges of line 1 lean on ticket 3, which a round
 /// starts too early, and nothing of line 1 was placed.
 #[test]
 fn by_lines_without_a_placed_charge() {
-    let text = "open 6 17\ncommit 1 9 9 0\ncommit 2 2 2 0\ncommit 2 7 7 2\ncommit 3 9 9 0\ncommit 1 9 9 0\n\
+    let text = "open 6 17\ncommit 1 9 9 1 0\ncommit 2 2 2 1 0\ncommit 2 7 7 1 2\ncommit 3 9 9 1 0\ncommit 1 9 9 1 0\n\
                 move 1 360\nlines 1\nlines 1000";
     let expected = [
         "open 0 1",

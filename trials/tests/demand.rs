@@ -7,14 +7,14 @@ use trials::demand;
 use trials::script::{self, Line};
 
 const SCRIPT: &str = "open 2 50
-commit 1 10 60 0
-commit 1 10 15 10
-commit 2 5 60 0
+commit 1 10 60 1 0
+commit 1 10 15 1 10
+commit 2 5 60 1 0
 move 4 360
-commit 3 4 60 4
+commit 3 4 60 1 4
 move 12 360
-commit 1 3 20 20
-commit 1 3 20 23
+commit 1 3 20 1 20
+commit 1 3 20 1 23
 enquire 0
 enquire 1
 enquire 2
@@ -53,11 +53,11 @@ fn true_answers_hold() {
         "ticket 6 start 23",
         "refused 15",
         "refused 15",
-        "charging 10 20",
+        "charging 10 20 1",
         "refused 15",
         "refused 15",
-        "waiting 20",
-        "waiting 23",
+        "waiting 20 1",
+        "waiting 23 1",
         "refused 15",
     ];
     assert_eq!(shown, expected);
@@ -89,25 +89,25 @@ fn tickets() {
 
 #[test]
 fn enquiries() {
-    assert!(falsified("charging 10 20", "charging 11 21").contains("ticket 2"));
-    assert!(falsified("charging 10 20", "charging 10 21").contains("ticket 2"));
-    assert!(falsified("charging 10 20", "refused 15").contains("ticket 2"));
-    assert!(falsified("charging 10 20", "waiting 12").contains("ticket 2"));
-    assert!(falsified("waiting 20", "refused 15").contains("ticket 5"));
-    assert!(falsified("waiting 20", "charging 11 14").contains("ticket 5"));
-    assert!(falsified("waiting 20", "waiting 11").contains("ticket 5"));
+    assert!(falsified("charging 10 20 1", "charging 11 21 1").contains("ticket 2"));
+    assert!(falsified("charging 10 20 1", "charging 10 21 1").contains("ticket 2"));
+    assert!(falsified("charging 10 20 1", "refused 15").contains("ticket 2"));
+    assert!(falsified("charging 10 20 1", "waiting 12 1").contains("ticket 2"));
+    assert!(falsified("waiting 20 1", "refused 15").contains("ticket 5"));
+    assert!(falsified("waiting 20 1", "charging 11 14 1").contains("ticket 5"));
+    assert!(falsified("waiting 20 1", "waiting 11 1").contains("ticket 5"));
 }
 
 #[test]
 fn counts_and_ends() {
     // Ticket 6 in the same minutes as ticket 5 leaves line 3 two behind.
-    assert!(falsified("waiting 23", "waiting 22").contains("counts"));
+    assert!(falsified("waiting 23 1", "waiting 22 1").contains("counts"));
     // Last order minute 12 and 35 minutes of charging: 47 is the last end.
     let mut answers = true_answers();
     let place = answers.len() - 2;
-    answers[place] = b"waiting 44".to_vec();
+    answers[place] = b"waiting 44 1".to_vec();
     assert_eq!(demand::check(&lines(SCRIPT), &answers), Ok(()));
-    answers[place] = b"waiting 45".to_vec();
+    answers[place] = b"waiting 45 1".to_vec();
     let broken = demand::check(&lines(SCRIPT), &answers).unwrap_err();
     assert_eq!(broken.what, "ticket 6 ends in 48, after 47");
 }
@@ -116,7 +116,7 @@ fn counts_and_ends() {
 /// that is long gone.
 #[test]
 fn minutes_gone() {
-    let text = "open 1 100\ncommit 1 5 5 0\ncommit 1 5 10 5\nmove 20 360\nenquire 1\nenquire 2";
+    let text = "open 1 100\ncommit 1 5 5 1 0\ncommit 1 5 10 1 5\nmove 20 360\nenquire 1\nenquire 2";
     let mut answers = script::reference_answers(&lines(text));
     assert_eq!(demand::check(&lines(text), &answers), Ok(()));
     answers[3] = b"moved 2 dropped 2 1 0 2 4".to_vec();
@@ -127,7 +127,7 @@ fn minutes_gone() {
 /// An order that was neither reported nor asked for leaves the claim open.
 #[test]
 fn unknown_starts() {
-    let text = "commit 1 5 5 0";
+    let text = "commit 1 5 5 1 0";
     let answers = script::reference_answers(&lines(text));
     let broken = demand::check(&lines(text), &answers).unwrap_err();
     assert_eq!(broken.what, "ticket 1 neither reported nor found");
@@ -137,10 +137,29 @@ fn unknown_starts() {
 /// Each opening ends the claim about the station before it.
 #[test]
 fn stations_one_after_the_other() {
-    let text = "commit 1 5 5 0\nenquire 1\nopen 61 1\ncommit 2 5 5 0\ncommit 2 5 9 5\nmove 5 360\n\
-                enquire 1\nenquire 2\nopen 60 100\ncommit 3 1 1 0\nenquire 1";
+    let text =
+        "commit 1 5 5 1 0\nenquire 1\nopen 61 1\ncommit 2 5 5 1 0\ncommit 2 5 9 1 5\nmove 5 360\n\
+                enquire 1\nenquire 2\nopen 60 100\ncommit 3 1 1 1 0\nenquire 1";
     let answers = script::reference_answers(&lines(text));
     assert_eq!(demand::check(&lines(text), &answers), Ok(()));
+}
+
+/// N4: counts are weighted, and enquiries show the rate that was passed in.
+#[test]
+fn rates() {
+    let text =
+        "open 4 50\ncommit 1 10 60 2 0\ncommit 1 10 60 1 10\nmove 1 360\nenquire 1\nenquire 2";
+    let answers = script::reference_answers(&lines(text));
+    assert_eq!(demand::check(&lines(text), &answers), Ok(()));
+    let falsified = |place: usize, wrong: &str| {
+        let mut answers = answers.clone();
+        answers[place] = wrong.as_bytes().to_vec();
+        demand::check(&lines(text), &answers).expect_err(wrong).what
+    };
+    assert_eq!(falsified(5, "waiting 9 1"), "minute 9 has counts [3, 0, 0]");
+    assert!(falsified(4, "charging 0 10 1").contains("ticket 1"));
+    assert!(falsified(5, "waiting 10 2").contains("ticket 2"));
+    assert!(falsified(5, "waiting 10").contains("ticket 2"));
 }
 
 /// N3: beside empty lines so many of one line hold as the bound says, and one more
@@ -149,12 +168,12 @@ fn stations_one_after_the_other() {
 fn bounds_rounded_to_nearest() {
     for (limit, percent, bound) in [(30, 5, 2), (30, 15, 4), (17, 3, 1), (9, 11, 1), (2, 75, 2)] {
         let mut text = format!("open {limit} {percent}\n");
-        text += &"commit 1 1 1 0\n".repeat(bound);
-        text += "commit 1 1 1 1\n";
+        text += &"commit 1 1 1 1 0\n".repeat(bound);
+        text += "commit 1 1 1 1 1\n";
         text.extend((1..=bound + 1).map(|ticket| format!("enquire {ticket}\n")));
         let mut answers = script::reference_answers(&lines(&text));
         assert_eq!(demand::check(&lines(&text), &answers), Ok(()));
-        *answers.last_mut().unwrap() = b"waiting 0".to_vec();
+        *answers.last_mut().unwrap() = b"waiting 0 1".to_vec();
         let broken = demand::check(&lines(&text), &answers).unwrap_err();
         assert_eq!(broken.what, format!("minute 0 has counts [{}, 0, 0]", bound + 1));
     }

@@ -37,8 +37,8 @@ fn every_script_begins_with_an_opening() {
 
 const REFUSALS: [(&str, &[u32]); 7] = [
     ("open", &[1, 2, 3]),
-    ("preview", &[4, 5, 6, 13, 14]),
-    ("commit", &[4, 5, 6, 13, 14, 16]),
+    ("preview", &[4, 5, 17, 18, 6, 13, 14]),
+    ("commit", &[4, 5, 17, 18, 6, 13, 14, 16]),
     ("move", &[8, 9, 12]),
     ("offer", &[10]),
     ("lines", &[11]),
@@ -166,6 +166,26 @@ fn shown_starts_are_committed_late() {
     }
 }
 
+/// N4: rates inside and outside their range, under bounds of 1, 2 and 3.
+#[test]
+fn rates_of_all_sorts_occur() {
+    let mut seen = BTreeSet::new();
+    for number in 0..150 {
+        let mut yard = Interpreter::new(reference());
+        for line in generate::script_of_kind("rates", 1, number).unwrap().lines {
+            if let Ok(Some(Call::Commit { order, .. })) = read_call(&line) {
+                seen.insert((yard.yard().bound, order.rate.min(u32::MAX - 1)));
+            }
+            yard.answer(&line, &mut Vec::new());
+        }
+    }
+    for bound in 1..=3 {
+        for rate in [0, 1, 2, 3, u32::MAX - 1] {
+            assert!(seen.contains(&(bound, rate)), "{bound} {rate}: {seen:?}");
+        }
+    }
+}
+
 #[test]
 fn the_fast_program_agrees() {
     let scripts = Choice { without: Some(LOOPS), ..choice(400, 11) };
@@ -176,7 +196,7 @@ fn the_fast_program_agrees() {
 #[test]
 fn shrinking_leaves_what_fails() {
     let script =
-        lines("open 5 20\ncommit 1 10 60 0\ncommit 2 11 60 0\nmove 900 360\nlatest\nlatest");
+        lines("open 5 20\ncommit 1 10 60 1 0\ncommit 2 11 60 1 0\nmove 900 360\nlatest\nlatest");
     let fails = |lines: &[Vec<u8>]| {
         let move_far =
             |line: &Vec<u8>| line.starts_with(b"move") && line.len() >= b"move 90 360".len();

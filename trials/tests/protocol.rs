@@ -64,12 +64,12 @@ fn numbers_of_more_than_32_bits() {
 fn the_first_fault_counts() {
     assert_eq!(fault(b"commit 4294967296 x"), Fault::NumberTooLarge);
     assert_eq!(fault(b"commit x 4294967296"), Fault::NotANumber);
-    assert_eq!(fault(b"commit 1 2 3"), Fault::MissingNumber);
+    assert_eq!(fault(b"commit 1 2 3 1"), Fault::MissingNumber);
     assert_eq!(fault(b"commit"), Fault::MissingNumber);
-    assert_eq!(fault(b"commit 1 2 3 4 x"), Fault::ExtraNumber);
-    assert_eq!(fault(b"commit 1 2 3 4 "), Fault::ExtraNumber);
-    assert_eq!(fault(b"preview 1 2"), Fault::MissingNumber);
-    assert_eq!(fault(b"preview 1 2 3 4"), Fault::ExtraNumber);
+    assert_eq!(fault(b"commit 1 2 3 1 4 x"), Fault::ExtraNumber);
+    assert_eq!(fault(b"commit 1 2 3 1 4 "), Fault::ExtraNumber);
+    assert_eq!(fault(b"preview 1 2 3"), Fault::MissingNumber);
+    assert_eq!(fault(b"preview 1 2 3 1 4"), Fault::ExtraNumber);
     assert_eq!(fault(b"latest "), Fault::ExtraNumber);
     assert_eq!(fault(b"latest x"), Fault::ExtraNumber);
 }
@@ -114,8 +114,8 @@ fn lines_of_4096_bytes() {
 fn written_calls_are_read_back() {
     for call in [
         Call::Open { limit: 0, percent: u32::MAX },
-        Call::Preview { order: Order { line: 1, time: 10, due: 100 } },
-        Call::Commit { order: Order { line: 1, time: 10, due: 100 }, shown: u32::MAX },
+        Call::Preview { order: Order { line: 1, time: 10, due: 100, rate: 2 } },
+        Call::Commit { order: Order { line: 1, time: 10, due: 100, rate: 0 }, shown: u32::MAX },
         Call::Move { target: 7, places: 360 },
         Call::Offer { starts: vec![] },
         Call::Offer { starts: vec![1, u32::MAX] },
@@ -131,7 +131,7 @@ fn written_calls_are_read_back() {
 /// nothing.
 #[test]
 fn errors_change_nothing() {
-    let text = "commit 1 5 5 0\n\n# comment\ncommit 1 5 5\nopen 2 50 0\ncommit 1 5 10 5";
+    let text = "commit 1 5 5 1 0\n\n# comment\ncommit 1 5 5 0\nopen 2 50 0\ncommit 1 5 10 1 5";
     let expected =
         ["ticket 1 start 0", "error missing number", "error extra number", "ticket 2 start 5"];
     expect(text, &expected);
@@ -159,10 +159,10 @@ fn served(input: impl std::io::Read) -> String {
 /// without a line feed.
 #[test]
 fn pieces_of_input() {
-    let mut input = b"commit 1 5 5 0\n\n".to_vec();
+    let mut input = b"commit 1 5 5 1 0\n\n".to_vec();
     input.extend(vec![b'z'; 200_000]);
     input.extend(b"\nlatest\nenquire 1");
-    let expected = "ticket 1 start 0\nerror line too long\nplan 7 0 0 0\nwaiting 0\n";
+    let expected = "ticket 1 start 0\nerror line too long\nplan 7 0 0 0\nwaiting 0 1\n";
     assert_eq!(served(&input[..]), expected);
     assert_eq!(served(Slow(&input)), expected);
     assert_eq!(served(&b""[..]), "");

@@ -19,8 +19,8 @@ neither x k l f g h = ⊎-elim f g h
 -- what is neither waiting nor charging is refused
 pub refused-left :
     (a : EnquiryAnswer) → OneOf (1 ∷ 2 ∷ []) (tagOf the-type a) → OneOf (0 ∷ 2 ∷ []) (tagOf the-type a) → a ≡ Refused
-refused-left (Waiting start) p q = absurd (neither 0 1 2 (λ e. omega arith) (λ e. omega arith) p)
-refused-left (Charging start end) p q = absurd (neither 1 0 2 (λ e. omega arith) (λ e. omega arith) q)
+refused-left (Waiting start rate) p q = absurd (neither 0 1 2 (λ e. omega arith) (λ e. omega arith) p)
+refused-left (Charging start end rate) p q = absurd (neither 1 0 2 (λ e. omega arith) (λ e. omega arith) q)
 refused-left Refused p q = refl
 
 -- nothing of the lent list is printed
@@ -28,6 +28,6 @@ pub enquiry-line :
     (a : EnquiryAnswer) (list : List ℕ) {before : List ℕ} {at : ℕ} {after : List ℕ} {next : ℕ}
     → Printed (answerText (enquiryAnswer a) []) before at after next → Printed (answerText (enquiryAnswer a) list) before at after next
 unfolding answerText
-enquiry-line (Waiting start) list p = p
-enquiry-line (Charging start end) list p = p
+enquiry-line (Waiting start rate) list p = p
+enquiry-line (Charging start end rate) list p = p
 enquiry-line Refused list p = p

@@ -3,22 +3,25 @@ use Prim.Native.Nat.{ℕ, _*_}
 use mathlib.Core.List.{List, [], _∷_, _++_}
 use lib.ListN.{take}
 use Rattle.rules.specs.Calls.{Answer, refused, opened, previewed, committed, moved, planned, waiting, charging}
-use Rattle.text.specs.Printed.{field, spaced, listed}
+use Rattle.text.specs.Printed.{field, listed}
 use Rattle.requests.specs.declared.request.Reason.{Reason}
 use Rattle.requests.specs.declared.request.Reason.the-variants.{UnknownCall, NotANumber, NumberTooLarge, MissingNumber, ExtraNumber, LineTooLong}
 
 abbrev pub lineFeed : List ℕ
 lineFeed = 10 ∷ []
 
--- one, two and four numbers, each after a text, and the line feed
+-- one to four numbers, each after a text, and the line feed
 abbrev pub one : List ℕ → ℕ → List ℕ
 one text n = field text n ++ lineFeed
 
 abbrev pub two : List ℕ → ℕ → List ℕ → ℕ → List ℕ
 two text n next m = field text n ++ one next m
 
+abbrev pub three : List ℕ → ℕ → ℕ → ℕ → List ℕ
+three text a b c = field text a ++ two (32 ∷ []) b (32 ∷ []) c
+
 abbrev pub four : List ℕ → ℕ → ℕ → ℕ → ℕ → List ℕ
-four text a b c d = field text a ++ (spaced b ++ two (32 ∷ []) c (32 ∷ []) d)
+four text a b c d = field text a ++ three (32 ∷ []) b c d
 
 -- an answer, with the list that was lent to the call: a move's pairs stand at its front
 unfoldable pub answerText : Answer → List ℕ → List ℕ
@@ -39,10 +42,11 @@ answerText (moved reported dropped) list =
 -- "plan "
 answerText (planned cause before after rounds) list = four (112 ∷ 108 ∷ 97 ∷ 110 ∷ 32 ∷ []) cause before after rounds
 -- "waiting "
-answerText (waiting start) list = one (119 ∷ 97 ∷ 105 ∷ 116 ∷ 105 ∷ 110 ∷ 103 ∷ 32 ∷ []) start
+answerText (waiting start rate) list =
+    two (119 ∷ 97 ∷ 105 ∷ 116 ∷ 105 ∷ 110 ∷ 103 ∷ 32 ∷ []) start (32 ∷ []) rate
 -- "charging "
-answerText (charging start end) list =
-    two (99 ∷ 104 ∷ 97 ∷ 114 ∷ 103 ∷ 105 ∷ 110 ∷ 103 ∷ 32 ∷ []) start (32 ∷ []) end
+answerText (charging start end rate) list =
+    three (99 ∷ 104 ∷ 97 ∷ 114 ∷ 103 ∷ 105 ∷ 110 ∷ 103 ∷ 32 ∷ []) start end rate
 
 -- how many pairs an answer reports
 abbrev pub pairsOf : Answer → ℕ
@@ -52,8 +56,8 @@ pairsOf (previewed u) = 0
 pairsOf (committed t u) = 0
 pairsOf (moved k d) = k
 pairsOf (planned c b a k) = 0
-pairsOf (waiting u) = 0
-pairsOf (charging u v) = 0
+pairsOf (waiting u w) = 0
+pairsOf (charging u v w) = 0
 
 abbrev pub reasonText : Reason → List ℕ
 -- "unknown call"

@@ -7,7 +7,7 @@ ghost use Rattle.rules.specs.Calls.{refused, moved as movedAnswer};
 ghost use Rattle.station.specs.Answers.{openAnswer, enquiryAnswer};
 ghost use Rattle.station.specs.Applied.{answerOf};
 ghost use Rattle.text.specs.Printed.{Printed};
-ghost use Rattle.answers.specs.Answers.{one, two, four, answerText, pairsOf, errorText};
+ghost use Rattle.answers.specs.Answers.{one, two, three, four, answerText, pairsOf, errorText};
 use requests::Reason;
 use station::calls::Answer;
 use station::clock::MoveAnswer;
@@ -38,7 +38,23 @@ fn print_two(text: &[u8], n: u64, next: &[u8], m: u64, buffer: &mut [u8], at: us
     print_one(next, m, buffer, a)
 }
 
-// Four numbers, the first after a text and each other after a space.
+// Three numbers, the first after a text and each other after a space.
+fn print_three(
+    text: &[u8],
+    first: u64,
+    second: u64,
+    third: u64,
+    buffer: &mut [u8],
+    at: usize,
+) -> usize
+    requires { ⌜ at + (length (now text) + 63) ≤ length (now buffer) ⌝ }
+    ensures { λ r. ⌜ Printed (three (now (text .entry)) first second third) (now (buffer .entry)) at (now (buffer .exit)) r ⌝ }
+{
+    let a = print_field(text, first, buffer, at);
+    print_two(b" ", second, b" ", third, buffer, a)
+}
+
+// Four numbers in the same way.
 fn print_four(
     text: &[u8],
     first: u64,
@@ -52,8 +68,7 @@ fn print_four(
     ensures { λ r. ⌜ Printed (four (now (text .entry)) first second third fourth) (now (buffer .entry)) at (now (buffer .exit)) r ⌝ }
 {
     let a = print_field(text, first, buffer, at);
-    let b = print_field(b" ", second, buffer, a);
-    print_two(b" ", third, b" ", fourth, buffer, b)
+    print_three(b" ", second, third, fourth, buffer, a)
 }
 
 fn print_refused(number: u32, buffer: &mut [u8], at: usize) -> usize
@@ -79,13 +94,20 @@ fn print_enquiry(answer: EnquiryAnswer, buffer: &mut [u8], at: usize) -> usize
     requires { ⌜ at + 96 ≤ length (now buffer) ⌝ }
     ensures { λ r. ⌜ Printed (answerText (enquiryAnswer answer) []) (now (buffer .entry)) at (now (buffer .exit)) r ⌝ }
 {
-    if let EnquiryAnswer::Waiting(start) = answer {
-        return print_one(b"waiting ", start as u64, buffer, at);
+    if let EnquiryAnswer::Waiting { start, rate } = answer {
+        return print_two(b"waiting ", start as u64, b" ", rate as u64, buffer, at);
     }
-    let EnquiryAnswer::Charging { start, end } = answer else {
+    let EnquiryAnswer::Charging { start, end, rate } = answer else {
         return print_refused(15, buffer, at);
     };
-    print_two(b"charging ", start as u64, b" ", end as u64, buffer, at)
+    print_three(
+        b"charging ",
+        start as u64,
+        end as u64,
+        rate as u64,
+        buffer,
+        at,
+    )
 }
 
 pub fn print_opening(answer: OpenAnswer, buffer: &mut [u8], at: usize) -> usize

@@ -5,7 +5,7 @@ use mathlib.Core.Bool.{Bool, true, false, cond, _&&_}
 use mathlib.Core.List.{List, [], _∷_, map}
 use native.Mathlib.Omega.{arith}
 use Rattle.rules.specs.Basics.{Each, tabulate, keep, insertBy, sortedBy}
-use Rattle.rules.proofs.Lists.{each-map, each-keep, each-tabulate, tabulate-each}
+use Rattle.rules.proofs.Lists.{each-map, keep-each, each-tabulate, tabulate-each}
 
 -- Each member
 
@@ -17,9 +17,6 @@ each-place P g k e i h = tabulate-each P g k 0 e i (omega arith) (omega arith)
 pub each-both : {A : Type 0} (P Q : A → Type 0) (xs : List A) → Each P xs → Each Q xs → Each (λ x. P x × Q x) xs
 each-both P Q [] e d = tt
 each-both P Q (x ∷ xs) e d = ((e .0, d .0), each-both P Q xs (e .1) (d .1))
-
-pub keep-each : {A : Type 0} (P : A → Type 0) (f : A → Bool) (xs : List A) → Each P xs → Each P (keep f xs)
-keep-each P f xs e = each-map (λ x. P x × (f x ≡ true)) P (λ x p. p .0) (keep f xs) (each-keep P f xs e)
 
 pub each-insert :
     {A : Type 0} (P : A → Type 0) (f : A → A → Bool) (x : A) (xs : List A) → P x → Each P xs → Each P (insertBy f x xs)

@@ -1,4 +1,4 @@
--- No charge, and one charge more: what the six arrays hold then.
+-- No charge, and one charge more: what the seven arrays hold then.
 use mathlib.Core.Path.{_≡_, refl, ap, sym, _∙_}
 use Prim.Native.Nat.{ℕ, zero, suc, _+_, _<_}
 use mathlib.Core.List.{List, [], _∷_, _++_}
@@ -8,7 +8,7 @@ use lib.Seq.{getD-set-same, getD-set-other}
 use Rattle.rules.specs.Charge.{Charge}
 use Rattle.rules.proofs.Lists.{length-tabulate, tabulate-same, tabulate-next}
 use Rattle.charges.specs.declared.Charges.{Charges}
-use Rattle.charges.specs.Arrays.{Column, tickets, lines, orderMinutes, times, dues, starts, columnOf, valueOf, charge, chargeAt, chargesOf, Filled, Columns, Holds}
+use Rattle.charges.specs.Arrays.{Column, tickets, lines, orderMinutes, times, dues, starts, rates, columnOf, valueOf, charge, chargeAt, chargesOf, Filled, Columns, Holds}
 
 -- Charges by their values
 
@@ -16,9 +16,9 @@ pub charge-same : (x y : Charge) → ((k : Column) → valueOf x k ≡ valueOf y
 charge-same x y h = whole
   where
     whole :
-        charge (x .ticket) (x .line) (x .orderMinute) (x .time) (x .due) (x .start)
-        ≡ charge (y .ticket) (y .line) (y .orderMinute) (y .time) (y .due) (y .start)
-    whole = cc (h tickets, h lines, h orderMinutes, h times, h dues, h starts)
+        charge (x .ticket) (x .line) (x .orderMinute) (x .time) (x .due) (x .start) (x .rate)
+        ≡ charge (y .ticket) (y .line) (y .orderMinute) (y .time) (y .due) (y .start) (y .rate)
+    whole = cc (h tickets, h lines, h orderMinutes, h times, h dues, h starts, h rates)
 
 pub value-at : (c : Charges) (i : ℕ) (k : Column) → valueOf (chargeAt c i) k ≡ getD (columnOf c k) i 0
 value-at c i tickets = refl
@@ -27,6 +27,7 @@ value-at c i orderMinutes = refl
 value-at c i times = refl
 value-at c i dues = refl
 value-at c i starts = refl
+value-at c i rates = refl
 
 pub holds-length : {xs : List Charge} {c : Charges} → Holds xs c → c .held ≡ length xs
 holds-length {xs} {c} h = sym (length-tabulate (chargeAt c) (c .held) 0) ∙ ap length (h .charges)
@@ -48,6 +49,7 @@ empty =
       times = replicate 180 0;
       dues = replicate 180 0;
       starts = replicate 180 0;
+      rates = replicate 180 0;
     }
 
 column-empty : (k : Column) → columnOf empty k ≡ replicate 180 0
@@ -57,6 +59,7 @@ column-empty orderMinutes = refl
 column-empty times = refl
 column-empty dues = refl
 column-empty starts = refl
+column-empty rates = refl
 
 -- no place is used
 pub filled-none : Filled 0 (replicate 180 0)
@@ -77,6 +80,7 @@ put c x =
       times = set (c .times) (c .held) (x .time);
       dues = set (c .dues) (c .held) (x .due);
       starts = set (c .starts) (c .held) (x .start);
+      rates = set (c .rates) (c .held) (x .rate);
     }
 
 column-put : (c : Charges) (x : Charge) (k : Column) → columnOf (put c x) k ≡ set (columnOf c k) (c .held) (valueOf x k)
@@ -86,6 +90,7 @@ column-put c x orderMinutes = refl
 column-put c x times = refl
 column-put c x dues = refl
 column-put c x starts = refl
+column-put c x rates = refl
 
 pub filled-set : (n v : ℕ) (xs : List ℕ) → Filled n xs → Filled (n + 1) (set xs n v)
 filled-set n v xs f =

@@ -1,6 +1,6 @@
 -- What the orders of held charges need of their numbers.
 use Prim.Native.Nat.{ℕ, _+_, _≤_, _<_}
-use Rattle.rules.specs.Load.{IsLine}
+use Rattle.rules.specs.Load.{IsLine, IsRate}
 use Rattle.rules.specs.Charge.{Charge}
 use Rattle.charges.specs.declared.Charges.{Charges}
 use Rattle.charges.specs.Arrays.{chargeAt, Columns}
@@ -15,6 +15,7 @@ pub record Small (x : Charge) : Type 0 where
   pub time-most : x .time ≤ 1440
   pub due-most : x .due ≤ 2000000
   pub start-most : x .start < 100000000
+  pub is-rate : IsRate (x .rate)
 
 -- what the orders need of the charges, whatever the clock
 pub record Listed (c : Charges) : Type 0 where

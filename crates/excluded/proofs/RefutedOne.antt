@@ -13,14 +13,14 @@ use Rattle.rules.proofs.Granted.{refusals-none}
 use Rattle.guarantee.specs.Past.{Gives}
 use Rattle.guarantee.specs.DemandOne.{DemandOne, DemandOneOpening}
 use Rattle.excluded.specs.WrongOrders.{shownAsWaiting, anySoundStart, shownIgnored}
-use Rattle.excluded.specs.WrongRefusals.{lineAccepted, lastRow, shownFirst, otherNumber, alwaysFull, hurryRefused, standstillRefused, ticketUsedUp, listCleared, ticketNotSaid, zeroBound, smallProductRefused, openedAsAsked, openingWrites, limitSaid, percentLost, roundedDown}
-use Rattle.excluded.specs.Stations.{station}
+use Rattle.excluded.specs.WrongRefusals.{lineAccepted, lastRow, lowestNumber, rateAboveBound, shownFirst, otherNumber, alwaysFull, hurryRefused, standstillRefused, ticketUsedUp, listCleared, ticketNotSaid, openedAsAsked, openingWrites, limitSaid, percentLost, zeroBound, smallProductRefused, roundedDown}
+use Rattle.excluded.specs.Stations.{station, stationTwo}
 use Rattle.guarantee.proofs.Tables.{firstOf-is, is-firstOf}
 
 -- Calls to a fresh station of 1, 100
 
 -- `number`: a start is shown for line 4
-line-accepted : DemandOne lineAccepted station (preview 4 10 60) → ⊥
+line-accepted : DemandOne lineAccepted station (preview 4 10 60 1) → ⊥
 unfolding limited balanced sound earliest previewing
 line-accepted d =
     let h : previewed 0 ≡ refused 4 = d .refused-by .number 4 .1 (inl (refl, refl)) in
@@ -28,33 +28,50 @@ line-accepted d =
     omega arith
 
 -- `number`: 5 in the place of 4
-last-row : DemandOne lastRow station (preview 4 0 60) → ⊥
+last-row : DemandOne lastRow station (preview 4 0 60 1) → ⊥
 last-row d =
     let h : refused 5 ≡ refused 4 = d .refused-by .number 4 .1 (inl (refl, refl)) in
     let z : _≡_ {A = ℕ} 5 4 = cc in
     omega arith
 
--- `number`: 3 is not the earliest start, which is refusal 16
-module _ (gives : Gives) (d : DemandOne gives station (commit 1 10 60 3)) where
-  not-earliest : gives station (commit 1 10 60 3) .answer ≡ refused 16
-  unfolding limited balanced sound earliest
-  not-earliest = d .refused-by .number 16 .1 (firstOf-is 15 (refusals station (commit 1 10 60 3)) refl)
+-- `number`: 6 in the place of 17
+lowest-number : DemandOne lowestNumber station (preview 1 10 2000001 3) → ⊥
+lowest-number d =
+    let h : refused 6 ≡ refused 17
+    = d .refused-by .number 17 .1 (firstOf-is 16 (refusals station (preview 1 10 2000001 3)) refl) in
+    let z : _≡_ {A = ℕ} 6 17 = cc in
+    omega arith
 
-any-sound-start : DemandOne anySoundStart station (commit 1 10 60 3) → ⊥
+-- `number`: a rate of 2 is above D, and no start is found for it
+rate-above-bound : DemandOne rateAboveBound stationTwo (preview 1 10 60 2) → ⊥
+unfolding limited balanced sound earliest previewing
+rate-above-bound d =
+    let h : refused 0 ≡ refused 18
+    = d .refused-by .number 18 .1 (firstOf-is 17 (refusals stationTwo (preview 1 10 60 2)) refl) in
+    let z : _≡_ {A = ℕ} 0 18 = cc in
+    omega arith
+
+-- `number`: 3 is not the earliest start, which is refusal 16
+module _ (gives : Gives) (d : DemandOne gives station (commit 1 10 60 1 3)) where
+  not-earliest : gives station (commit 1 10 60 1 3) .answer ≡ refused 16
+  unfolding limited balanced sound earliest
+  not-earliest = d .refused-by .number 16 .1 (firstOf-is 15 (refusals station (commit 1 10 60 1 3)) refl)
+
+any-sound-start : DemandOne anySoundStart station (commit 1 10 60 1 3) → ⊥
 unfolding limited balanced sound earliest committing
 any-sound-start d =
     let h : committed 1 3 ≡ refused 16 = not-earliest anySoundStart d in
     let z : _≡_ {A = ℕ} 0 1 = cc in
     omega arith
 
-shown-ignored : DemandOne shownIgnored station (commit 1 10 60 3) → ⊥
+shown-ignored : DemandOne shownIgnored station (commit 1 10 60 1 3) → ⊥
 unfolding limited balanced sound earliest
 shown-ignored d =
     let h : committed 1 0 ≡ refused 16 = not-earliest shownIgnored d in
     let z : _≡_ {A = ℕ} 0 1 = cc in
     omega arith
 
-other-number : DemandOne otherNumber station (commit 1 10 60 3) → ⊥
+other-number : DemandOne otherNumber station (commit 1 10 60 1 3) → ⊥
 unfolding limited balanced sound earliest
 other-number d =
     let h : refused 14 ≡ refused 16 = not-earliest otherNumber d in
@@ -62,7 +79,7 @@ other-number d =
     omega arith
 
 -- `number`: 16 in the place of 4
-shown-first : DemandOne shownFirst station (commit 4 10 60 3) → ⊥
+shown-first : DemandOne shownFirst station (commit 4 10 60 1 3) → ⊥
 unfolding limited balanced sound earliest
 shown-first d =
     let h : refused 16 ≡ refused 4 = d .refused-by .number 4 .1 (inl (refl, refl)) in
@@ -70,15 +87,15 @@ shown-first d =
     omega arith
 
 -- `number`: no charge is held
-always-full : DemandOne alwaysFull station (preview 1 10 60) → ⊥
+always-full : DemandOne alwaysFull station (preview 1 10 60 1) → ⊥
 always-full d =
-    let h : _≡_ {A = ℕ} 0 13 = is-firstOf 13 (refusals station (preview 1 10 60)) (d .refused-by .number 13 .0 refl) in
+    let h : _≡_ {A = ℕ} 0 13 = is-firstOf 13 (refusals station (preview 1 10 60 1)) (d .refused-by .number 13 .0 refl) in
     omega arith
 
 -- `number`: no condition looks at how soon a charge is due
-hurry-refused : DemandOne hurryRefused station (preview 1 10 9) → ⊥
+hurry-refused : DemandOne hurryRefused station (preview 1 10 9 1) → ⊥
 hurry-refused d =
-    let h : _≡_ {A = ℕ} 0 7 = is-firstOf 7 (refusals station (preview 1 10 9)) (d .refused-by .number 7 .0 refl) in
+    let h : _≡_ {A = ℕ} 0 7 = is-firstOf 7 (refusals station (preview 1 10 9 1)) (d .refused-by .number 7 .0 refl) in
     omega arith
 
 -- `number`: the target is not below the clock
@@ -88,7 +105,7 @@ standstill-refused d =
     omega arith
 
 -- `same-station`
-ticket-used-up : DemandOne ticketUsedUp station (commit 4 10 60 0) → ⊥
+ticket-used-up : DemandOne ticketUsedUp station (commit 4 10 60 1 0) → ⊥
 ticket-used-up d =
     let h : _≡_ {A = ℕ} 2 1 = ap (λ (s : State). s .next) (d .refused-by .same-station refl) in
     omega arith
@@ -100,17 +117,17 @@ list-cleared d =
     omega arith
 
 -- `answered`
-shown-as-waiting : DemandOne shownAsWaiting station (preview 1 10 60) → ⊥
-shown-as-waiting d = go (d .answered (refusals-none station (preview 1 10 60) refl))
+shown-as-waiting : DemandOne shownAsWaiting station (preview 1 10 60 1) → ⊥
+shown-as-waiting d = go (d .answered (refusals-none station (preview 1 10 60 1) refl))
   where
-    go : (s : ℕ) × (waiting 0 ≡ previewed s) → ⊥
+    go : (s : ℕ) × (waiting 0 1 ≡ previewed s) → ⊥
     go (s, e) = let z : _≡_ {A = ℕ} 0 1 = cc in omega arith
 
-ticket-not-said : DemandOne ticketNotSaid station (commit 1 10 60 0) → ⊥
+ticket-not-said : DemandOne ticketNotSaid station (commit 1 10 60 1 0) → ⊥
 unfolding limited balanced sound earliest
-ticket-not-said d = go (d .answered (refusals-none station (commit 1 10 60 0) refl))
+ticket-not-said d = go (d .answered (refusals-none station (commit 1 10 60 1 0) refl))
   where
-    go : (t : ℕ) × (waiting 0 ≡ committed t 0) → ⊥
+    go : (t : ℕ) × (waiting 0 1 ≡ committed t 0) → ⊥
     go (t, e) = let z : _≡_ {A = ℕ} 0 1 = cc in omega arith
 
 -- Openings

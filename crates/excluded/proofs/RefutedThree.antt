@@ -9,12 +9,12 @@ use Rattle.rules.specs.Search.{earliest, earliestUnder}
 use Rattle.rules.specs.Replan.{placeAll, latest}
 use Rattle.rules.specs.Judgement.{judged}
 use Rattle.rules.specs.Entry.{lentList}
-use Rattle.rules.specs.Calls.{refused, waiting, charging, preview, commit, move, offer, replanLatest, opening, previewing, committing, moving, replanningLatest, enquiring}
+use Rattle.rules.specs.Calls.{refused, waiting, charging, preview, commit, move, offer, replanLatest, opening, previewing, committing, moving, offering, replanningLatest, enquiring}
 use Rattle.guarantee.specs.DemandThree.{DemandThree}
-use Rattle.excluded.specs.WrongOrders.{ownLineOnly, neighboursOnly, limitIgnored, fixedStart, previewTakesTicket, shownBeforeTaken, ticketSkipped}
+use Rattle.excluded.specs.WrongOrders.{ownLineOnly, neighboursOnly, limitIgnored, chargesCounted, ratesInLimitOnly, fixedStart, previewTakesTicket, shownBeforeTaken, ticketSkipped}
 use Rattle.excluded.specs.WrongMoves.{startAtClockLeftOut, firstReportOnly, reportedTwice, startAtTargetReported, nobodyReported, slowClock, droppedEarly, droppedLate, neverDropped, shownLate, shownBegun, shownEarly}
-use Rattle.excluded.specs.WrongPlans.{untested, begunMoved}
-use Rattle.excluded.specs.BreaksThree.{one, two, from, single, fourOrders}
+use Rattle.excluded.specs.WrongPlans.{untested, rateLost, begunMoved}
+use Rattle.excluded.specs.BreaksThree.{one, two, twoEven, four, from, fromRated, single, fourOrders}
 use Rattle.excluded.proofs.Refuting.{line-one, line-two, line-three}
 
 -- Limit, balance and tickets
@@ -39,13 +39,23 @@ neighbours-only : DemandThree neighboursOnly two (single ∷ from 2 0 ∷ single
 unfolding limited opening committing enquiring
 neighbours-only d = let h : 2 ≤ 1 = d .balance 1 3 0 line-one line-three in omega arith
 
+-- `limit`: rates 2 and 1 on line 1 in minute 0
+charges-counted : DemandThree chargesCounted twoEven (fromRated 1 0 ∷ from 2 0 ∷ from 3 0 ∷ single ∷ []) → ⊥
+unfolding limited balanced sound earliest opening committing enquiring
+charges-counted d = let h : 3 ≤ 2 = d .limit 1 0 line-one in omega arith
+
+-- `balance`: rates 2 and 1 on line 1 in minute 0, none on line 2
+rates-in-limit-only : DemandThree ratesInLimitOnly four (fromRated 1 0 ∷ single ∷ []) → ⊥
+unfolding limited balanced opening committing enquiring
+rates-in-limit-only d = let h : 3 ≤ 2 = d .balance 1 2 0 line-one line-two in omega arith
+
 -- `tickets`: 1 and 3
 ticket-skipped : DemandThree ticketSkipped one (single ∷ from 1 10 ∷ []) → ⊥
 unfolding limited balanced sound earliest opening committing enquiring
 ticket-skipped d = let h : _≡_ {A = ℕ} 3 2 = d .tickets .1 .0 in omega arith
 
 -- `tickets`: the first is 2
-preview-takes-ticket : DemandThree previewTakesTicket one (preview 1 10 60 ∷ single ∷ []) → ⊥
+preview-takes-ticket : DemandThree previewTakesTicket one (preview 1 10 60 1 ∷ single ∷ []) → ⊥
 unfolding limited balanced sound earliest opening previewing committing enquiring
 preview-takes-ticket d = let h : _≡_ {A = ℕ} 2 1 = d .tickets .0 in omega arith
 
@@ -57,12 +67,12 @@ unfolding limited balanced sound earliest opening committing enquiring
 slow-clock d = let h : 5 ≤ 4 = d .orders .0 .not-early in omega arith
 
 -- `not-early`: ordered in minute 5, with start 0
-shown-before-taken : DemandThree shownBeforeTaken one (preview 1 10 60 ∷ move 5 lentList ∷ single ∷ []) → ⊥
+shown-before-taken : DemandThree shownBeforeTaken one (preview 1 10 60 1 ∷ move 5 lentList ∷ single ∷ []) → ⊥
 unfolding limited balanced sound earliest opening previewing committing moving enquiring
 shown-before-taken d = let h : 5 ≤ 0 = d .orders .0 .not-early in omega arith
 
 -- `in-time`: ticket 1 ends at 21, and the two orders of minute 0 last 20
-ends-later : DemandThree (untested 4) one (single ∷ commit 1 10 15 10 ∷ offer (11 ∷ 0 ∷ []) ∷ []) → ⊥
+ends-later : DemandThree (untested 4) one (single ∷ commit 1 10 15 1 10 ∷ offer (11 ∷ 0 ∷ []) ∷ []) → ⊥
 unfolding limited balanced sound earliest judged opening committing enquiring
 ends-later d = let h : 21 ≤ 20 = d .orders .0 .in-time in omega arith
 
@@ -92,15 +102,24 @@ start-at-target-reported d =
 shown-begun : DemandThree shownBegun one (single ∷ []) → ⊥
 unfolding limited balanced sound earliest opening committing enquiring
 shown-begun d =
-    let h : charging 0 10 ≡ waiting 0 = d .orders .0 .waits (omega arith) in
+    let h : charging 0 10 1 ≡ waiting 0 1 = d .orders .0 .waits (omega arith) in
     let z : _≡_ {A = ℕ} 0 1 = cc in
+    omega arith
+
+-- `waits`: ticket 1 was ordered at rate 2
+rate-lost :
+    DemandThree rateLost four (fromRated 1 0 ∷ fromRated 1 10 ∷ commit 1 10 25 1 20 ∷ offer (10 ∷ 20 ∷ 0 ∷ []) ∷ []) → ⊥
+unfolding limited balanced sound earliest judged opening committing offering enquiring
+rate-lost d =
+    let h : waiting 10 1 ≡ waiting 10 2 = d .orders .0 .waits (omega arith) in
+    let z : _≡_ {A = ℕ} 1 2 = cc in
     omega arith
 
 -- `charges`: reported with start 0, shown with 1
 shown-late : DemandThree shownLate one (single ∷ move 1 lentList ∷ []) → ⊥
 unfolding limited balanced sound earliest opening committing moving enquiring
 shown-late d =
-    let h : charging 1 11 ≡ charging 0 10 = d .orders .0 .charges (omega arith) (omega arith) in
+    let h : charging 1 11 1 ≡ charging 0 10 1 = d .orders .0 .charges (omega arith) (omega arith) in
     let z : _≡_ {A = ℕ} 1 0 = cc in
     omega arith
 
@@ -108,16 +127,16 @@ shown-late d =
 dropped-early : DemandThree droppedEarly one (single ∷ move 9 lentList ∷ []) → ⊥
 unfolding limited balanced sound earliest opening committing enquiring
 dropped-early d =
-    let h : refused 15 ≡ charging 0 10 = d .orders .0 .charges (omega arith) (omega arith) in
+    let h : refused 15 ≡ charging 0 10 1 = d .orders .0 .charges (omega arith) (omega arith) in
     let z : _≡_ {A = ℕ} 0 1 = cc in
     omega arith
 
 -- `charges`: ticket 1 was reported with start 0 and waits for 10
 begun-moved :
-    DemandThree begunMoved one (single ∷ commit 1 10 15 10 ∷ move 1 lentList ∷ replanLatest ∷ []) → ⊥
+    DemandThree begunMoved one (single ∷ commit 1 10 15 1 10 ∷ move 1 lentList ∷ replanLatest ∷ []) → ⊥
 unfolding limited balanced sound earliest placeAll latest judged opening committing moving replanningLatest enquiring
 begun-moved d =
-    let h : waiting 10 ≡ charging 0 10 = d .orders .0 .charges (omega arith) (omega arith) in
+    let h : waiting 10 1 ≡ charging 0 10 1 = d .orders .0 .charges (omega arith) (omega arith) in
     let z : _≡_ {A = ℕ} 0 1 = cc in
     omega arith
 
@@ -125,14 +144,14 @@ begun-moved d =
 dropped-late : DemandThree droppedLate one (single ∷ move 10 lentList ∷ []) → ⊥
 unfolding limited balanced sound earliest opening committing enquiring
 dropped-late d =
-    let h : charging 0 10 ≡ refused 15 = d .orders .0 .finished (omega arith) in
+    let h : charging 0 10 1 ≡ refused 15 = d .orders .0 .finished (omega arith) in
     let z : _≡_ {A = ℕ} 0 1 = cc in
     omega arith
 
 never-dropped : DemandThree neverDropped one (single ∷ move 99 lentList ∷ []) → ⊥
 unfolding limited balanced sound earliest opening committing enquiring
 never-dropped d =
-    let h : charging 0 10 ≡ refused 15 = d .orders .0 .finished (omega arith) in
+    let h : charging 0 10 1 ≡ refused 15 = d .orders .0 .finished (omega arith) in
     let z : _≡_ {A = ℕ} 0 1 = cc in
     omega arith
 

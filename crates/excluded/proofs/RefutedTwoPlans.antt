@@ -13,8 +13,8 @@ use Rattle.rules.specs.CasesAToL.{ordersH}
 use Rattle.rules.specs.Calls.{settings, State, planned, offer, offering, step}
 use Rattle.guarantee.specs.Past.{Gives}
 use Rattle.guarantee.specs.DemandTwo.{Better, Taken, GivenStarts, DemandTwo}
-use Rattle.excluded.specs.WrongPlans.{untested, neverTaken, offerCleared, takenLater, begunPutOff, lineChanged, takenForTicket, keptForTicket, alwaysKept, spentAfterNone, roundsInvented}
-use Rattle.excluded.specs.Stations.{station, stationFour, stationH, stationHTwo, waitingSince, begunAndWaiting}
+use Rattle.excluded.specs.WrongPlans.{untested, neverTaken, offerCleared, takenLater, begunPutOff, lineChanged, rateLost, takenForTicket, keptForTicket, alwaysKept, spentAfterNone, roundsInvented}
+use Rattle.excluded.specs.Stations.{station, stationFour, stationH, stationHTwo, stationRated, waitingSince, begunAndWaiting}
 use Rattle.excluded.specs.BreaksTwoPlans.{offerJ}
 use Rattle.guarantee.proofs.DemandTwo.{not-taken, demand-two}
 use Rattle.excluded.proofs.Refuting.{line-one, line-two}
@@ -106,6 +106,15 @@ line-changed d =
     let h : _≡_ {A = ℕ} 2 0
     = ap (λ (cs : List Charge). count (loadsOf cs) 2 0)
     (offer-given lineChanged stationH offerJ d (_, _, _, refl) .charges-same) in
+    omega arith
+
+-- `charges-same`: the count of line 1 in minute 0, with every start 0
+rate-lost : DemandTwo rateLost stationRated → ⊥
+unfolding limited balanced sound earliest judged offering
+rate-lost d =
+    let h : _≡_ {A = ℕ} 3 5
+    = ap (λ (cs : List Charge). count (loadsOf cs) 1 0)
+    (offer-given rateLost stationRated (10 ∷ 20 ∷ 0 ∷ []) d (_, _, _, refl) .charges-same) in
     omega arith
 
 -- `station-same`

@@ -7,8 +7,8 @@ use Rattle.excluded.specs.Parts.{withMoves}
 
 -- with nothing put in their place, the parts are the rules: a wrong station differs in its one part only
 unaltered : (s : State) (c : Call) → withMoves moving s c ≡ step s c
-unaltered s (preview line p d) = refl
-unaltered s (commit line p d shown) = refl
+unaltered s (preview line p d rate) = refl
+unaltered s (commit line p d rate shown) = refl
 unaltered s (move target list) = refl
 unaltered s (offer ss) = refl
 unaltered s replanLatest = refl

@@ -52,7 +52,7 @@ read l =
     (cond (eqb (of 0) 3) (committed (of 1) (of 2))
     (cond (eqb (of 0) 4) (moved (of 1) (of 2))
     (cond (eqb (of 0) 5) (planned (of 1) (of 2) (of 3) (of 4))
-    (cond (eqb (of 0) 6) (waiting (of 1)) (charging (of 1) (of 2))))))))
+    (cond (eqb (of 0) 6) (waiting (of 1) (of 2)) (charging (of 1) (of 2) (of 3))))))))
 
 read-back : (a : Answer) → read (inNumbers a) ≡ a
 read-back (refused k) = refl
@@ -61,8 +61,8 @@ read-back (previewed s) = refl
 read-back (committed t s) = refl
 read-back (moved n m) = refl
 read-back (planned c b a n) = refl
-read-back (waiting s) = refl
-read-back (charging s e) = refl
+read-back (waiting s rate) = refl
+read-back (charging s e rate) = refl
 
 pub same-answer : (a b : Answer) → Tests (sameAnswer a b) (a ≡ b)
 same-answer a b = same-numbers inNumbers read read-back a b
@@ -77,6 +77,7 @@ readCharge l =
       time = getD l 3 0;
       due = getD l 4 0;
       start = getD l 5 0;
+      rate = getD l 6 0;
     }
 
 pub same-charges : (cs ds : List Charge) → Tests (sameCharges cs ds) (cs ≡ ds)

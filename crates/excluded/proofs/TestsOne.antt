@@ -22,8 +22,8 @@ refusal-is (previewed s) k e = let z : _≡_ {A = ℕ} 0 1 = cc in absurd (omega
 refusal-is (committed t s) k e = let z : _≡_ {A = ℕ} 0 1 = cc in absurd (omega arith)
 refusal-is (moved n m) k e = let z : _≡_ {A = ℕ} 0 1 = cc in absurd (omega arith)
 refusal-is (planned c b a n) k e = let z : _≡_ {A = ℕ} 0 1 = cc in absurd (omega arith)
-refusal-is (waiting s) k e = let z : _≡_ {A = ℕ} 0 1 = cc in absurd (omega arith)
-refusal-is (charging s f) k e = let z : _≡_ {A = ℕ} 0 1 = cc in absurd (omega arith)
+refusal-is (waiting s w) k e = let z : _≡_ {A = ℕ} 0 1 = cc in absurd (omega arith)
+refusal-is (charging s f w) k e = let z : _≡_ {A = ℕ} 0 1 = cc in absurd (omega arith)
 
 first-is : (rows : List (Bool × ℕ)) (k : ℕ) → FirstIs rows k ↔ (firstIn rows ≡ k ∷ [])
 first-is [] k = ((λ e. absurd e), (λ e. let z : _≡_ {A = ℕ} 0 1 = cc in absurd (omega arith)))
@@ -114,21 +114,26 @@ module _ (a : Answer) where
           → sameAnswer a (planned (numberIn 1 a) (numberIn 2 a) (numberIn 3 a) (numberIn 4 a)) ≡ true
       back (i, b, c, n, e) = rw e (same-answer (planned i b c n) (planned i b c n) .1 refl)
 
-  waiting-tests : Tests (sameAnswer a (waiting (numberIn 1 a))) ((s : ℕ) × (a ≡ waiting s))
-  waiting-tests = ((λ e. (_, same-answer a (waiting (numberIn 1 a)) .0 e)), back)
+  waiting-tests : Tests (sameAnswer a (waiting (numberIn 1 a) (numberIn 2 a))) ((s : ℕ) × (r : ℕ) × (a ≡ waiting s r))
+  waiting-tests = ((λ e. (_, _, same-answer a (waiting (numberIn 1 a) (numberIn 2 a)) .0 e)), back)
     where
-      back : (s : ℕ) × (a ≡ waiting s) → sameAnswer a (waiting (numberIn 1 a)) ≡ true
-      back (s, e) = rw e (same-answer (waiting s) (waiting s) .1 refl)
+      back : (s : ℕ) × (r : ℕ) × (a ≡ waiting s r) → sameAnswer a (waiting (numberIn 1 a) (numberIn 2 a)) ≡ true
+      back (s, r, e) = rw e (same-answer (waiting s r) (waiting s r) .1 refl)
 
-  charging-tests : Tests (sameAnswer a (charging (numberIn 1 a) (numberIn 2 a))) ((s : ℕ) × (f : ℕ) × (a ≡ charging s f))
-  charging-tests = ((λ e. (_, _, same-answer a (charging (numberIn 1 a) (numberIn 2 a)) .0 e)), back)
+  charging-tests :
+      Tests (sameAnswer a (charging (numberIn 1 a) (numberIn 2 a) (numberIn 3 a)))
+      ((s : ℕ) × (f : ℕ) × (r : ℕ) × (a ≡ charging s f r))
+  charging-tests =
+      ((λ e. (_, _, _, same-answer a (charging (numberIn 1 a) (numberIn 2 a) (numberIn 3 a)) .0 e)), back)
     where
-      back : (s : ℕ) × (f : ℕ) × (a ≡ charging s f) → sameAnswer a (charging (numberIn 1 a) (numberIn 2 a)) ≡ true
-      back (s, f, e) = rw e (same-answer (charging s f) (charging s f) .1 refl)
+      back :
+          (s : ℕ) × (f : ℕ) × (r : ℕ) × (a ≡ charging s f r)
+          → sameAnswer a (charging (numberIn 1 a) (numberIn 2 a) (numberIn 3 a)) ≡ true
+      back (s, f, r, e) = rw e (same-answer (charging s f r) (charging s f r) .1 refl)
 
   answers-tests : (c : Call) → Tests (answersTo c a) (AnswerTo c a)
-  answers-tests (preview line p d) = previewed-tests
-  answers-tests (commit line p d shown) = committed-tests shown
+  answers-tests (preview line p d rate) = previewed-tests
+  answers-tests (commit line p d rate shown) = committed-tests shown
   answers-tests (move target list) = moved-tests
   answers-tests (offer ss) = planned-tests
   answers-tests replanLatest = planned-tests

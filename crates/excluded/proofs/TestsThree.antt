@@ -123,7 +123,7 @@ three-tested gives s calls waits =
     every-tests
     (λ o.
     where-so-tests (leb-tests (h .clock) (startOf gives h o))
-    (same-answer (enquiry gives h (o .ticket)) (waiting (startOf gives h o))))
+    (same-answer (enquiry gives h (o .ticket)) (waiting (startOf gives h o) (o .rate))))
     (h .orders)
 three-tested gives s calls charges =
     let h : Past = past gives s calls in
@@ -131,7 +131,7 @@ three-tested gives s calls charges =
     (λ o.
     where-so-tests (ltb-tests (startOf gives h o) (h .clock))
     (where-so-tests (ltb-tests (h .clock) (endOf gives h o))
-    (same-answer (enquiry gives h (o .ticket)) (charging (startOf gives h o) (endOf gives h o)))))
+    (same-answer (enquiry gives h (o .ticket)) (charging (startOf gives h o) (endOf gives h o) (o .rate)))))
     (h .orders)
 three-tested gives s calls finished =
     let h : Past = past gives s calls in

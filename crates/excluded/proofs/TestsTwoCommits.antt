@@ -9,7 +9,7 @@ use Rattle.excluded.proofs.TestsStarts.{earliest-tests}
 use Rattle.excluded.proofs.Same.{same-answer, same-state}
 
 shown-tests : (r : Trial) → Tests (earliest r) (Earliest r)
-shown-tests r = earliest-tests (r .station) (drawFor (r .station) (r .line) (r .time)) (r .shown)
+shown-tests r = earliest-tests (r .station) (drawFor (r .station) (r .line) (r .time) (r .rate)) (r .shown)
 
 claim-tested : (r : Trial) (f : Field) → Tests (test r f) (Claim r f)
 claim-tested r answer =
@@ -20,14 +20,14 @@ claim-tested r others-same = where-so-tests (shown-tests r) (same-state (resultO
 pub commits-tested : (r : Trial) (f : Field) → Tests (tested r f) (Holds r f)
 commits-tested r f =
     where-so-tests
-    (every-tests (λ row. fails-tests (row .0)) (refusals (r .station) (preview (r .line) (r .time) (r .due))))
+    (every-tests (λ row. fails-tests (row .0)) (refusals (r .station) (preview (r .line) (r .time) (r .due) (r .rate))))
     (claim-tested r f)
 
 -- The fields one by one
 
 module _ (r : Trial) where
   abbrev Whole : Type 0
-  Whole = CommitStart (r .station) (r .line) (r .time) (r .due) (r .shown) (resultOf r)
+  Whole = CommitStart (r .station) (r .line) (r .time) (r .due) (r .rate) (r .shown) (resultOf r)
 
   field-holds : Whole → (f : Field) → Claim r f
   field-holds o answer = o .answer

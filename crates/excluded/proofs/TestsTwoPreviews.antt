@@ -24,7 +24,7 @@ previews-tested r limit = free-tests r (limit-tests (limitsOf (r .station)) (r .
 previews-tested r balance =
     free-tests r (balance-tests (limitsOf (r .station)) (r .station .clock) (loadsWith r (startOf r)))
 previews-tested r earliest =
-    free-tests r (no-earlier-tests (r .station) (drawFor (r .station) (r .line) (r .time)) (startOf r))
+    free-tests r (no-earlier-tests (r .station) (drawFor (r .station) (r .line) (r .time) (r .rate)) (startOf r))
 previews-tested r same-station = same-state (resultOf r .state) (r .station)
 previews-tested r same-list = same-lists (resultOf r .list) (lent (callOf r))
 
@@ -32,10 +32,10 @@ previews-tested r same-list = same-lists (resultOf r .list) (lent (callOf r))
 
 module _ (r : Trial) where
   abbrev Whole : Type 0
-  Whole = PreviewStart (r .station) (r .line) (r .time) (r .due) (resultOf r)
+  Whole = PreviewStart (r .station) (r .line) (r .time) (r .due) (r .rate) (resultOf r)
 
   abbrev Start : ℕ → Type 0
-  Start u = EarliestStart (r .station) (drawFor (r .station) (r .line) (r .time)) u
+  Start u = EarliestStart (r .station) (drawFor (r .station) (r .line) (r .time) (r .rate)) u
 
   -- the start is that of the answer
   started : Whole → NoneApplies (refusals (r .station) (callOf r)) → Start (startOf r)

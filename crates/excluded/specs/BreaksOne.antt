@@ -3,8 +3,8 @@ use mathlib.Core.List.{List, [], _∷_, _++_, map}
 use Rattle.rules.specs.Entry.{lentList}
 use Rattle.rules.specs.Calls.{settings, preview, commit, move, opening, step}
 use Rattle.excluded.specs.WrongOrders.{shownAsWaiting, anySoundStart, shownIgnored}
-use Rattle.excluded.specs.WrongRefusals.{lineAccepted, lastRow, shownFirst, otherNumber, alwaysFull, hurryRefused, standstillRefused, ticketUsedUp, listCleared, ticketNotSaid, zeroBound, smallProductRefused, openedAsAsked, openingWrites, limitSaid, percentLost, roundedDown}
-use Rattle.excluded.specs.Stations.{station}
+use Rattle.excluded.specs.WrongRefusals.{lineAccepted, lastRow, lowestNumber, rateAboveBound, shownFirst, otherNumber, alwaysFull, hurryRefused, standstillRefused, ticketUsedUp, listCleared, ticketNotSaid, openedAsAsked, openingWrites, limitSaid, percentLost, zeroBound, smallProductRefused, roundedDown}
+use Rattle.excluded.specs.Stations.{station, stationTwo}
 use Rattle.excluded.specs.Breaks.{Entry, computedBy, onlyOf}
 use Rattle.excluded.specs.FieldsOne.{Field, number, same-station, same-list, answered, fields, place, Trial, calledOn, openedBy, tested}
 
@@ -19,21 +19,24 @@ only = onlyOf place fields
 
 abbrev pub wrongCalls : List Breach
 wrongCalls =
-    only (calledOn lineAccepted station (preview 4 10 60)) (number ∷ [])
-    ∷ only (calledOn lastRow station (preview 4 0 60)) (number ∷ [])
+    only (calledOn lineAccepted station (preview 4 10 60 1)) (number ∷ [])
+    ∷ only (calledOn lastRow station (preview 4 0 60 1)) (number ∷ [])
+    -- N is 2 and D is 1: the rate is above D alone, and no start is found for it
+    ∷ only (calledOn rateAboveBound stationTwo (preview 1 10 60 2)) (number ∷ [])
+    ∷ only (calledOn lowestNumber station (preview 1 10 2000001 3)) (number ∷ [])
     -- 3 is a sound start, and 0 the earliest
-    ∷ only (calledOn anySoundStart station (commit 1 10 60 3)) (number ∷ [])
-    ∷ only (calledOn shownIgnored station (commit 1 10 60 3)) (number ∷ [])
-    ∷ only (calledOn otherNumber station (commit 1 10 60 3)) (number ∷ [])
-    ∷ only (calledOn shownFirst station (commit 4 10 60 3)) (number ∷ [])
+    ∷ only (calledOn anySoundStart station (commit 1 10 60 1 3)) (number ∷ [])
+    ∷ only (calledOn shownIgnored station (commit 1 10 60 1 3)) (number ∷ [])
+    ∷ only (calledOn otherNumber station (commit 1 10 60 1 3)) (number ∷ [])
+    ∷ only (calledOn shownFirst station (commit 4 10 60 1 3)) (number ∷ [])
     -- a call that is refused where no condition applies has no answer of its own kind either
-    ∷ only (calledOn alwaysFull station (preview 1 10 60)) (number ∷ answered ∷ [])
-    ∷ only (calledOn hurryRefused station (preview 1 10 9)) (number ∷ answered ∷ [])
+    ∷ only (calledOn alwaysFull station (preview 1 10 60 1)) (number ∷ answered ∷ [])
+    ∷ only (calledOn hurryRefused station (preview 1 10 9 1)) (number ∷ answered ∷ [])
     ∷ only (calledOn standstillRefused station (move 0 lentList)) (number ∷ answered ∷ [])
-    ∷ only (calledOn ticketUsedUp station (commit 4 10 60 0)) (same-station ∷ [])
+    ∷ only (calledOn ticketUsedUp station (commit 4 10 60 1 0)) (same-station ∷ [])
     ∷ only (calledOn listCleared station (move 0 (7 ∷ []))) (same-list ∷ [])
-    ∷ only (calledOn shownAsWaiting station (preview 1 10 60)) (answered ∷ [])
-    ∷ only (calledOn ticketNotSaid station (commit 1 10 60 0)) (answered ∷ [])
+    ∷ only (calledOn shownAsWaiting station (preview 1 10 60 1)) (answered ∷ [])
+    ∷ only (calledOn ticketNotSaid station (commit 1 10 60 1 0)) (answered ∷ [])
     ∷ []
 
 abbrev pub wrongOpenings : List Breach

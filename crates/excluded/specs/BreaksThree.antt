@@ -5,9 +5,9 @@ use mathlib.Core.List.{List, [], _∷_, _++_, map}
 use Rattle.rules.specs.Entry.{lentList}
 use Rattle.rules.specs.Calls.{settings, State, Call, preview, commit, move, offer, replanLatest, opening, step}
 use Rattle.guarantee.specs.Past.{Gives}
-use Rattle.excluded.specs.WrongOrders.{ownLineOnly, neighboursOnly, limitIgnored, fixedStart, previewTakesTicket, shownBeforeTaken, ticketSkipped}
+use Rattle.excluded.specs.WrongOrders.{ownLineOnly, neighboursOnly, limitIgnored, chargesCounted, ratesInLimitOnly, fixedStart, previewTakesTicket, shownBeforeTaken, ticketSkipped}
 use Rattle.excluded.specs.WrongMoves.{startAtClockLeftOut, firstReportOnly, reportedTwice, startAtTargetReported, nobodyReported, slowClock, droppedEarly, droppedLate, neverDropped, shownLate, shownBegun, shownEarly}
-use Rattle.excluded.specs.WrongPlans.{untested, begunMoved}
+use Rattle.excluded.specs.WrongPlans.{untested, rateLost, begunMoved}
 use Rattle.excluded.specs.FieldsThree.{Field, limit, balance, tickets, not-early, in-time, reported, not-reported, waits, charges, finished, no-other, unmoved, fields, place, Holds}
 use Rattle.excluded.specs.Breaks.{Entry, computedBy, onlyOf}
 use Rattle.excluded.specs.TestsThree.{tested}
@@ -40,9 +40,20 @@ one = opening (settings 1 100) .state
 abbrev pub two : State
 two = opening (settings 2 50) .state
 
+-- the station of 2, 100 and that of 4, 50, both with D = 2
+abbrev pub twoEven : State
+twoEven = opening (settings 2 100) .state
+
+abbrev pub four : State
+four = opening (settings 4 50) .state
+
 -- an order of 10 minutes with a start
 abbrev pub from : ℕ → ℕ → Call
-from line start = commit line 10 60 start
+from line start = commit line 10 60 1 start
+
+-- the same of rate 2
+abbrev pub fromRated : ℕ → ℕ → Call
+fromRated line start = commit line 10 60 2 start
 
 -- one order that charges on line 1 from 0 to 10
 abbrev pub single : Call
@@ -61,21 +72,24 @@ wrongEntries =
     ∷ only fixedStart one (fourOrders 5) (limit ∷ [])
     ∷ only ownLineOnly two (single ∷ single ∷ []) (balance ∷ [])
     ∷ only neighboursOnly two (single ∷ from 2 0 ∷ single ∷ []) (balance ∷ [])
+    ∷ only chargesCounted twoEven (fromRated 1 0 ∷ from 2 0 ∷ from 3 0 ∷ single ∷ []) (limit ∷ [])
+    ∷ only ratesInLimitOnly four (fromRated 1 0 ∷ single ∷ []) (balance ∷ [])
     ∷ only ticketSkipped one (single ∷ from 1 10 ∷ []) (tickets ∷ [])
-    ∷ only previewTakesTicket one (preview 1 10 60 ∷ single ∷ []) (tickets ∷ [])
+    ∷ only previewTakesTicket one (preview 1 10 60 1 ∷ single ∷ []) (tickets ∷ [])
     ∷ only slowClock one (to 5 ∷ from 1 4 ∷ to 6 ∷ []) (not-early ∷ [])
     -- ordered in minute 5 with the start 0, which no move passes any more
-    ∷ only shownBeforeTaken one (preview 1 10 60 ∷ to 5 ∷ single ∷ []) (not-early ∷ reported ∷ [])
-    ∷ only (untested 4) one (single ∷ commit 1 10 15 10 ∷ offer (11 ∷ 0 ∷ []) ∷ []) (in-time ∷ [])
+    ∷ only shownBeforeTaken one (preview 1 10 60 1 ∷ to 5 ∷ single ∷ []) (not-early ∷ reported ∷ [])
+    ∷ only (untested 4) one (single ∷ commit 1 10 15 1 10 ∷ offer (11 ∷ 0 ∷ []) ∷ []) (in-time ∷ [])
     ∷ only startAtClockLeftOut one (single ∷ to 1 ∷ []) (reported ∷ [])
     ∷ only firstReportOnly one (single ∷ to 5 ∷ from 2 5 ∷ to 6 ∷ []) (reported ∷ [])
     ∷ only reportedTwice one (single ∷ to 1 ∷ to 2 ∷ []) (reported ∷ [])
     ∷ only startAtTargetReported one (single ∷ from 1 10 ∷ to 10 ∷ []) (not-reported ∷ [])
     ∷ only shownBegun one (single ∷ []) (waits ∷ [])
+    ∷ only rateLost four (fromRated 1 0 ∷ fromRated 1 10 ∷ commit 1 10 25 1 20 ∷ offer (10 ∷ 20 ∷ 0 ∷ []) ∷ []) (waits ∷ [])
     ∷ only shownLate one (single ∷ to 1 ∷ []) (charges ∷ [])
     ∷ only droppedEarly one (single ∷ to 9 ∷ []) (charges ∷ [])
     -- ticket 1, reported with start 0, waits for 10, and ticket 2, never reported, charges from 0: both of line 1 in minute 0
-    ∷ only begunMoved one (single ∷ commit 1 10 15 10 ∷ to 1 ∷ replanLatest ∷ []) (limit ∷ balance ∷ reported ∷ charges ∷ [])
+    ∷ only begunMoved one (single ∷ commit 1 10 15 1 10 ∷ to 1 ∷ replanLatest ∷ []) (limit ∷ balance ∷ reported ∷ charges ∷ [])
     ∷ only droppedLate one (single ∷ to 10 ∷ []) (finished ∷ [])
     ∷ only neverDropped one (single ∷ to 99 ∷ []) (finished ∷ [])
     ∷ only nobodyReported one (to 1 ∷ []) (no-other ∷ [])

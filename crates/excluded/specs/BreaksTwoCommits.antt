@@ -15,10 +15,10 @@ Breach = Entry Trial Field
 abbrev pub computed : Breach → Breach
 computed = computedBy tested fields
 
--- a commit of 10 minutes, due at 60
+-- a commit of 10 minutes, due at 60, of rate 1
 abbrev only : Gives → State → ℕ → ℕ → List Field → Breach
 only gives s line shown broken =
-    onlyOf place fields (record { gives = gives; station = s; line = line; time = 10; due = 60; shown = shown }) broken
+    onlyOf place fields (record { gives = gives; station = s; line = line; time = 10; due = 60; rate = 1; shown = shown }) broken
 
 abbrev pub wrongEntries : List Breach
 wrongEntries =

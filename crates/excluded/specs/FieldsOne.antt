@@ -67,14 +67,15 @@ firstIn (row ∷ rows) = cond (row .0) (row .1 ∷ []) (firstIn rows)
 
 -- an answer is of a kind when it is the one of that kind with its own numbers
 abbrev pub answersTo : Call → Answer → Bool
-answersTo (preview line p d) a = sameAnswer a (previewed (numberIn 1 a))
-answersTo (commit line p d shown) a = sameAnswer a (committed (numberIn 1 a) shown)
+answersTo (preview line p d rate) a = sameAnswer a (previewed (numberIn 1 a))
+answersTo (commit line p d rate shown) a = sameAnswer a (committed (numberIn 1 a) shown)
 answersTo (move target list) a = sameAnswer a (moved (numberIn 1 a) (numberIn 2 a))
 answersTo (offer ss) a = sameAnswer a (planned (numberIn 1 a) (numberIn 2 a) (numberIn 3 a) (numberIn 4 a))
 answersTo replanLatest a = sameAnswer a (planned (numberIn 1 a) (numberIn 2 a) (numberIn 3 a) (numberIn 4 a))
 answersTo (replanLines allowance) a = sameAnswer a (planned (numberIn 1 a) (numberIn 2 a) (numberIn 3 a) (numberIn 4 a))
 answersTo (enquire ticket) a =
-    sameAnswer a (waiting (numberIn 1 a)) || sameAnswer a (charging (numberIn 1 a) (numberIn 2 a))
+    sameAnswer a (waiting (numberIn 1 a) (numberIn 2 a))
+    || sameAnswer a (charging (numberIn 1 a) (numberIn 2 a) (numberIn 3 a))
 
 abbrev pub ownAnswer : Trial → Bool
 ownAnswer (calledOn gives s c) = answersTo c (gives s c .answer)

@@ -67,14 +67,14 @@ Holds gives s calls not-reported =
     Each (λ o. h .clock ≤ startOf gives h o → timesReported (h .reports) (o .ticket) ≡ 0) (h .orders)
 Holds gives s calls waits =
     let h : Past = past gives s calls in
-    Each (λ o. h .clock ≤ startOf gives h o → enquiry gives h (o .ticket) ≡ waiting (startOf gives h o)) (h .orders)
+    Each (λ o. h .clock ≤ startOf gives h o → enquiry gives h (o .ticket) ≡ waiting (startOf gives h o) (o .rate)) (h .orders)
 Holds gives s calls charges =
     let h : Past = past gives s calls in
     Each
     (λ o.
     startOf gives h o < h .clock
     → h .clock < endOf gives h o
-    → enquiry gives h (o .ticket) ≡ charging (startOf gives h o) (endOf gives h o))
+    → enquiry gives h (o .ticket) ≡ charging (startOf gives h o) (endOf gives h o) (o .rate))
     (h .orders)
 Holds gives s calls finished =
     let h : Past = past gives s calls in

@@ -34,22 +34,23 @@ pub record Trial : Type 0 where
   pub line : ℕ
   pub time : ℕ
   pub due : ℕ
+  pub rate : ℕ
   pub shown : ℕ
 
 abbrev pub resultOf : Trial → Result
-resultOf r = r .gives (r .station) (commit (r .line) (r .time) (r .due) (r .shown))
+resultOf r = r .gives (r .station) (commit (r .line) (r .time) (r .due) (r .rate) (r .shown))
 
 -- its order is not refused
 abbrev pub Free : Trial → Type 0
-Free r = NoneApplies (refusals (r .station) (preview (r .line) (r .time) (r .due)))
+Free r = NoneApplies (refusals (r .station) (preview (r .line) (r .time) (r .due) (r .rate)))
 
 -- the start shown is the earliest
 abbrev pub Earliest : Trial → Type 0
-Earliest r = EarliestStart (r .station) (drawFor (r .station) (r .line) (r .time)) (r .shown)
+Earliest r = EarliestStart (r .station) (drawFor (r .station) (r .line) (r .time) (r .rate)) (r .shown)
 
 -- the station with the charge that it asks for
 abbrev pub taken : Trial → State
-taken r = taking (r .station) (newCharge (r .station) (r .line) (r .time) (r .due) (r .shown))
+taken r = taking (r .station) (newCharge (r .station) (r .line) (r .time) (r .due) (r .rate) (r .shown))
 
 abbrev pub Claim : Trial → Field → Type 0
 Claim r answer = (resultOf r .answer ≡ committed (r .station .next) (r .shown)) ↔ Earliest r
@@ -63,7 +64,7 @@ Holds r f = Free r → Claim r f
 -- The tests
 
 abbrev pub earliest : Trial → Bool
-earliest r = isEarliest (r .station) (drawFor (r .station) (r .line) (r .time)) (r .shown)
+earliest r = isEarliest (r .station) (drawFor (r .station) (r .line) (r .time) (r .rate)) (r .shown)
 
 abbrev pub test : Trial → Field → Bool
 test r answer = sameTest (sameAnswer (resultOf r .answer) (committed (r .station .next) (r .shown))) (earliest r)
@@ -72,4 +73,4 @@ test r others-same = where-so (earliest r) (sameState (resultOf r .state) (taken
 
 abbrev pub tested : Trial → Field → Bool
 tested r f =
-    where-so (every (λ row. not (row .0)) (refusals (r .station) (preview (r .line) (r .time) (r .due)))) (test r f)
+    where-so (every (λ row. not (row .0)) (refusals (r .station) (preview (r .line) (r .time) (r .due) (r .rate)))) (test r f)

@@ -45,9 +45,10 @@ pub record Trial : Type 0 where
   pub line : ℕ
   pub time : ℕ
   pub due : ℕ
+  pub rate : ℕ
 
 abbrev pub callOf : Trial → Call
-callOf r = preview (r .line) (r .time) (r .due)
+callOf r = preview (r .line) (r .time) (r .due) (r .rate)
 
 abbrev pub resultOf : Trial → Result
 resultOf r = r .gives (r .station) (callOf r)
@@ -58,7 +59,7 @@ startOf r = numberIn 1 (resultOf r .answer)
 
 -- the loads of the held charges, and the new one from u on
 abbrev pub loadsWith : Trial → ℕ → List Load
-loadsWith r u = added (loadsOf (r .station .charges)) (drawFor (r .station) (r .line) (r .time)) u
+loadsWith r u = added (loadsOf (r .station .charges)) (drawFor (r .station) (r .line) (r .time) (r .rate)) u
 
 -- what a field says of a preview that is not refused
 abbrev pub Free : Trial → Type 0 → Type 0
@@ -96,6 +97,6 @@ tested r limit =
 tested r balance =
     let xs : List Load = loadsWith r (startOf r) in
     free r (fromOn (r .station .clock) xs (balanceAt (limitsOf (r .station)) xs))
-tested r earliest = free r (noEarlier (r .station) (drawFor (r .station) (r .line) (r .time)) (startOf r))
+tested r earliest = free r (noEarlier (r .station) (drawFor (r .station) (r .line) (r .time) (r .rate)) (startOf r))
 tested r same-station = sameState (resultOf r .state) (r .station)
 tested r same-list = sameList (resultOf r .list) (lent (callOf r))

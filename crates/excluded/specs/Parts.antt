@@ -12,8 +12,8 @@ use Rattle.guarantee.specs.Past.{Gives}
 -- the refusals, and what comes of each kind of call that is not refused
 pub record Parts : Type 0 where
   pub refuses : State → Call → List (Bool × ℕ)
-  pub previews : State → ℕ → ℕ → ℕ → Result
-  pub commits : State → ℕ → ℕ → ℕ → ℕ → Result
+  pub previews : State → ℕ → ℕ → ℕ → ℕ → Result
+  pub commits : State → ℕ → ℕ → ℕ → ℕ → ℕ → Result
   pub moves : State → ℕ → List ℕ → Result
   pub offers : State → List ℕ → Result
   pub replans-latest : State → Result
@@ -21,8 +21,8 @@ pub record Parts : Type 0 where
   pub enquiries : State → ℕ → Result
 
 abbrev grantedBy : Parts → State → Call → Result
-grantedBy p s (preview line time d) = p .previews s line time d
-grantedBy p s (commit line time d shown) = p .commits s line time d shown
+grantedBy p s (preview line time d rate) = p .previews s line time d rate
+grantedBy p s (commit line time d rate shown) = p .commits s line time d rate shown
 grantedBy p s (move target list) = p .moves s target list
 grantedBy p s (offer ss) = p .offers s ss
 grantedBy p s replanLatest = p .replans-latest s
@@ -35,8 +35,8 @@ made p s c = answering (firstOf (p .refuses s c)) s (lent c) (grantedBy p s c)
 
 abbrev parts :
     (State → Call → List (Bool × ℕ))
-    → (State → ℕ → ℕ → ℕ → Result)
     → (State → ℕ → ℕ → ℕ → ℕ → Result)
+    → (State → ℕ → ℕ → ℕ → ℕ → ℕ → Result)
     → (State → ℕ → List ℕ → Result)
     → (State → List ℕ → Result)
     → (State → Result)
@@ -60,10 +60,10 @@ parts refuses previews commits moves offers latest lines enquiries =
 abbrev pub withRefusals : (State → Call → List (Bool × ℕ)) → Gives
 withRefusals r = made (parts r previewing committing moving offering replanningLatest replanningLines enquiring)
 
-abbrev pub withPreviews : (State → ℕ → ℕ → ℕ → Result) → Gives
+abbrev pub withPreviews : (State → ℕ → ℕ → ℕ → ℕ → Result) → Gives
 withPreviews f = made (parts refusals f committing moving offering replanningLatest replanningLines enquiring)
 
-abbrev pub withCommits : (State → ℕ → ℕ → ℕ → ℕ → Result) → Gives
+abbrev pub withCommits : (State → ℕ → ℕ → ℕ → ℕ → ℕ → Result) → Gives
 withCommits f = made (parts refusals previewing f moving offering replanningLatest replanningLines enquiring)
 
 abbrev pub withMoves : (State → ℕ → List ℕ → Result) → Gives
@@ -89,19 +89,19 @@ unnumbered k rows = keep (λ row. not (eqb (row .1) k)) rows
 
 -- previews, commits that look at the start shown themselves, and moves
 abbrev orders :
-    (State → ℕ → ℕ → ℕ → Result) → (State → ℕ → ℕ → ℕ → ℕ → Result) → (State → ℕ → List ℕ → Result) → Gives
+    (State → ℕ → ℕ → ℕ → ℕ → Result) → (State → ℕ → ℕ → ℕ → ℕ → ℕ → Result) → (State → ℕ → List ℕ → Result) → Gives
 orders f g m =
     made
     (parts (λ s c. unnumbered 16 (refusals s c)) f g m offering replanningLatest replanningLines enquiring)
 
 -- commits that do not look at the start shown
-abbrev pub withUntested : (State → ℕ → ℕ → ℕ → ℕ → Result) → Gives
+abbrev pub withUntested : (State → ℕ → ℕ → ℕ → ℕ → ℕ → Result) → Gives
 withUntested g = orders previewing g moving
 
 -- a commit with a start for which the test holds is taken, any other refused
-abbrev takenWhere : (State → Draw → ℕ → Bool) → State → ℕ → ℕ → ℕ → ℕ → Result
-takenWhere test s line p d shown =
-    cond (test s (drawFor s line p) shown) (committing s line p d shown)
+abbrev takenWhere : (State → Draw → ℕ → Bool) → State → ℕ → ℕ → ℕ → ℕ → ℕ → Result
+takenWhere test s line p d rate shown =
+    cond (test s (drawFor s line p rate) shown) (committing s line p d rate shown)
     (record { answer = refused 16; state = s; list = [] })
 
 -- another test of the start shown
@@ -111,7 +111,7 @@ withTest test = withUntested (takenWhere test)
 -- another search, which previews show and commits compare with, and other moves
 abbrev pub withSearchAndMoves : (State → Draw → Found) → (State → ℕ → List ℕ → Result) → Gives
 withSearchAndMoves find m =
-    orders (λ s line p d. previewedAt s (find s (drawFor s line p))) (takenWhere (λ s a shown. isStart (find s a) shown)) m
+    orders (λ s line p d rate. previewedAt s (find s (drawFor s line p rate))) (takenWhere (λ s a shown. isStart (find s a) shown)) m
 
 abbrev pub withSearch : (State → Draw → Found) → Gives
 withSearch find = withSearchAndMoves find moving
@@ -151,6 +151,25 @@ bounding d s =
 
 abbrev pub putOff : Charge → Charge
 putOff c = starting c (suc (c .start))
+
+-- the same charge on another line, and at another rate
+abbrev drawing : ℕ → ℕ → Charge → Charge
+drawing line rate c =
+    record {
+      ticket = c .ticket;
+      line = line;
+      orderMinute = c .orderMinute;
+      time = c .time;
+      due = c .due;
+      start = c .start;
+      rate = rate;
+    }
+
+abbrev pub onLine : ℕ → Charge → Charge
+onLine line c = drawing line (c .rate) c
+
+abbrev pub atRate : ℕ → Charge → Charge
+atRate rate c = drawing (c .line) rate c
 
 abbrev pub chargesBy : (Charge → Charge) → State → State
 chargesBy f s = holding s (s .clock) (map f (s .charges))

@@ -37,8 +37,8 @@ inNumbers (previewed s) = 2 ∷ s ∷ []
 inNumbers (committed t s) = 3 ∷ t ∷ s ∷ []
 inNumbers (moved n m) = 4 ∷ n ∷ m ∷ []
 inNumbers (planned c b a n) = 5 ∷ c ∷ b ∷ a ∷ n ∷ []
-inNumbers (waiting s) = 6 ∷ s ∷ []
-inNumbers (charging s e) = 7 ∷ s ∷ e ∷ []
+inNumbers (waiting s rate) = 6 ∷ s ∷ rate ∷ []
+inNumbers (charging s e rate) = 7 ∷ s ∷ e ∷ rate ∷ []
 
 abbrev pub sameAnswer : Answer → Answer → Bool
 sameAnswer a b = sameList (inNumbers a) (inNumbers b)
@@ -48,7 +48,7 @@ abbrev pub numberIn : ℕ → Answer → ℕ
 numberIn i a = getD (inNumbers a) i 0
 
 abbrev pub ofCharge : Charge → List ℕ
-ofCharge c = c .ticket ∷ c .line ∷ c .orderMinute ∷ c .time ∷ c .due ∷ c .start ∷ []
+ofCharge c = c .ticket ∷ c .line ∷ c .orderMinute ∷ c .time ∷ c .due ∷ c .start ∷ c .rate ∷ []
 
 abbrev pub sameCharges : List Charge → List Charge → Bool
 sameCharges = sameEach (λ c d. sameList (ofCharge c) (ofCharge d))

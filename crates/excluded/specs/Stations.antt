@@ -5,10 +5,13 @@ use mathlib.Core.List.{List, [], _∷_}
 use Rattle.rules.specs.Charge.{Charge}
 use Rattle.rules.specs.Calls.{State, settings, boundOf, fresh}
 
--- a charge ordered in minute 0: ticket, line, p, d, start
+-- a charge ordered in minute 0: ticket, line, p, d, rate, start; and one of rate 1
+abbrev heldAt : ℕ → ℕ → ℕ → ℕ → ℕ → ℕ → Charge
+heldAt ticket line p d rate start =
+    record { ticket = ticket; line = line; orderMinute = 0; time = p; due = d; start = start; rate = rate }
+
 abbrev held : ℕ → ℕ → ℕ → ℕ → ℕ → Charge
-held ticket line p d start =
-    record { ticket = ticket; line = line; orderMinute = 0; time = p; due = d; start = start }
+held ticket line p d start = heldAt ticket line p d 1 start
 
 -- N, c, clock, next ticket
 abbrev standing : ℕ → ℕ → ℕ → ℕ → List Charge → State
@@ -44,6 +47,10 @@ stationH = standing 1 100 0 3 heldH
 
 abbrev pub stationHTwo : State
 stationHTwo = standing 2 50 0 3 heldH
+
+-- N = 4, D = 2: two charges of rate 2 and one of rate 1, on line 1 from 0, 10 and 20
+abbrev pub stationRated : State
+stationRated = standing 4 50 0 4 (heldAt 1 1 10 60 2 0 ∷ heldAt 2 1 10 60 2 10 ∷ held 3 1 10 25 20 ∷ [])
 
 -- at clock 1 ticket 2 waits for 1 and ticket 3, due at 11, for 11
 abbrev pub waitingSince : State

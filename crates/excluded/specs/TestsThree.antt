@@ -45,14 +45,14 @@ testedOn gives s calls h waits =
     every
     (λ o.
     where-so (leb (h .clock) (startOf gives h o))
-    (sameAnswer (enquiry gives h (o .ticket)) (waiting (startOf gives h o))))
+    (sameAnswer (enquiry gives h (o .ticket)) (waiting (startOf gives h o) (o .rate))))
     (h .orders)
 testedOn gives s calls h charges =
     every
     (λ o.
     where-so (ltb (startOf gives h o) (h .clock))
     (where-so (ltb (h .clock) (endOf gives h o))
-    (sameAnswer (enquiry gives h (o .ticket)) (charging (startOf gives h o) (endOf gives h o)))))
+    (sameAnswer (enquiry gives h (o .ticket)) (charging (startOf gives h o) (endOf gives h o) (o .rate)))))
     (h .orders)
 testedOn gives s calls h finished =
     every

@@ -46,7 +46,7 @@ startAtTargetReported = withMoves (reporting (λ clock target c. isPassed clock 
 
 -- each report ends with a ticket that nobody has
 abbrev pub nobodyReported : Gives
-nobodyReported = withMoves (λ s target list. movedBy isPassed (newCharge (ticketing 65536 s) 1 1 1 0 ∷ []) target s target list)
+nobodyReported = withMoves (λ s target list. movedBy isPassed (newCharge (ticketing 65536 s) 1 1 1 1 0 ∷ []) target s target list)
 
 -- a clock that is a minute slow, for orders and for reports: charges start before their order minute
 abbrev pub slowClock : Gives

@@ -5,13 +5,13 @@ use mathlib.Core.List.{List, [], _∷_, _++_, map}
 use lib.Dec.{leb}
 use lib.ListN.{length, drop}
 use Rattle.rules.specs.Basics.{at, first}
-use Rattle.rules.specs.Load.{Load, limits, count, lastUntil, limitAt, fromOn, sound}
+use Rattle.rules.specs.Load.{Load, Draw, draw, limits, count, lastUntil, limitAt, balanceAt, fromOn, sound}
 use Rattle.rules.specs.Charge.{Charge, loadsOf, lastEnd}
 use Rattle.rules.specs.Search.{added, earliest, earliestUnder}
 use Rattle.rules.specs.Calls.{State, limitsOf, holding, waiting, Result, drawFor, startFor, isStart, previewedAt, previewing, committing}
 use Rattle.rules.specs.Earlier.{orderedAt}
 use Rattle.guarantee.specs.Past.{Gives}
-use Rattle.excluded.specs.Parts.{withPreviews, withCommits, withUntested, withTest, withSearch, saying, leaving, writing, ticketing, putOff}
+use Rattle.excluded.specs.Parts.{withPreviews, withCommits, withUntested, withTest, withSearch, saying, leaving, writing, ticketing, putOff, atRate}
 
 -- The search
 
@@ -36,6 +36,25 @@ neighboursOnly =
 abbrev pub limitIgnored : Gives
 limitIgnored = withSearch (λ s a. earliest (limits 180 (s .bound)) (s .clock) (loadsOf (s .charges)) a)
 
+-- a search that counts charges, whatever their rates
+abbrev pub chargesCounted : Gives
+chargesCounted =
+    withSearch
+    (λ s a. earliest (limitsOf s) (s .clock) (loadsOf (map (atRate 1) (s .charges))) (draw (a .line) (a .time) 1))
+
+-- rates are counted in the limit, and charges in balance
+abbrev ratesInLimitAt : State → Draw → ℕ → ℕ → Bool
+ratesInLimitAt s a u t =
+    limitAt (limitsOf s) (added (loadsOf (s .charges)) a u) t
+    && balanceAt (limitsOf s) (added (loadsOf (map (atRate 1) (s .charges))) (draw (a .line) (a .time) 1) u) t
+
+abbrev pub ratesInLimitOnly : Gives
+ratesInLimitOnly =
+    withSearch
+    (λ s a.
+    let xs : List Load = loadsOf (s .charges) in
+    first (λ u. fromOn (s .clock) (added xs a u) (ratesInLimitAt s a u)) (suc (lastUntil xs - s .clock)) (s .clock))
+
 -- one fixed start for everybody
 abbrev pub fixedStart : Gives
 fixedStart = withSearch (λ s a. at 5)
@@ -48,19 +67,19 @@ queued = withSearch (λ s a. at (max (s .clock) (lastEnd (s .charges))))
 
 -- a preview that shows the last end, where commits go by the earliest start
 abbrev pub lastEndShown : Gives
-lastEndShown = withPreviews (λ s line p d. previewedAt s (at (max (s .clock) (lastEnd (s .charges)))))
+lastEndShown = withPreviews (λ s line p d rate. previewedAt s (at (max (s .clock) (lastEnd (s .charges)))))
 
 -- a preview answered as an enquiry is
 abbrev pub shownAsWaiting : Gives
-shownAsWaiting = withPreviews (λ s line p d. saying (waiting (s .clock)) (previewing s line p d))
+shownAsWaiting = withPreviews (λ s line p d rate. saying (waiting (s .clock) rate) (previewing s line p d rate))
 
 -- a preview that takes a ticket
 abbrev pub previewTakesTicket : Gives
-previewTakesTicket = withPreviews (λ s line p d. leaving (ticketing (suc (s .next)) s) (previewing s line p d))
+previewTakesTicket = withPreviews (λ s line p d rate. leaving (ticketing (suc (s .next)) s) (previewing s line p d rate))
 
 -- a preview that writes a list
 abbrev pub previewWrites : Gives
-previewWrites = withPreviews (λ s line p d. writing (0 ∷ []) (previewing s line p d))
+previewWrites = withPreviews (λ s line p d rate. writing (0 ∷ []) (previewing s line p d rate))
 
 -- Commits
 
@@ -73,7 +92,7 @@ anySoundStart =
 
 -- a commit that gives the earliest start whatever was shown
 abbrev pub shownIgnored : Gives
-shownIgnored = withUntested (λ s line p d shown. orderedAt s line p d (startFor s (drawFor s line p)))
+shownIgnored = withUntested (λ s line p d rate shown. orderedAt s line p d rate (startFor s (drawFor s line p rate)))
 
 -- a commit that still takes the start shown at clock 0
 abbrev pub shownBeforeTaken : Gives
@@ -85,22 +104,22 @@ shownBeforeTaken =
 abbrev pub otherTicket : Gives
 otherTicket =
     withCommits
-    (λ s line p d shown.
-    saying (committing (ticketing (suc (s .next)) s) line p d shown .answer) (committing s line p d shown))
+    (λ s line p d rate shown.
+    saying (committing (ticketing (suc (s .next)) s) line p d rate shown .answer) (committing s line p d rate shown))
 
 -- every second ticket
 abbrev pub ticketSkipped : Gives
 ticketSkipped =
     withCommits
-    (λ s line p d shown.
-    let r : Result = committing s line p d shown in
+    (λ s line p d rate shown.
+    let r : Result = committing s line p d rate shown in
     leaving (ticketing (suc (r .state .next)) (r .state)) r)
 
 -- a commit that puts off the charges held
 abbrev pub othersPutOff : Gives
 othersPutOff =
     withCommits
-    (λ s line p d shown.
-    let r : Result = committing s line p d shown in
+    (λ s line p d rate shown.
+    let r : Result = committing s line p d rate shown in
     let new : List Charge = drop (length (s .charges)) (r .state .charges) in
     leaving (holding (r .state) (s .clock) (map putOff (s .charges) ++ new)) r)

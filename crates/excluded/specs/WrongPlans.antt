@@ -8,7 +8,7 @@ use Rattle.rules.specs.Charge.{isBegun}
 use Rattle.rules.specs.Judgement.{restarted, causes, judged}
 use Rattle.rules.specs.Calls.{kept, decided, offering, replanningLatest, State, limitsOf, holding, Result}
 use Rattle.guarantee.specs.Past.{Gives}
-use Rattle.excluded.specs.Parts.{withOffers, withReplansLatest, withReplansLines, leaving, writing, ticketing, putOff, chargesBy}
+use Rattle.excluded.specs.Parts.{withOffers, withReplansLatest, withReplansLines, leaving, writing, ticketing, putOff, onLine, atRate, chargesBy}
 
 -- Offers
 
@@ -48,19 +48,11 @@ begunPutOff = leftBy (λ s. chargesBy (λ c. cond (isBegun (s .clock) c) (putOff
 
 -- a taken plan brings all charges to line 2
 abbrev pub lineChanged : Gives
-lineChanged =
-    leftBy
-    (chargesBy
-    (λ c.
-    record {
-      ticket = c .ticket;
-      line = 2;
-      orderMinute = c .orderMinute;
-      time = c .time;
-      due = c .due;
-      start = c .start;
-    }))
-    (λ s. s)
+lineChanged = leftBy (chargesBy (onLine 2)) (λ s. s)
+
+-- a taken plan leaves every charge at rate 1
+abbrev pub rateLost : Gives
+rateLost = leftBy (chargesBy (atRate 1)) (λ s. s)
 
 -- a taken plan uses up a ticket
 abbrev pub takenForTicket : Gives

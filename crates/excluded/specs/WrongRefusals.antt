@@ -3,7 +3,7 @@ use Prim.Native.Nat.{ℕ, suc, _+_, _*_, _/_}
 use mathlib.Core.Bool.{Bool, cond, _||_}
 use mathlib.Core.List.{List, [], _∷_, _++_, map, reverse}
 use lib.Dec.{ltb, eqb}
-use Rattle.rules.specs.Basics.{firstOf, keep}
+use Rattle.rules.specs.Basics.{firstOf, keep, sortedBy}
 use Rattle.rules.specs.Calls.{Settings, settings, State, refused, opened, waiting, Result, answering, fresh, openRefusals, opening, refusals, previewing, committing, moving, step}
 use Rattle.guarantee.specs.Past.{Gives, isRefused}
 use Rattle.excluded.specs.Parts.{withRefusals, withPreviews, withCommits, withMoves, unnumbered, saying, leaving, writing, ticketing, bounding}
@@ -15,6 +15,14 @@ lineAccepted = withRefusals (λ s c. unnumbered 4 (refusals s c))
 -- where several apply, the last in the table
 abbrev pub lastRow : Gives
 lastRow = withRefusals (λ s c. reverse (refusals s c))
+
+-- where several apply, the lowest number, in whatever place it stands: 6 before 17
+abbrev pub lowestNumber : Gives
+lowestNumber = withRefusals (λ s c. sortedBy (λ a b. ltb (a .1) (b .1)) (refusals s c))
+
+-- a rate is compared with N alone
+abbrev pub rateAboveBound : Gives
+rateAboveBound = withRefusals (λ s c. refusals (bounding (s .limit) s) c)
 
 -- the start shown is looked at before all else
 abbrev pub shownFirst : Gives
@@ -32,8 +40,8 @@ alwaysFull = withRefusals (λ s c. map (λ row. (eqb (row .1) 13 || row .0, row 
 abbrev pub hurryRefused : Gives
 hurryRefused =
     withPreviews
-    (λ s line p d.
-    cond (ltb d (s .clock + p)) (record { answer = refused 7; state = s; list = [] }) (previewing s line p d))
+    (λ s line p d rate.
+    cond (ltb d (s .clock + p)) (record { answer = refused 7; state = s; list = [] }) (previewing s line p d rate))
 
 -- a refusal that no condition names: a move to the clock itself
 abbrev pub standstillRefused : Gives
@@ -56,7 +64,7 @@ listCleared s c =
 
 -- a commit answered as an enquiry is, without a ticket
 abbrev pub ticketNotSaid : Gives
-ticketNotSaid = withCommits (λ s line p d shown. saying (waiting shown) (committing s line p d shown))
+ticketNotSaid = withCommits (λ s line p d rate shown. saying (waiting shown rate) (committing s line p d rate shown))
 
 -- Openings
 

@@ -13,7 +13,7 @@ use Rattle.rules.specs.Judgement.{judged}
 use Rattle.rules.specs.Calls.{Settings, settings, State, limitsOf, Answer, refused, opened, planned, Result, answering, boundOf, fresh, openRefusals, opening, Call, preview, commit, move, offer, replanLatest, replanLines, enquire, lent, refusals, previewing, committing, moving, decided, tested, offering, replanningLatest, replanningLines, told, enquiring, granted, step}
 use Rattle.rules.specs.Valid.{ValidState}
 use Rattle.rules.proofs.Tables.{Numbered, firstOf-none, none-firstOf}
-use Rattle.rules.proofs.Granted.{refusals-numbered, openRefusals-numbered, enquire-granted}
+use Rattle.rules.proofs.Granted.{refusals-numbered, openRefusals-numbered, order-granted, enquire-granted}
 use Rattle.rules.proofs.Validity.{opening-valid, step-valid, order-found}
 use Rattle.guarantee.specs.Past.{isRefused, Past, beginning, extended, after}
 use Rattle.guarantee.specs.Demands.{reached}
@@ -62,14 +62,14 @@ refused-by rows kept list r numbered plain = go (firstOf rows) refl
 -- The answers of a call that is not refused
 
 answer-not-refused : (c : Call) (a : Answer) → AnswerTo c a → isRefused a ≡ false
-answer-not-refused (preview line p d) a (s, e) = rw e
-answer-not-refused (commit line p d shown) a (t, e) = rw e
+answer-not-refused (preview line p d rate) a (s, e) = rw e
+answer-not-refused (commit line p d rate shown) a (t, e) = rw e
 answer-not-refused (move target list) a (n, m, e) = rw e
 answer-not-refused (offer ss) a (i, b, c, n, e) = rw e
 answer-not-refused replanLatest a (i, b, c, n, e) = rw e
 answer-not-refused (replanLines allowance) a (i, b, c, n, e) = rw e
-answer-not-refused (enquire ticket) a (inl (s, e)) = rw e
-answer-not-refused (enquire ticket) a (inr (s, u, e)) = rw e
+answer-not-refused (enquire ticket) a (inl (s, w, e)) = rw e
+answer-not-refused (enquire ticket) a (inr (s, u, w, e)) = rw e
 
 -- a tested plan is answered with a cause
 abbrev Planned : Answer → Type 0
@@ -101,14 +101,15 @@ told-held k t (c ∷ cs) e = go (eqb (c .ticket) t) refl (isBegun k c) refl e (t
         → a || some (λ c. eqb (c .ticket) t) cs ≡ true
         → (some (λ c. eqb (c .ticket) t) cs ≡ true → AnswerTo (enquire t) (told k cs t))
         → AnswerTo (enquire t) (told k (c ∷ cs) t)
-    go true p true q u later = inr (c .start, endOf c, rw (p, q))
-    go true p false q u later = inl (c .start, rw (p, q))
+    go true p true q u later = inr (c .start, endOf c, c .rate, rw (p, q))
+    go true p false q u later = inl (c .start, c .rate, rw (p, q))
     go false p b q u later = rw p (later u)
 
 granted-answer : (s : State) (c : Call) → ValidState s → NoneApplies (refusals s c) → AnswerTo c (granted s c .answer)
 unfolding previewing committing moving offering replanningLatest replanningLines enquiring
-granted-answer s (preview line p d) v q = let f = order-found s line p v in (f .0, rw (f .1))
-granted-answer s (commit line p d shown) v q = (s .next, refl)
+granted-answer s (preview line p d rate) v q =
+    let f = order-found s line p d rate v (order-granted s line p d rate q) in (f .0, rw (f .1))
+granted-answer s (commit line p d rate shown) v q = (s .next, refl)
 granted-answer s (move target list) v q = (_, _, refl)
 granted-answer s (offer ss) v q = tested-planned s 0 (starts ss) ss
 granted-answer s replanLatest v q = tested-planned s 0 (latest (limitsOf s) (s .clock) (s .charges)) []

@@ -58,7 +58,7 @@ module _ (s : State) (valid : ValidState s) (ss : List ℕ) where
             (restarted-each (λ c. (c .orderMinute ≤ s .clock) × (c .orderMinute ≤ c .start))
             (λ c u h p. (p .0, omega (arith, p .0)))
             (restarted-is (s .clock) (s .charges) ss (m .none-early))
-            (each-map (ValidCharge (s .clock) (s .next)) (λ c. (c .orderMinute ≤ s .clock) × (c .orderMinute ≤ c .start))
+            (each-map (ValidCharge (limitsOf s) (s .clock) (s .next)) (λ c. (c .orderMinute ≤ s .clock) × (c .orderMinute ≤ c .start))
             (λ c v. (v .ordered, v .not-early))
             (s .charges)
             (valid .each)));
@@ -210,8 +210,8 @@ valid-demand-two : (s : State) → ValidState s → DemandTwo step s
 unfolding offering replanningLatest replanningLines
 valid-demand-two s v =
     record {
-      previews = λ line p d. preview-start s line p d v;
-      commits = λ line p d shown q. commit-start s line p d shown v q;
+      previews = λ line p d rate. preview-start s line p d rate v;
+      commits = λ line p d rate shown q. commit-start s line p d rate shown v q;
       offers =
           λ ss.
           call-tested s (offer ss) (starts ss) 0

@@ -17,7 +17,7 @@ use Rattle.guarantee.specs.Past.{Order}
 
 -- the order that a charge stands for
 abbrev pub orderOf : Charge → Order
-orderOf c = record { ticket = c .ticket; line = c .line; minute = c .orderMinute; time = c .time }
+orderOf c = record { ticket = c .ticket; line = c .line; minute = c .orderMinute; time = c .time; rate = c .rate }
 
 abbrev pub ordersOf : List Charge → List Order
 ordersOf cs = map orderOf cs

@@ -11,11 +11,12 @@ use Rattle.rules.specs.Basics.{at, firstOf}
 use Rattle.rules.specs.Load.{Load, Draw, sound}
 use Rattle.rules.specs.Charge.{loadsOf}
 use Rattle.rules.specs.Search.{added}
-use Rattle.rules.specs.Calls.{State, limitsOf, refused, committed, answering, preview, commit, drawFor, startFor, refusals, previewedAt, previewing, committing, step}
+use Rattle.rules.specs.Calls.{State, limitsOf, refused, committed, answering, preview, commit, drawFor, startFor, refusals, previewing, committing, step}
 use Rattle.rules.specs.Valid.{ValidState}
 use Rattle.rules.proofs.Ranges.{below-or-not}
 use Rattle.rules.proofs.Counts.{sound-from, sound-true}
 use Rattle.rules.proofs.Tables.{none-firstOf}
+use Rattle.rules.proofs.Granted.{refusals-none, order-granted}
 use Rattle.rules.proofs.Searches.{earliest-first}
 use Rattle.rules.proofs.Validity.{order-found}
 use Rattle.rules.proofs.Shown.{commit-other, commit-taken}
@@ -63,22 +64,27 @@ module _ (s : State) (a : Draw) where
   earliest-same : (t u : ℕ) → EarliestStart s a t → EarliestStart s a u → t ≡ u
   earliest-same t u e f = omega (arith, e .earliest u (f .not-early) (f .sound), f .earliest t (e .not-early) (e .sound))
 
-pub preview-start : (s : State) (line p d : ℕ) → ValidState s → PreviewStart s line p d (step s (preview line p d))
+pub preview-start :
+    (s : State) (line p d rate : ℕ) → ValidState s → PreviewStart s line p d rate (step s (preview line p d rate))
 unfolding previewing
-preview-start s line p d v =
-    let f = order-found s line p v in
-    rw (f .1) (go (f .0) (found-earliest s (drawFor s line p) (f .0) (f .1)) (firstOf (refusals s (preview line p d))) refl)
+preview-start s line p d rate v = go (firstOf (refusals s (preview line p d rate))) refl
   where
     go :
-        (start : ℕ)
-        → EarliestStart s (drawFor s line p) start
-        → (i : ℕ)
-        → firstOf (refusals s (preview line p d)) ≡ i
-        → PreviewStart s line p d (answering i s [] (previewedAt s (at start)))
-    go start e zero q = record { answer = λ free. (start, refl, e); same-station = refl; same-list = refl }
-    go start e (suc i) q =
+        (i : ℕ)
+        → firstOf (refusals s (preview line p d rate)) ≡ i
+        → PreviewStart s line p d rate (answering i s [] (previewing s line p d rate))
+    go zero q =
+        let g = order-granted s line p d rate (refusals-none s (preview line p d rate) q) in
+        let f = order-found s line p d rate v g in
+        rw (f .1)
+        (record {
+          answer = λ free. (f .0, refl, found-earliest s (drawFor s line p rate) (f .0) (f .1));
+          same-station = refl;
+          same-list = refl;
+        })
+    go (suc i) q =
         record {
-          answer = λ free. absurd (apart q (none-firstOf (refusals s (preview line p d)) free));
+          answer = λ free. absurd (apart q (none-firstOf (refusals s (preview line p d rate)) free));
           same-station = refl;
           same-list = refl;
         }
@@ -87,29 +93,29 @@ preview-start s line p d v =
         apart x y = omega arith
 
 pub commit-start :
-    (s : State) (line p d shown : ℕ)
+    (s : State) (line p d rate shown : ℕ)
     → ValidState s
-    → NoneApplies (refusals s (preview line p d))
-    → CommitStart s line p d shown (step s (commit line p d shown))
+    → NoneApplies (refusals s (preview line p d rate))
+    → CommitStart s line p d rate shown (step s (commit line p d rate shown))
 unfolding committing
-commit-start s line p d shown v q =
-    let f = order-found s line p v in
-    go (f .0) (f .1) (found-earliest s (drawFor s line p) (f .0) (f .1)) (eqb (f .0) shown) refl
+commit-start s line p d rate shown v q =
+    let f = order-found s line p d rate v (order-granted s line p d rate q) in
+    go (f .0) (f .1) (found-earliest s (drawFor s line p rate) (f .0) (f .1)) (eqb (f .0) shown) refl
   where
     go :
         (start : ℕ)
-        → startFor s (drawFor s line p) ≡ at start
-        → EarliestStart s (drawFor s line p) start
+        → startFor s (drawFor s line p rate) ≡ at start
+        → EarliestStart s (drawFor s line p rate) start
         → (b : Bool)
         → eqb start shown ≡ b
-        → CommitStart s line p d shown (step s (commit line p d shown))
+        → CommitStart s line p d rate shown (step s (commit line p d rate shown))
     go start f e true h =
         let same : start ≡ shown = eqb-true start shown h in
-        let now : EarliestStart s (drawFor s line p) shown = subst (EarliestStart s (drawFor s line p)) same e in
-        rw (commit-taken s line p d q shown (f ∙ ap at same))
+        let now : EarliestStart s (drawFor s line p rate) shown = subst (EarliestStart s (drawFor s line p rate)) same e in
+        rw (commit-taken s line p d rate q shown (f ∙ ap at same))
         (record { answer = ((λ x. now), (λ w. refl)); refusal = λ n. absurd (n now); others-same = λ w. refl })
     go start f e false h =
-        rw (commit-other s line p d q start shown f (eqb-false start shown h))
+        rw (commit-other s line p d rate q start shown f (eqb-false start shown h))
         (record {
           answer = ((λ x. absurd (apart x)), (λ w. absurd (other w)));
           refusal = λ n. refl;
@@ -119,5 +125,5 @@ commit-start s line p d shown v q =
         apart : refused 16 ≡ committed (s .next) shown → ⊥
         apart x = let z : _≡_ {A = ℕ} 0 1 = cc in omega arith
 
-        other : EarliestStart s (drawFor s line p) shown → ⊥
-        other w = eqb-false start shown h (earliest-same s (drawFor s line p) start shown e w)
+        other : EarliestStart s (drawFor s line p rate) shown → ⊥
+        other w = eqb-false start shown h (earliest-same s (drawFor s line p rate) start shown e w)

@@ -88,8 +88,8 @@ pub record Next (s : State) (k : ℕ) (os : List Order) (hs : List Charge) (rs :
 
 -- a refusal lets one learn nothing
 refused-learnt : (k j : ℕ) (c : Call) (list : List ℕ) → learnt k c (refused j) list ≡ nothingNew k
-refused-learnt k j (preview line p d) list = refl
-refused-learnt k j (commit line p d shown) list = refl
+refused-learnt k j (preview line p d rate) list = refl
+refused-learnt k j (commit line p d rate shown) list = refl
 refused-learnt k j (move target l) list = refl
 refused-learnt k j (offer ss) list = refl
 refused-learnt k j replanLatest list = refl
@@ -144,21 +144,21 @@ module _
     tested-next c rounds (none cause) list e = stays c _ (e _) refl
 
     preview-next :
-        (line p d : ℕ) (f : Found) → Next s k os hs rs (preview line p d) (previewedAt (stationOf s k os hs) f)
-    preview-next line p d (at start) = stays (preview line p d) _ refl refl
-    preview-next line p d nothing = stays (preview line p d) _ refl refl
+        (line p d rate : ℕ) (f : Found) → Next s k os hs rs (preview line p d rate) (previewedAt (stationOf s k os hs) f)
+    preview-next line p d rate (at start) = stays (preview line p d rate) _ refl refl
+    preview-next line p d rate nothing = stays (preview line p d rate) _ refl refl
 
     commit-next :
-        (line p d start : ℕ)
+        (line p d rate start : ℕ)
         → 1 ≤ p
-        → startFor (stationOf s k os hs) (drawFor s line p) ≡ at start
-        → Next s k os hs rs (commit line p d start) (committing (stationOf s k os hs) line p d start)
+        → startFor (stationOf s k os hs) (drawFor s line p rate) ≡ at start
+        → Next s k os hs rs (commit line p d rate start) (committing (stationOf s k os hs) line p d rate start)
     unfolding committing
-    commit-next line p d start lasts e =
-        let new : Charge = newCharge (stationOf s k os hs) line p d start in
-        let r : IsFirst (λ u. sound (limitsOf s) k (added (loadsOf (unfinishedCharges k hs)) (drawFor s line p) u))
+    commit-next line p d rate start lasts e =
+        let new : Charge = newCharge (stationOf s k os hs) line p d rate start in
+        let r : IsFirst (λ u. sound (limitsOf s) k (added (loadsOf (unfinishedCharges k hs)) (drawFor s line p rate) u))
         (suc (lastUntil (loadsOf (unfinishedCharges k hs)) - k)) k start
-        = earliest-first (limitsOf s) k (loadsOf (unfinishedCharges k hs)) (drawFor s line p) start e in
+        = earliest-first (limitsOf s) k (loadsOf (unfinishedCharges k hs)) (drawFor s line p rate) start e in
         record {
           now = hs ++ (new ∷ []);
           later = omega arith;
@@ -181,11 +181,11 @@ module _
         → NoneHolds (refusals (stationOf s k os hs) c)
         → Next s k os hs rs c (granted (stationOf s k os hs) c)
     unfolding previewing moving offering replanningLatest replanningLines enquiring
-    granted-next (preview line p d) q =
-        preview-next line p d (startFor (stationOf s k os hs) (drawFor (stationOf s k os hs) line p))
-    granted-next (commit line p d shown) q =
-        let g = commit-granted (stationOf s k os hs) line p d shown q in
-        commit-next line p d shown (order-granted (stationOf s k os hs) line p d (g .0) .time-low) (g .1)
+    granted-next (preview line p d rate) q =
+        preview-next line p d rate (startFor (stationOf s k os hs) (drawFor (stationOf s k os hs) line p rate))
+    granted-next (commit line p d rate shown) q =
+        let g = commit-granted (stationOf s k os hs) line p d rate shown q in
+        commit-next line p d rate shown (order-granted (stationOf s k os hs) line p d rate (g .0) .time-low) (g .1)
     granted-next (move target list) q =
         let h : k ≤ target = move-granted (stationOf s k os hs) target list q .not-back in
         record {

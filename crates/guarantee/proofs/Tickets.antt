@@ -175,8 +175,8 @@ told-none k t i (c ∷ cs) r h =
 
 -- what the held charges tell of a charge of the history
 pub record Told (k : ℕ) (held : List Charge) (c : Charge) : Type 0 where
-  pub waits : k ≤ c .start → told k held (c .ticket) ≡ waiting (c .start)
-  pub charges : c .start < k → k < endOf c → told k held (c .ticket) ≡ charging (c .start) (endOf c)
+  pub waits : k ≤ c .start → told k held (c .ticket) ≡ waiting (c .start) (c .rate)
+  pub charges : c .start < k → k < endOf c → told k held (c .ticket) ≡ charging (c .start) (endOf c) (c .rate)
   pub finished : endOf c ≤ k → told k held (c .ticket) ≡ refused 15
 
 pub told-each :

@@ -27,15 +27,15 @@ pub record RefusedBy (rows : List (Bool × ℕ)) (kept : State) (list : List ℕ
 
 -- the answers of a call that is not refused
 abbrev pub AnswerTo : Call → Answer → Type 0
-AnswerTo (preview line p d) a = (s : ℕ) × (a ≡ previewed s)
-AnswerTo (commit line p d shown) a = (t : ℕ) × (a ≡ committed t shown)
+AnswerTo (preview line p d rate) a = (s : ℕ) × (a ≡ previewed s)
+AnswerTo (commit line p d rate shown) a = (t : ℕ) × (a ≡ committed t shown)
 AnswerTo (move target list) a = (n : ℕ) × (m : ℕ) × (a ≡ moved n m)
 AnswerTo (offer ss) a = (i : ℕ) × (b : ℕ) × (c : ℕ) × (n : ℕ) × (a ≡ planned i b c n)
 AnswerTo replanLatest a = (i : ℕ) × (b : ℕ) × (c : ℕ) × (n : ℕ) × (a ≡ planned i b c n)
 AnswerTo (replanLines allowance) a = (i : ℕ) × (b : ℕ) × (c : ℕ) × (n : ℕ) × (a ≡ planned i b c n)
-AnswerTo (enquire ticket) a = ((s : ℕ) × (a ≡ waiting s)) ⊎ ((s : ℕ) × (e : ℕ) × (a ≡ charging s e))
+AnswerTo (enquire ticket) a = ((s : ℕ) × (r : ℕ) × (a ≡ waiting s r)) ⊎ ((s : ℕ) × (e : ℕ) × (r : ℕ) × (a ≡ charging s e r))
 
--- a call to a station that stands: refusals 4 to 16; `gives` is what a call to a station gives
+-- a call to a station that stands: refusals 4 to 18; `gives` is what a call to a station gives
 pub record DemandOne (gives : Gives) (s : State) (call : Call) : Type 0 where
   pub refused-by : RefusedBy (refusals s call) s (lent call) (gives s call)
   -- "No other call is refused, and every call returns."

@@ -19,11 +19,11 @@ pub record Kept (gives : Gives) (h : Past) (o : Order) : Type 0 where
   pub reported : startOf gives h o < h .clock → timesReported (h .reports) (o .ticket) ≡ 1
   -- "Any other order has never been reported,"
   pub not-reported : h .clock ≤ startOf gives h o → timesReported (h .reports) (o .ticket) ≡ 0
-  -- "and an enquiry finds it waiting."
-  pub waits : h .clock ≤ startOf gives h o → enquiry gives h (o .ticket) ≡ waiting (startOf gives h o)
+  -- "and an enquiry finds it waiting", with its rate.
+  pub waits : h .clock ≤ startOf gives h o → enquiry gives h (o .ticket) ≡ waiting (startOf gives h o) (o .rate)
   -- "An enquiry finds a begun order charging until it is finished, with its reported start, and that start + p as the end;"
   pub charges :
-      startOf gives h o < h .clock → h .clock < endOf gives h o → enquiry gives h (o .ticket) ≡ charging (startOf gives h o) (endOf gives h o)
+      startOf gives h o < h .clock → h .clock < endOf gives h o → enquiry gives h (o .ticket) ≡ charging (startOf gives h o) (endOf gives h o) (o .rate)
   -- "for a finished one the answer is refusal 15."
   pub finished : endOf gives h o ≤ h .clock → enquiry gives h (o .ticket) ≡ refused 15
 
@@ -34,7 +34,7 @@ Unmoved gives here there o = startOf gives here o < here .clock → startOf give
 
 -- The whole claim, for a station, the list of calls made from it, and what a call gives.
 pub record DemandThree (gives : Gives) (s : State) (calls : List Call) : Type 0 where
-  -- "in every minute, gone or to come under the plan held, no line has more than its limit charging"
+  -- "in every minute, gone or to come under the plan held, no line has more than its limit charging", of the weighted counts
   pub limit : (l t : ℕ) → IsLine l → countIn gives (past gives s calls) l t ≤ s .limit
   -- "and no two lines differ by more than the bound"
   pub balance :

@@ -88,30 +88,30 @@ pub record EarliestStart (s : State) (a : Draw) (start : ℕ) : Type 0 where
   pub earliest : (u : ℕ) → s .clock ≤ u → SoundPlan s (added (loadsOf (s .charges)) a u) → start ≤ u
 
 -- "a preview that answers the start it would give and changes nothing", whether it is refused or not
-pub record PreviewStart (s : State) (line p d : ℕ) (r : Result) : Type 0 where
+pub record PreviewStart (s : State) (line p d rate : ℕ) (r : Result) : Type 0 where
   pub answer :
-      NoneApplies (refusals s (preview line p d))
-      → (start : ℕ) × (r .answer ≡ previewed start) × EarliestStart s (drawFor s line p) start
+      NoneApplies (refusals s (preview line p d rate))
+      → (start : ℕ) × (r .answer ≡ previewed start) × EarliestStart s (drawFor s line p rate) start
   pub same-station : r .state ≡ s
-  pub same-list : r .list ≡ lent (preview line p d)
+  pub same-list : r .list ≡ lent (preview line p d rate)
 
 -- "An order gets the earliest start", of a commit whose order is not refused; `shown` is any start that was passed in
-pub record CommitStart (s : State) (line p d shown : ℕ) (r : Result) : Type 0 where
+pub record CommitStart (s : State) (line p d rate shown : ℕ) (r : Result) : Type 0 where
   -- "The commit gives a ticket and exactly that start", exactly when it is the earliest
-  pub answer : (r .answer ≡ committed (s .next) shown) ↔ EarliestStart s (drawFor s line p) shown
+  pub answer : (r .answer ≡ committed (s .next) shown) ↔ EarliestStart s (drawFor s line p rate) shown
   -- "commit whose shown start is not the earliest start at that moment"
-  pub refusal : (EarliestStart s (drawFor s line p) shown → ⊥) → r .answer ≡ refused 16
+  pub refusal : (EarliestStart s (drawFor s line p rate) shown → ⊥) → r .answer ≡ refused 16
   -- `taking` puts the new charge behind the held ones, which stay as they are
-  pub others-same : EarliestStart s (drawFor s line p) shown → r .state ≡ taking s (newCharge s line p d shown)
+  pub others-same : EarliestStart s (drawFor s line p rate) shown → r .state ≡ taking s (newCharge s line p d rate shown)
 
 -- `gives` is what a call to a station gives
 pub record DemandTwo (gives : Gives) (s : State) : Type 0 where
-  pub previews : (line p d : ℕ) → PreviewStart s line p d (gives s (preview line p d))
+  pub previews : (line p d rate : ℕ) → PreviewStart s line p d rate (gives s (preview line p d rate))
   -- "Both meet the order's refusals": a commit comes to the start shown where a preview would show one
   pub commits :
-      (line p d shown : ℕ)
-      → NoneApplies (refusals s (preview line p d))
-      → CommitStart s line p d shown (gives s (commit line p d shown))
+      (line p d rate shown : ℕ)
+      → NoneApplies (refusals s (preview line p d rate))
+      → CommitStart s line p d rate shown (gives s (commit line p d rate shown))
   pub offers : (ss : List ℕ) → Tested s (offer ss) (starts ss) 0 (gives s (offer ss))
   -- "replans follow the paper as document 01 fixes it": `latest` and `byLines` are its definitions;
   -- "rounds used (0 but by lines)"

@@ -20,25 +20,25 @@ use Rattle.guarantee.specs.Past.{Order, Past, past, timesReported, enqui
 abbrev example : Past
 example =
     past step (opening (settings 1 100) .state)
-    (commit 1 10 60 0
-    ∷ commit 1 10 15 10
+    (commit 1 10 60 1 0
+    ∷ commit 1 10 15 1 10
     ∷ replanLatest
     ∷ move 1 (replicate 360 7)
-    ∷ commit 9 9 9 1
-    ∷ commit 2 4 0 1
-    ∷ preview 3 12 99
-    ∷ commit 3 12 99 2
-    ∷ commit 3 12 99 1
+    ∷ commit 9 9 9 1 1
+    ∷ commit 2 4 0 1 1
+    ∷ preview 3 12 99 1
+    ∷ commit 3 12 99 1 2
+    ∷ commit 3 12 99 1 1
     ∷ move 0 []
     ∷ move 10 (replicate 360 7)
     ∷ enquire 1
     ∷ offer (9 ∷ [])
     ∷ [])
 
--- ticket, line, order minute and time of each order
+-- ticket, line, order minute, time and rate of each order
 abbrev listed : List Order → List ℕ
 listed [] = []
-listed (o ∷ os) = o .ticket ∷ o .line ∷ o .minute ∷ o .time ∷ listed os
+listed (o ∷ os) = o .ticket ∷ o .line ∷ o .minute ∷ o .time ∷ o .rate ∷ listed os
 
 -- whether two lists are the same: such a test is computed at once, where comparing the lists is not
 abbrev same : List ℕ → List ℕ → Bool
@@ -49,7 +49,7 @@ same (x ∷ xs) (y ∷ ys) = eqb x y && same xs ys
 
 example-known :
     (example .clock ≡ 10)
-    × (same (listed (example .orders)) (1 ∷ 1 ∷ 0 ∷ 10 ∷ 2 ∷ 1 ∷ 0 ∷ 10 ∷ 3 ∷ 2 ∷ 1 ∷ 4 ∷ 4 ∷ 3 ∷ 1 ∷ 12 ∷ []) ≡ true)
+    × (same (listed (example .orders)) (1 ∷ 1 ∷ 0 ∷ 10 ∷ 1 ∷ 2 ∷ 1 ∷ 0 ∷ 10 ∷ 1 ∷ 3 ∷ 2 ∷ 1 ∷ 4 ∷ 1 ∷ 4 ∷ 3 ∷ 1 ∷ 12 ∷ 1 ∷ []) ≡ true)
     × (example .reports
     ≡ record { ticket = 2; start = 0 } ∷ record { ticket = 3; start = 1 } ∷ record { ticket = 4; start = 1 } ∷ [])
 unfolding limited balanced sound earliest placeAll latest judged opening previewing committing moving offering replanningLatest enquiring
@@ -57,7 +57,7 @@ example-known = (refl, refl, refl)
 
 example-starts :
     (map (startOf step example) (example .orders) ≡ 10 ∷ 0 ∷ 1 ∷ 1 ∷ [])
-    × (map (enquiry step example) (1 ∷ 2 ∷ 3 ∷ 4 ∷ 5 ∷ []) ≡ waiting 10 ∷ refused 15 ∷ refused 15 ∷ charging 1 13 ∷ refused 15 ∷ [])
+    × (map (enquiry step example) (1 ∷ 2 ∷ 3 ∷ 4 ∷ 5 ∷ []) ≡ waiting 10 1 ∷ refused 15 ∷ refused 15 ∷ charging 1 13 1 ∷ refused 15 ∷ [])
     × (map (timesReported (example .reports)) (1 ∷ 2 ∷ 3 ∷ 4 ∷ 5 ∷ []) ≡ 0 ∷ 1 ∷ 1 ∷ 1 ∷ 0 ∷ [])
 unfolding limited balanced sound earliest placeAll latest judged opening previewing committing moving offering replanningLatest enquiring
 example-starts = (refl, refl, refl)
@@ -70,3 +70,18 @@ example-counts :
     × (totalTime (example .orders) ≡ 36)
 unfolding limited balanced sound earliest placeAll latest judged opening previewing committing moving offering replanningLatest enquiring
 example-counts = (refl, refl, refl, refl, refl)
+
+-- N = D = 2: a charge of rate 2 on line 1 from 0 to 10, one of rate 1 behind it, and one of rate 2 on line 2. At clock 10 the
+-- first and the last are dropped, and still counted.
+abbrev rated : Past
+rated =
+    past step (opening (settings 2 100) .state)
+    (commit 1 10 60 2 0 ∷ commit 1 10 60 1 10 ∷ commit 2 5 60 2 0 ∷ move 10 (replicate 360 7) ∷ [])
+
+rated-counts :
+    (same (listed (rated .orders)) (1 ∷ 1 ∷ 0 ∷ 10 ∷ 2 ∷ 2 ∷ 1 ∷ 0 ∷ 10 ∷ 1 ∷ 3 ∷ 2 ∷ 0 ∷ 5 ∷ 2 ∷ []) ≡ true)
+    × (map (enquiry step rated) (1 ∷ 2 ∷ 3 ∷ []) ≡ refused 15 ∷ waiting 10 1 ∷ refused 15 ∷ [])
+    × (map (countIn step rated 1) (0 ∷ 9 ∷ 10 ∷ 19 ∷ 20 ∷ []) ≡ 2 ∷ 2 ∷ 1 ∷ 1 ∷ 0 ∷ [])
+    × (map (countIn step rated 2) (0 ∷ 4 ∷ 5 ∷ []) ≡ 2 ∷ 2 ∷ 0 ∷ [])
+unfolding limited balanced sound earliest opening committing moving enquiring
+rated-counts = (refl, refl, refl, refl)

@@ -9,12 +9,13 @@ use Rattle.rules.specs.Load.{draw, Load, loadFrom, count}
 use Rattle.rules.specs.Calls.{State, Answer, refused, opened, previewed, committed, moved, planned, waiting, charging, Result, Call, preview, commit, move, offer, replanLatest, replanLines, enquire}
 
 -- An accepted order: its ticket is that of the answer. "Its order minute is the clock at that moment; its line and p are
--- those passed in."
+-- those passed in", and so is its rate.
 pub record Order : Type 0 where
   pub ticket : ℕ
   pub line : ℕ
   pub minute : ℕ
   pub time : ℕ
+  pub rate : ℕ
 
 -- one pair of a report list: "ticket, start"
 pub record Report : Type 0 where
@@ -42,8 +43,8 @@ said (previewed s) = says false [] 0 0
 said (committed t s) = says false (t ∷ []) 0 0
 said (moved n m) = says false [] n 0
 said (planned c b a n) = says false [] 0 0
-said (waiting s) = says false [] 0 s
-said (charging s e) = says false [] 0 s
+said (waiting s rate) = says false [] 0 s
+said (charging s e rate) = says false [] 0 s
 
 abbrev pub isRefused : Answer → Bool
 isRefused a = said a .refuses
@@ -78,11 +79,11 @@ nothingNew clock = record { clock = clock; orders = []; reports = [] }
 -- "The clock is the target of the last move not refused." "An order is accepted when it is answered with a ticket":
 -- "an order is accepted at its commit". A call with its answer and its list afterwards, made at some clock.
 abbrev pub learnt : ℕ → Call → Answer → List ℕ → Learnt
-learnt clock (preview line p d) a list = nothingNew clock
-learnt clock (commit line p d shown) a list =
+learnt clock (preview line p d rate) a list = nothingNew clock
+learnt clock (commit line p d rate shown) a list =
     record {
       clock = clock;
-      orders = map (λ t. record { ticket = t; line = line; minute = clock; time = p }) (ticketIn a);
+      orders = map (λ t. record { ticket = t; line = line; minute = clock; time = p; rate = rate }) (ticketIn a);
       reports = [];
     }
 learnt clock (move target lent) a list =
@@ -154,9 +155,10 @@ endOf gives h o = startOf gives h o + o .time
 
 -- "each active from its start as above", unbroken for its full time
 abbrev pub loadOf : Gives → Past → Order → Load
-loadOf gives h o = loadFrom (draw (o .line) (o .time)) (startOf gives h o)
+loadOf gives h o = loadFrom (draw (o .line) (o .time) (o .rate)) (startOf gives h o)
 
--- "A line's count in a minute takes all accepted orders of the list, dropped ones too."
+-- "A line's count in a minute takes all accepted orders of the list, dropped ones too", each with its rate: "What members were
+-- promised for every minute is from then on a promise about these weighted counts."
 abbrev pub countIn : Gives → Past → ℕ → ℕ → ℕ
 countIn gives h l t = count (map (loadOf gives h) (h .orders)) l t
 

@@ -4,18 +4,20 @@ use Prim.Native.Nat.{ℕ, zero, suc, _+_, _≤_, _<_}
 use mathlib.Core.Bool.{true, false}
 use mathlib.Core.List.{List, _++_}
 use native.Mathlib.Omega.{arith}
+use lib.Dec.{ltb}
 use lib.ListN.{take}
 use borrow.Author.Tests.{eq-eqb, ne-eqb, lt-ltb, le-ltb}
-use Rattle.rules.specs.Basics.{at, nothing}
+use Rattle.rules.specs.Basics.{at, nothing, Each}
 use Rattle.rules.specs.Load.{count, counts, Limits}
 use Rattle.rules.specs.Charge.{Charge, loadsOf}
 use Rattle.rules.specs.Search.{Caps, firstUnbalanced}
 use Rattle.rules.specs.Replan.{starts, none, largestLine, smallestLine, placedActive, ends, lowers, afterRound, round}
+use Rattle.rules.proofs.Lists.{each-right}
 use Rattle.rules.proofs.Counts.{count-append}
 use Rattle.charges.specs.declared.Charges.{Charges}
 use Rattle.charges.specs.Arrays.{chargesOf}
 use Rattle.profile.specs.declared.Profile.{Profile}
-use Rattle.profile.specs.Shows.{ofLines, levelOf, levels}
+use Rattle.profile.specs.Shows.{ofLines, levelOf, levels, mostDrawn, Rated}
 use Rattle.profile.proofs.Picks.{largest-same, smallest-same}
 use Rattle.planner.specs.declared.rounds.Outcome.the-variants.{Ends, Lowers}
 use Rattle.planner.specs.Starts.{waitingCount, WaitingStarts}
@@ -31,7 +33,7 @@ use Rattle.planner.proofs.Profiles.{smallest-is}
 
 module _ {p begun : Profile} {t bound : ℕ} (h : Comparable p begun t bound) {one two three : ℕ} (a : one ≡ levelOf p 1 t)
     (b : two ≡ levelOf p 2 t) (d : three ≡ levelOf p 3 t) where
-  pub low-small : {j z : ℕ} → j ≡ smallestLine (ofLines one two three) → z ≡ levelOf p j t → z ≤ 180
+  pub low-small : {j z : ℕ} → j ≡ smallestLine (ofLines one two three) → z ≡ levelOf p j t → z ≤ mostDrawn
   low-small {j} small ez = rw ez (h .small j (smallest-is one two three small))
 
   module _ {i x y : ℕ} (large : i ≡ largestLine (ofLines one two three)) (ex : x ≡ levelOf p i t) (ey : y ≡ levelOf begun i t) where
@@ -57,16 +59,21 @@ module _ {p begun : Profile} {t bound : ℕ} (h : Comparable p begun t bound) {o
 -- As the rules have it
 
 -- a placed charge of line i is active in t exactly where the begun charges alone count less
-module _ (begun placed : List Charge) (i t : ℕ) where
+module _ (begun placed : List Charge) (i t : ℕ) (rated : Each Rated (loadsOf (begun ++ placed))) where
   both : count (loadsOf (begun ++ placed)) i t ≡ count (loadsOf begun) i t + count (loadsOf placed) i t
   both = ap (λ l. count l i t) (loads-append begun placed) ∙ count-append (loadsOf begun) (loadsOf placed) i t
 
+  active-counted : placedActive placed i t ≡ ltb 0 (count (loadsOf placed) i t)
+  active-counted =
+      placed-active placed i t
+      (each-right Rated (loadsOf begun) (loadsOf placed) (rw (loads-append begun placed) at rated))
+
   pub none-active : count (loadsOf (begun ++ placed)) i t ≡ count (loadsOf begun) i t → placedActive placed i t ≡ false
-  none-active e = placed-active placed i t ∙ le-ltb 0 (count (loadsOf placed) i t) (omega (arith, both))
+  none-active e = active-counted ∙ le-ltb 0 (count (loadsOf placed) i t) (omega (arith, both))
 
   pub some-active :
       (count (loadsOf (begun ++ placed)) i t ≡ count (loadsOf begun) i t → ⊥) → placedActive placed i t ≡ true
-  some-active h = placed-active placed i t ∙ lt-ltb 0 (count (loadsOf placed) i t) (more (count (loadsOf placed) i t) refl)
+  some-active h = active-counted ∙ lt-ltb 0 (count (loadsOf placed) i t) (more (count (loadsOf placed) i t) refl)
     where
       more : (k : ℕ) → count (loadsOf placed) i t ≡ k → 0 < k
       more zero e = absurd (h (omega (arith, both)))
@@ -88,7 +95,7 @@ module _ (y : Limits) (cap : Caps) {clock : ℕ} {c : Charges} {p : Profile} {gi
         count (loadsOf (begunOf clock c ++ a .placed)) i t ≡ count (loadsOf (begunOf clock c)) i t
         → round y clock (chargesOf c) cap ≡ ends (none 1)
     unfolding round
-    round-ends same = rw (a .gives, e, afterRound, ← large, none-active (begunOf clock c) (a .placed) i t same)
+    round-ends same = rw (a .gives, e, afterRound, ← large, none-active (begunOf clock c) (a .placed) i t (a .plan .shows .rated) same)
 
     pub round-lowers :
         (j v : ℕ)
@@ -98,4 +105,4 @@ module _ (y : Limits) (cap : Caps) {clock : ℕ} {c : Charges} {p : Profile} {gi
         → round y clock (chargesOf c) cap ≡ lowers i t v
     unfolding round
     round-lowers j v more small low =
-        rw (a .gives, e, afterRound, ← large, some-active (begunOf clock c) (a .placed) i t more, ← small, low)
+        rw (a .gives, e, afterRound, ← large, some-active (begunOf clock c) (a .placed) i t (a .plan .shows .rated) more, ← small, low)

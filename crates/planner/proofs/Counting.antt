@@ -6,9 +6,9 @@ use native.Mathlib.Numerals.{add-one}
 use Rattle.rules.specs.Search.{Caps}
 use Rattle.rules.specs.Load.{limits}
 use Rattle.rules.specs.Replan.{Proposal, none, Outcome, ends, lowers, lowered, round, Replanned, roundsFrom, byLines}
-use Rattle.rules.proofs.Rounds.{lowered-at-least-one}
+use Rattle.rules.proofs.Rounds.{lowered-at-least}
 use Rattle.charges.specs.declared.Charges.{Charges}
-use Rattle.charges.specs.Arrays.{chargesOf, Filled}
+use Rattle.charges.specs.Arrays.{chargeAt, chargesOf, Filled}
 use Rattle.search.specs.declared.caps.LineCaps.{LineCaps}
 use Rattle.search.specs.Caps.{CapsShown, LoweredAt}
 use Rattle.planner.specs.declared.rounds.Outcome.the-variants.{Ends, Lowers}
@@ -46,7 +46,7 @@ module _ (play : Caps → Outcome) (made : ℕ) (cap : Caps) where
 pub record Rounds (limit bound clock allowance : ℕ) (c : Charges) (caps : LineCaps) (made : ℕ) : Type 0 where
   pub cap : Caps
   pub shown : CapsShown caps cap
-  pub some : (l t : ℕ) → 1 ≤ cap l t
+  pub enough : (i : ℕ) → i < c .held → (l t : ℕ) → chargeAt c i .rate ≤ cap l t
   pub whole :
       byLines (limits limit bound) clock allowance (chargesOf c)
       ≡ roundsFrom (round (limits limit bound) clock (chargesOf c)) (allowance - made) made cap
@@ -54,8 +54,8 @@ pub record Rounds (limit bound clock allowance : ℕ) (c : Charges) (caps : Line
 pub rounds-capped :
     {limit bound clock allowance : ℕ} {c : Charges} {caps : LineCaps} {made : ℕ}
     → Rounds limit bound clock allowance c caps made
-    → Capped caps
-rounds-capped v = record { cap = v .cap; shown = v .shown; some = v .some }
+    → Capped c caps
+rounds-capped v = record { cap = v .cap; shown = v .shown; enough = v .enough }
 
 pub rounds-start :
     {limit bound clock : ℕ} {c : Charges} {caps : LineCaps} (allowance : ℕ)
@@ -63,7 +63,7 @@ pub rounds-start :
     → CapsShown caps (λ l t. limit)
     → Rounds limit bound clock allowance c caps 1
 unfolding byLines
-rounds-start allowance r s = record { cap = _; shown = s; some = λ l t. r .some-limit; whole = refl }
+rounds-start allowance r s = record { cap = _; shown = s; enough = λ i h l t. r .within-limit i h; whole = refl }
 
 module _ {limit bound clock allowance : ℕ} {c : Charges} {caps : LineCaps} {made : ℕ} (v : Rounds limit bound clock allowance c caps made)
     {r : Round} (h : Plays limit bound clock c caps r) where
@@ -82,7 +82,7 @@ module _ {limit bound clock allowance : ℕ} {c : Charges} {caps : LineCaps} {ma
       }
 
   module _ {i t x : ℕ} (e : r .outcome ≡ Lowers i t x) where
-    pub lowers-fit : (t < 4294967295) × (1 ≤ x)
+    pub lowers-fit : (t < 4294967295) × (bound ≤ x)
     lowers-fit = rw e at (h .fits)
 
     pub rounds-spent :
@@ -103,13 +103,15 @@ module _ {limit bound clock allowance : ℕ} {c : Charges} {caps : LineCaps} {ma
         }
 
     pub rounds-next :
-        {next : LineCaps} → made < allowance → LoweredAt caps next i t x → Rounds limit bound clock allowance c next (made + 1)
-    rounds-next {next} l low =
+        {next : LineCaps} → Ready clock limit bound c → made < allowance → LoweredAt caps next i t x → Rounds limit bound clock allowance c next (made + 1)
+    rounds-next {next} ready l low =
         let more : allowance - made ≡ suc (allowance - (made + 1)) = omega arith in
         record {
           cap = lowered (v .cap) i t x;
           shown = low (v .cap) (v .shown);
-          some = lowered-at-least-one (v .cap) i t x (lowers-fit .1) (v .some);
+          enough =
+              λ j h.
+              lowered-at-least (chargeAt c j .rate) (v .cap) i t x (omega (arith, lowers-fit .1, ready .within-bound j h)) (v .enough j h);
           whole =
               v .whole
               ∙ rw (more, add-one made)

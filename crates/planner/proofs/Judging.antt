@@ -7,10 +7,12 @@ use native.Mathlib.Omega.{arith}
 use lib.Dec.{ltb}
 use borrow.Author.Tests.{lt-ltb, le-ltb}
 use Rattle.rules.specs.Basics.{some}
-use Rattle.rules.specs.Load.{limits, limitAt, fromOn}
+use Rattle.rules.specs.Load.{limits, IsRate, limitAt, fromOn}
 use Rattle.rules.specs.Charge.{endOf, begunCharges, loadsOf, lastEnd, lateness}
 use Rattle.rules.specs.Search.{firstUnbalanced}
 use Rattle.rules.specs.Judgement.{restarted, judged}
+use Rattle.rules.proofs.Lists.{each-tabulate, tabulate-each}
+use Rattle.rules.proofs.Restarts.{each-restarted}
 use Rattle.charges.specs.declared.Charges.{Charges}
 use Rattle.charges.specs.Arrays.{chargeAt, chargesOf, Holds}
 use Rattle.charges.specs.Held.{Listed}
@@ -19,7 +21,7 @@ use Rattle.profile.specs.declared.When.{When}
 use Rattle.profile.specs.declared.When.the-variants.{Minute, Never}
 use Rattle.profile.specs.Shows.{Shows, foundAt}
 use Rattle.profile.specs.Balance.{Unbalanced, WithinLimit}
-use Rattle.planner.specs.Ready.{EndsFit}
+use Rattle.planner.specs.Ready.{EndsFit, Rated}
 use Rattle.planner.specs.Judged.{orLate, CauseOf, HeldAfter, Judges}
 use Rattle.planner.proofs.Showing.{last-end-most, all-before}
 use Rattle.planner.proofs.Causes.{end-below-last, none-unbalanced, some-unbalanced, judged-by}
@@ -40,6 +42,16 @@ module _ (next : Charges) {c : Charges} {x y : ℕ} (listed : Listed c) (ex : x 
       → Shows p clock (loadsOf (begunCharges 4294967295 (chargesOf next)))
       → Shows p clock (loadsOf (chargesOf next))
   shows-next s = rw (all-before next 4294967295 (λ i low. omega (arith, end-most i low))) at s
+
+-- The new plan has the rates of the held one
+
+pub next-rated : {c next : Charges} (clock : ℕ) (ss : List ℕ) → Listed c → Holds (restarted clock (chargesOf c) ss) next → Rated next
+next-rated {c} {next} clock ss listed h i low =
+    tabulate-each (λ x. IsRate (x .rate)) (chargeAt next) (next .held) 0
+    (rw (h .charges)
+    (each-restarted (λ x. IsRate (x .rate)) (λ x s r. r) clock (chargesOf c) ss
+    (each-tabulate (λ x. IsRate (x .rate)) (chargeAt c) (c .held) 0 (λ j p q. listed .small j (omega arith) .is-rate))))
+    i (omega arith) (omega arith)
 
 -- The causes but for lateness
 

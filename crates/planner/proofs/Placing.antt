@@ -10,6 +10,7 @@ use Rattle.rules.specs.Basics.{Found, at, nothing, Each}
 use Rattle.rules.specs.Load.{active, count}
 use Rattle.rules.specs.Charge.{Charge, starting, loadOf, loadsOf}
 use Rattle.rules.specs.Replan.{all, stuck, placeAll, startIn, placedActive}
+use Rattle.profile.specs.Shows.{Rated}
 
 -- One charge more
 
@@ -59,18 +60,18 @@ start-other (x ∷ xs) c s t h = go (eqb (x .ticket) t) (start-other xs c s t h)
     go true e = refl
     go false e = e
 
--- A placed charge of a line is active exactly where the placed charges count on that line
+-- A placed charge of a line is active exactly where the placed charges count on that line: no rate is 0
 
 pub placed-active :
-    (placed : List Charge) (i t : ℕ) → placedActive placed i t ≡ ltb 0 (count (loadsOf placed) i t)
-placed-active [] i t = refl
-placed-active (c ∷ cs) i t = go (eqb (c .line) i) (active (loadOf c) t) (placed-active cs i t)
+    (placed : List Charge) (i t : ℕ) → Each Rated (loadsOf placed) → placedActive placed i t ≡ ltb 0 (count (loadsOf placed) i t)
+placed-active [] i t h = refl
+placed-active (c ∷ cs) i t h = go (eqb (c .line) i) (active (loadOf c) t) (placed-active cs i t (h .1))
   where
     go :
         (a b : Bool)
         → placedActive cs i t ≡ ltb 0 (count (loadsOf cs) i t)
-        → ((a && b) || placedActive cs i t) ≡ ltb 0 (cond b (cond a 1 0) 0 + count (loadsOf cs) i t)
-    go true true e = sym (lt-ltb 0 (1 + count (loadsOf cs) i t) (omega arith))
+        → ((a && b) || placedActive cs i t) ≡ ltb 0 (cond b (cond a (c .rate) 0) 0 + count (loadsOf cs) i t)
+    go true true e = sym (lt-ltb 0 (c .rate + count (loadsOf cs) i t) (omega (arith, h .0 .low)))
     go true false e = e ∙ ap (ltb 0) (plus (count (loadsOf cs) i t))
       where
         plus : (n : ℕ) → n ≡ 0 + n

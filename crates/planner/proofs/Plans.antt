@@ -10,7 +10,7 @@ use lib.ListN.{length, getD, set, replicate, length-set, length-append}
 use lib.Seq.{getD-set-same, getD-set-other}
 use borrow.Author.Tests.{eqb-true, eqb-false}
 use Rattle.rules.specs.Basics.{Found, at, nothing}
-use Rattle.rules.specs.Load.{lastUntil}
+use Rattle.rules.specs.Load.{IsRate, lastUntil}
 use Rattle.rules.specs.Charge.{Charge, starting, drawOf, loadsOf}
 use Rattle.rules.specs.Search.{added}
 use Rattle.rules.specs.Replan.{stuck, placeAll, startIn}
@@ -71,6 +71,9 @@ module _ {c : Charges} {q : Places} {k : ℕ} (h : Listed c) (places : PlacesIn 
   pub next-below : placeAt q k < 180
   next-below = omega (arith, next-inside, h .columns .few)
 
+  pub next-rated : IsRate (chargeIn c q k .rate)
+  next-rated = h .small (placeAt q k) next-inside .is-rate
+
 -- no start found lies behind the last end
 abbrev pub Near : ℕ → List Charge → (List Charge → Charge → Found) → Type 0
 Near clock begun find =
@@ -112,9 +115,9 @@ module _ {find : List Charge → Charge → Found} {clock : ℕ} {c : Charges} {
         v .whole ∙ rw turn (place-stuck find (v .placed) (chargeIn c q k) (queueFrom c q (k + 1)) e)
 
     module _ (near : Near clock (begunOf clock c) find) {s : ℕ} (found : find (v .placed) (chargeIn c q k) ≡ at s) where
-      pub next-can-add : CanAdd p (chargeIn c q k .time) s
-      next-can-add =
-          shown-can-add (v .plan .shows) (chargeIn c q k .time) s plan-few
+      pub next-can-add : {rate : ℕ} → IsRate rate → CanAdd p (chargeIn c q k .time) rate s
+      next-can-add {rate} rated =
+          shown-can-add (v .plan .shows) (chargeIn c q k .time) rate s plan-few rated
           (omega (
             arith,
             near (v .placed) (chargeIn c q k) s found,
@@ -157,10 +160,11 @@ module _ {find : List Charge → Charge → Found} {clock : ℕ} {c : Charges} {
               ∙ sym (getD-set-other starts (placeAt q k) i s 0 ne)
 
       pub next-placed :
-          {p′ : Profile}
-          → LoadAdded p p′ (chargeIn c q k .line) (chargeIn c q k .time) s
+          {p′ : Profile} {rate : ℕ}
+          → LoadAdded p p′ (chargeIn c q k .line) (chargeIn c q k .time) rate s
+          → rate ≡ chargeIn c q k .rate
           → PlacedSoFar find clock c q (k + 1) p′ (set starts (placeAt q k) s)
-      next-placed a =
+      next-placed a whole =
           let many : length (v .placed ++ (starting (chargeIn c q k) s ∷ [])) ≡ length (v .placed) + 1 =
           length-append (v .placed) (starting (chargeIn c q k) s ∷ []) in
           record {
@@ -171,7 +175,7 @@ module _ {find : List Charge → Charge → Found} {clock : ℕ} {c : Charges} {
             many = many ∙ ap (λ (m : ℕ). m + 1) (v .many);
             plan =
                 record {
-                  shows = rw grown (added-shows a clock (loadsOf (begunOf clock c ++ v .placed)) (v .plan .shows));
+                  shows = rw grown (added-shows (next-rated h (u .places) low) (rw whole at a) clock (loadsOf (begunOf clock c ++ v .placed)) (v .plan .shows));
                   stored = stored-on;
                   size = length-set starts (placeAt q k) s ∙ v .plan .size;
                   ends =

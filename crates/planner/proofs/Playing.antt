@@ -36,7 +36,7 @@ use Rattle.planner.proofs.Profiles.{shown-few, largest-alike, smallest-
 use Rattle.planner.proofs.Asking.{round-balanced, round-ends, round-lowers}
 
 module _ {limit bound clock : ℕ} {c : Charges} {caps : LineCaps} {r : Placement} (ready : Ready clock limit bound c)
-    (w : Capped caps) (plan : LinesUnder caps clock c r) where
+    (w : Capped c caps) (plan : LinesUnder caps clock c r) where
   abbrev some-plan : AllPlaced (linesPlaced (w .cap) clock c) clock c (r .profile) (r .«by_place»)
   some-plan = plan (w .cap) (w .shown)
 
@@ -152,7 +152,7 @@ module _ {limit bound clock : ℕ} {c : Charges} {caps : LineCaps} {r : Placemen
                     (level-counted cap shown))
                     (ap (λ (m : ℕ). m + bound) (level-counted cap shown small (smallest-line (levels (r .profile) t) .line)));
                 filled = rw k zeros;
-                fits = (minute-fits, omega (arith, ready .some-bound));
+                fits = (minute-fits, omega arith);
               }
 
           pub plays-asked :

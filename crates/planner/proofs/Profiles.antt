@@ -1,10 +1,10 @@
 -- What a profile of loads meets, and the largest and smallest line of its levels.
 use mathlib.Core.Path.{_≡_, refl, sym, _∙_}
-use Prim.Native.Nat.{ℕ, _+_, _^_, max, _≤_, _<_}
+use Prim.Native.Nat.{ℕ, _+_, _*_, _^_, max, _≤_, _<_}
 use mathlib.Core.List.{List}
 use native.Mathlib.Omega.{arith}
 use lib.ListN.{length}
-use Rattle.rules.specs.Load.{Load, IsLine, lastUntil}
+use Rattle.rules.specs.Load.{Load, IsLine, IsRate, lastUntil}
 use Rattle.rules.specs.Replan.{largestLine, smallestLine}
 use Rattle.rules.proofs.Rounds.{largest-line, smallest-line}
 use Rattle.profile.specs.declared.Profile.{Profile}
@@ -25,11 +25,11 @@ pub same-parts :
 same-parts e f g = rw (e, f, g)
 
 module _ {p : Profile} {clock : ℕ} {loads : List Load} (s : Shows p clock loads) where
-  pub shown-few : (l t : ℕ) → IsLine l → clock ≤ t → levelOf p l t ≤ length loads
-  shown-few l t i h = omega (arith, s .counted l i t h, count-few loads l t)
+  pub shown-few : (l t : ℕ) → IsLine l → clock ≤ t → levelOf p l t ≤ 2 * length loads
+  shown-few l t i h = omega (arith, s .counted l i t h, count-few loads (s .rated) l t)
 
-  pub shown-can-add : (time start : ℕ) → length loads < 180 → start + time < 2 ^ 32 → CanAdd p time start
-  shown-can-add time start few fit = can-add p clock loads time start s few fit
+  pub shown-can-add : (time rate start : ℕ) → length loads < 180 → IsRate rate → start + time < 2 ^ 32 → CanAdd p time rate start
+  shown-can-add time rate start few is-rate fit = can-add p clock loads time rate start s few is-rate fit
 
   pub shown-can-start : (time : ℕ) → length loads < 180 → max clock (lastUntil loads) + time < 2 ^ 32 → CanStart p time
   shown-can-start time few fit = can-start s time (omega arith) fit

@@ -7,7 +7,7 @@ use native.Mathlib.Omega.{arith}
 use lib.ListN.{length}
 use borrow.Author.Tests.{lt-ltb, le-ltb}
 use Rattle.rules.specs.Basics.{Each, tabulate, keep}
-use Rattle.rules.specs.Load.{lastUntil}
+use Rattle.rules.specs.Load.{IsRate, lastUntil}
 use Rattle.rules.specs.Charge.{Charge, endOf, loadOf, loadsOf, lastEnd, isBegun, begunCharges, waitingCharges}
 use Rattle.rules.proofs.Lists.{map-append, length-tabulate, each-tabulate}
 use Rattle.charges.specs.declared.Charges.{Charges}
@@ -18,7 +18,7 @@ use Rattle.profile.specs.declared.Profile.{Profile}
 use Rattle.profile.specs.Shows.{Shows, LoadAdded, CanAdd}
 use Rattle.profile.proofs.Shown.{added-shows}
 use Rattle.rules.proofs.Ends.{last-until}
-use Rattle.planner.specs.Ready.{EndsFit}
+use Rattle.planner.specs.Ready.{EndsFit, Rated}
 use Rattle.planner.proofs.Causes.{last-below}
 use Rattle.planner.proofs.Profiles.{shown-can-add}
 
@@ -74,6 +74,9 @@ begun-end-most {c} h clock =
 pub listed-ends : {c : Charges} → Listed c → EndsFit c
 listed-ends h i low = let s = h .small i low in omega (arith, s .start-most, s .time-most)
 
+pub listed-rates : {c : Charges} → Listed c → Rated c
+listed-rates h i low = h .small i low .is-rate
+
 keep-every : {A : Type 0} (f : A → Bool) (xs : List A) → Each (λ x. f x ≡ true) xs → keep f xs ≡ xs
 keep-every f [] e = refl
 keep-every f (x ∷ xs) e = rw (e .0, keep-every f xs (e .1))
@@ -94,30 +97,32 @@ abbrev pub begunBelow : ℕ → Charges → ℕ → List Charge
 begunBelow before c i = begunCharges before (tabulate (chargeAt c) i 0)
 
 module _ (before : ℕ) (c : Charges) (i : ℕ) {clock : ℕ} {p : Profile} (s : Shows p clock (loadsOf (begunBelow before c i))) where
-  pub begun-can-add : c .held ≤ 180 → EndsFit c → i < c .held → CanAdd p (chargeAt c i .time) (chargeAt c i .start)
-  begun-can-add few ends low =
-      shown-can-add s (chargeAt c i .time) (chargeAt c i .start)
+  pub begun-can-add : {rate : ℕ} → c .held ≤ 180 → EndsFit c → IsRate rate → i < c .held → CanAdd p (chargeAt c i .time) rate (chargeAt c i .start)
+  begun-can-add {rate} few ends rated low =
+      shown-can-add s (chargeAt c i .time) rate (chargeAt c i .start)
       (omega (
         arith,
         length-loads-of (begunBelow before c i),
         keep-length (isBegun before) (tabulate (chargeAt c) i 0),
         length-tabulate (chargeAt c) i 0,
       ))
-      (ends i low)
+      rated (ends i low)
 
   pub begun-on :
-      {q r : Profile}
+      {q r : Profile} {rate : ℕ}
+      → IsRate (chargeAt c i .rate)
       → chargeAt c i .start < before
-      → LoadAdded p q (chargeAt c i .line) (chargeAt c i .time) (chargeAt c i .start)
+      → LoadAdded p q (chargeAt c i .line) (chargeAt c i .time) rate (chargeAt c i .start)
+      → rate ≡ chargeAt c i .rate
       → r ≡ q
       → Shows r clock (loadsOf (begunBelow before c (i + 1)))
-  begun-on j a e =
+  begun-on rated j a whole e =
       rw (
         e,
         keep-hit (isBegun before) (chargeAt c) i (lt-ltb (chargeAt c i .start) before j),
         loads-append (begunBelow before c i) (chargeAt c i ∷ []),
       )
-      (added-shows a clock (loadsOf (begunBelow before c i)) s)
+      (added-shows rated (rw whole at a) clock (loadsOf (begunBelow before c i)) s)
 
   pub begun-past : {r : Profile} → before ≤ chargeAt c i .start → r ≡ p → Shows r clock (loadsOf (begunBelow before c (i + 1)))
   begun-past j e = rw (e, keep-miss (isBegun before) (chargeAt c) i (le-ltb (chargeAt c i .start) before j)) s

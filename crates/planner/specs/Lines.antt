@@ -1,11 +1,11 @@
 -- The waiting charges placed under the caps, line by line.
-use Prim.Native.Nat.{ℕ, _≤_}
+use Prim.Native.Nat.{ℕ, _≤_, _<_}
 use mathlib.Core.List.{[]}
 use Rattle.rules.specs.Charge.{waitingCharges}
 use Rattle.rules.specs.Search.{Caps}
 use Rattle.rules.specs.Replan.{Placed, placeAll, cappedStart, lineByLine}
 use Rattle.charges.specs.declared.Charges.{Charges}
-use Rattle.charges.specs.Arrays.{chargesOf}
+use Rattle.charges.specs.Arrays.{chargeAt, chargesOf}
 use Rattle.charges.specs.declared.places.Places.{Places}
 use Rattle.charges.specs.Places.{Ordered}
 use Rattle.search.specs.declared.caps.LineCaps.{LineCaps}
@@ -23,11 +23,11 @@ abbrev pub linesPlaced : Caps → ℕ → Charges → Placed
 linesPlaced cap clock c =
     placeAll (cappedStart cap clock (begunOf clock c)) [] (lineByLine (waitingCharges clock (chargesOf c)))
 
--- the caps are those of lines, and never below 1
-pub record Capped (caps : LineCaps) : Type 0 where
+-- the caps are those of lines, and never below the rate of a held charge
+pub record Capped (c : Charges) (caps : LineCaps) : Type 0 where
   pub cap : Caps
   pub shown : CapsShown caps cap
-  pub some : (l t : ℕ) → 1 ≤ cap l t
+  pub enough : (i : ℕ) → i < c .held → (l t : ℕ) → chargeAt c i .rate ≤ cap l t
 
 -- every waiting charge is placed under the caps, whatever they are
 abbrev pub LinesUnder : LineCaps → ℕ → Charges → Placement → Type 0

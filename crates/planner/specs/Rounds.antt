@@ -11,7 +11,7 @@ use Rattle.rules.specs.Search.{Caps}
 use Rattle.charges.specs.declared.Charges.{Charges}
 use Rattle.charges.specs.Arrays.{chargesOf}
 use Rattle.profile.specs.declared.Profile.{Profile}
-use Rattle.profile.specs.Shows.{levelOf, levels, Formed}
+use Rattle.profile.specs.Shows.{levelOf, levels, Formed, mostDrawn}
 use Rattle.search.specs.declared.caps.LineCaps.{LineCaps}
 use Rattle.search.specs.Caps.{CapsShown}
 use Rattle.planner.specs.Starts.{waitingCount}
@@ -39,13 +39,13 @@ pub record Comparable (p begun : Profile) (t bound : ℕ) : Type 0 where
   pub low : getD (p .at) 0 0 ≤ t
   pub begun-formed : Formed begun
   pub begun-low : getD (begun .at) 0 0 ≤ t
-  pub small : (l : ℕ) → IsLine l → levelOf p l t ≤ 180
+  pub small : (l : ℕ) → IsLine l → levelOf p l t ≤ mostDrawn
   pub bound-most : bound ≤ 60
 
--- the minute is a number of 32 bits, and the cap is not below 1
-abbrev pub Fits : Outcome → Type 0
-Fits Ends = Unit {0}
-Fits (Lowers i t v) = (t < 4294967295) × (1 ≤ v)
+-- the minute is a number of 32 bits, and the cap is not below the bound
+abbrev pub Fits : ℕ → Outcome → Type 0
+Fits bound Ends = Unit {0}
+Fits bound (Lowers i t v) = (t < 4294967295) × (bound ≤ v)
 
 -- the answer is what came of the round under the caps, whatever they are
 pub record Plays (limit bound clock : ℕ) (c : Charges) (caps : LineCaps) (r : Round) : Type 0 where
@@ -55,7 +55,7 @@ pub record Plays (limit bound clock : ℕ) (c : Charges) (caps : LineCaps) (r : 
       → round (limits limit bound) clock (chargesOf c) cap
       ≡ outcome (proposalOf (waitingCount clock c) (r .proposed)) (r .outcome)
   pub filled : FilledBy (waitingCount clock c) (r .proposed)
-  pub fits : Fits (r .outcome)
+  pub fits : Fits bound (r .outcome)
 
 -- the answer is this proposal, with the rounds made for it
 pub record Replans (clock : ℕ) (c : Charges) (p : rules.Replanned) (r : Replanned) : Type 0 where

@@ -6,11 +6,11 @@ ghost use Prim.Native.Nat.{_≤_};
 ghost use Rattle.rules.specs.Charge.{begunCharges, loadsOf};
 ghost use Rattle.charges.specs.Arrays.{chargesOf};
 ghost use Rattle.profile.specs.Shows.{Shows};
-ghost use Rattle.planner.specs.Ready.{EndsFit};
+ghost use Rattle.planner.specs.Ready.{EndsFit, Rated};
 
 // The profile, from the clock on, of the charges with a start below `before`: of the begun ones, where that is the clock.
 pub fn profile_before(charges: Charges, clock: u32, before: u32) -> Profile
-    requires { ⌜ (charges .held ≤ 180) × EndsFit charges ⌝ }
+    requires { ⌜ (charges .held ≤ 180) × EndsFit charges × Rated charges ⌝ }
     ensures { λ r. ⌜ Shows r clock (loadsOf (begunCharges before (chargesOf charges))) ⌝ }
 {
     let n = charges.held;
@@ -23,7 +23,8 @@ pub fn profile_before(charges: Charges, clock: u32, before: u32) -> Profile
         if start < before {
             let line = charges.lines[i];
             let time = charges.times[i];
-            steps = add(&mut at, &mut counts, steps, line, time, start);
+            let rate = charges.rates[i];
+            steps = add(&mut at, &mut counts, steps, line, time, rate, start);
         }
     }
     Profile { steps, at, counts }

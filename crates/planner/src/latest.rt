@@ -29,11 +29,12 @@ pub fn latest(charges: Charges, clock: u32, limit: u32, bound: u32) -> Proposed
         let i = queue.places[k];
         let line = charges.lines[i];
         let time = charges.times[i];
-        let found = earliest(&at, &counts, steps, limit, bound, line, time);
+        let rate = charges.rates[i];
+        let found = earliest(&at, &counts, steps, limit, bound, line, time, rate);
         let When::Minute(start) = found else {
             return Proposed::none(1);
         };
-        steps = add(&mut at, &mut counts, steps, line, time, start);
+        steps = add(&mut at, &mut counts, steps, line, time, rate, start);
         by_place[i] = start;
     }
     let starts = waiting_starts(charges, clock, by_place);

@@ -19,7 +19,7 @@ pub struct Placement {
     pub by_place: [u32; PLACES],
 }
 
-// Each charge of the queue gets the smallest start with its line's count at or below the cap. A cap is never below 1,
+// Each charge of the queue gets the smallest start with its line's count at or below the cap. No cap is below a rate,
 // so there always is one.
 pub fn place_lines(
     charges: Charges,
@@ -28,7 +28,7 @@ pub fn place_lines(
     begun: Profile,
     caps: LineCaps,
 ) -> Placement
-    requires { ⌜ Listed charges × (clock ≤ 1000000) × InLines clock charges queue × Shows begun clock (loadsOf (begunOf clock charges)) × Capped caps ⌝ }
+    requires { ⌜ Listed charges × (clock ≤ 1000000) × InLines clock charges queue × Shows begun clock (loadsOf (begunOf clock charges)) × Capped charges caps ⌝ }
     ensures { λ r. ⌜ LinesUnder caps clock charges r ⌝ }
 {
     let n = queue.count;
@@ -40,8 +40,9 @@ pub fn place_lines(
         let i = queue.places[k];
         let line = charges.lines[i];
         let time = charges.times[i];
-        let start = earliest_under(&at, &counts, steps, &caps.caps, line, time);
-        steps = add(&mut at, &mut counts, steps, line, time, start);
+        let rate = charges.rates[i];
+        let start = earliest_under(&at, &counts, steps, &caps.caps, line, time, rate);
+        steps = add(&mut at, &mut counts, steps, line, time, rate, start);
         by_place[i] = start;
     }
     let profile = Profile { steps, at, counts };

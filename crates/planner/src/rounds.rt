@@ -65,7 +65,7 @@ fn play(
     begun: Profile,
     caps: LineCaps,
 ) -> Round
-    requires { ⌜ Ready clock limit bound charges × InLines clock charges queue × Shows begun clock (loadsOf (begunOf clock charges)) × Capped caps ⌝ }
+    requires { ⌜ Ready clock limit bound charges × InLines clock charges queue × Shows begun clock (loadsOf (begunOf clock charges)) × Capped charges caps ⌝ }
     ensures { λ r. ⌜ Plays limit bound clock charges caps r ⌝ }
 {
     let placement = place_lines(charges, clock, queue, begun, caps);

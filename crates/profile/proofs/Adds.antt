@@ -12,7 +12,7 @@ use Rattle.rules.specs.Load.{draw, loadFrom, IsLine, active, share, draws}
 use Rattle.rules.proofs.Ranges.{below-or-not}
 use Rattle.rules.proofs.Counts.{draws-before, draws-after}
 use Rattle.profile.specs.Steps.{mostSteps, columns, levelAt, In, Rising, Inserted, DoubledIn, RaisedIn}
-use Rattle.profile.specs.Shows.{lineOf, levelOf, firstMinute, Formed, Small, Split, CanAdd, LoadAdded}
+use Rattle.profile.specs.Shows.{lineOf, levelOf, firstMinute, Formed, mostDrawn, Small, Split, CanAdd, LoadAdded}
 use Rattle.profile.specs.declared.Profile.{Profile}
 use Rattle.profile.proofs.Levels.{level-in, at-step, step-from}
 use Rattle.profile.proofs.Splits.{split-level, split-rises, split-ends, raise-level}
@@ -65,7 +65,7 @@ module _ (p q : Profile) (i t : ℕ) (f : Formed p) (room : p .steps < mostSteps
 -- Add
 
 -- the level of a step is that of its first minute, so it is small
-pub small-step : (p : Profile) → Formed p → Small p → (l : ℕ) → IsLine l → (m : ℕ) → m < p .steps → lineOf p l m < 4294967295
+pub small-step : (p : Profile) → Formed p → Small p → (l : ℕ) → IsLine l → (m : ℕ) → m < p .steps → lineOf p l m ≤ mostDrawn
 small-step p f s l hl m h =
     omega (
       arith,
@@ -75,8 +75,8 @@ small-step p f s l hl m h =
 
 -- a load that draws nothing from the first minute on
 add-idle :
-    {p : Profile} {line time start : ℕ} → Formed p →
-    ((l : ℕ) → IsLine l → (t : ℕ) → firstMinute p ≤ t → draws (loadFrom (draw line time) start) l t ≡ 0) → LoadAdded p p line time start
+    {p : Profile} {line time rate start : ℕ} → Formed p →
+    ((l : ℕ) → IsLine l → (t : ℕ) → firstMinute p ≤ t → draws (loadFrom (draw line time rate) start) l t ≡ 0) → LoadAdded p p line time rate start
 add-idle f h =
     record {
       formed = f;
@@ -87,24 +87,24 @@ add-idle f h =
     }
 
 -- it ends by the clock, or has no minute
-pub add-none : (p : Profile) (line time start : ℕ) → Formed p → start + time ≤ max (firstMinute p) start → LoadAdded p p line time start
-add-none p line time start f h = add-idle f (λ l hl t a. idle l t a (below-or-not t start))
+pub add-none : (p : Profile) (line time rate start : ℕ) → Formed p → start + time ≤ max (firstMinute p) start → LoadAdded p p line time rate start
+add-none p line time rate start f h = add-idle f (λ l hl t a. idle l t a (below-or-not t start))
   where
-    idle : (l t : ℕ) → getD (p .at) 0 0 ≤ t → (t < start) ⊎ (start ≤ t) → draws (loadFrom (draw line time) start) l t ≡ 0
-    idle l t a (inl b) = draws-before (loadFrom (draw line time) start) l t b
-    idle l t a (inr b) = draws-after (loadFrom (draw line time) start) l t (omega arith)
+    idle : (l t : ℕ) → getD (p .at) 0 0 ≤ t → (t < start) ⊎ (start ≤ t) → draws (loadFrom (draw line time rate) start) l t ≡ 0
+    idle l t a (inl b) = draws-before (loadFrom (draw line time rate) start) l t b
+    idle l t a (inr b) = draws-after (loadFrom (draw line time rate) start) l t (omega arith)
 
 -- it is on no line
-pub add-other : (p : Profile) (line time start : ℕ) → Formed p → (IsLine line → ⊥) → LoadAdded p p line time start
-add-other p line time start f not =
-    add-idle f (λ l hl t a. nothing (active (loadFrom (draw line time) start) t) l (ne-eqb line l (λ e. not (subst IsLine (sym e) hl))))
+pub add-other : (p : Profile) (line time rate start : ℕ) → Formed p → (IsLine line → ⊥) → LoadAdded p p line time rate start
+add-other p line time rate start f not =
+    add-idle f (λ l hl t a. nothing (active (loadFrom (draw line time rate) start) t) l (ne-eqb line l (λ e. not (subst IsLine (sym e) hl))))
   where
-    nothing : (b : Bool) (l : ℕ) → eqb line l ≡ false → cond b (share line l) 0 ≡ 0
+    nothing : (b : Bool) (l : ℕ) → eqb line l ≡ false → cond b (share line rate l) 0 ≡ 0
     nothing true l e = rw e refl
     nothing false l e = refl
 
 -- two splits: step i of q begins where the load does, or at the clock, and step j where it ends
-module _ {p p₁ q : Profile} {time start from i j : ℕ} (can : CanAdd p time start) (e : from ≡ max (getD (p .at) 0 0) start)
+module _ {p p₁ q : Profile} {time rate start from i j : ℕ} (can : CanAdd p time rate start) (e : from ≡ max (getD (p .at) 0 0) start)
     (begun : from < start + time) (s₁ : Split p p₁ from i) (s₂ : Split p₁ q (start + time) j) where
   i-begins : getD (q .at) i 0 ≡ from
   i-begins = s₂ .earlier i (s₁ .below) (omega (arith, s₁ .begins)) ∙ s₁ .begins
@@ -119,21 +119,21 @@ module _ {p p₁ q : Profile} {time start from i j : ℕ} (can : CanAdd p time s
   same-level : (l : ℕ) → IsLine l → (u : ℕ) → getD (p .at) 0 0 ≤ u → levelOf q l u ≡ levelOf p l u
   same-level l hl u a = s₂ .same l hl u (omega (arith, s₁ .starts)) ∙ s₁ .same l hl u a
 
-  small : (l : ℕ) → IsLine l → (m : ℕ) → m < q .steps → lineOf q l m < 4294967295
+  small : (l : ℕ) → IsLine l → (m : ℕ) → m < q .steps → lineOf q l m ≤ mostDrawn
   small =
       small-step q (s₂ .formed)
       (λ l hl t a. omega (arith, same-level l hl t (omega (arith, s₁ .starts, s₂ .starts)), can .small l hl t (omega (arith, s₁ .starts, s₂ .starts))))
 
-  module _ {line : ℕ} (hl : IsLine line) where
+  module _ {line more : ℕ} (hl : IsLine line) (few : more ≤ 2) where
     -- the line of q may be raised
     pub raise-can :
-        (length (q .counts) ≡ columns * mostSteps) × IsLine line × (i ≤ j) × (j ≤ mostSteps) × ((m : ℕ) → m < j → lineOf q line m + 1 < 2 ^ 32)
+        (length (q .counts) ≡ columns * mostSteps) × IsLine line × (i ≤ j) × (j ≤ mostSteps) × ((m : ℕ) → m < j → lineOf q line m + more < 2 ^ 32)
     raise-can =
         (s₂ .formed .counts-size, hl, order, omega (arith, s₂ .below, s₂ .formed .fits), λ m a. omega (arith, small line hl m (omega (arith, s₂ .below))))
 
-  module _ (line : ℕ) (r : Profile) (en : r .steps ≡ q .steps) (ea : r .at ≡ q .at) {on : ℕ} (raised : RaisedIn (q .counts) (r .counts) on i j) (same : on ≡ line) where
-    ra : RaisedIn (q .counts) (r .counts) line i j
-    ra = rw (← same) raised
+  module _ (line : ℕ) (r : Profile) (en : r .steps ≡ q .steps) (ea : r .at ≡ q .at) {on by : ℕ} (raised : RaisedIn (q .counts) (r .counts) on by i j) (same : on ≡ line) (whole : by ≡ rate) where
+    ra : RaisedIn (q .counts) (r .counts) line rate i j
+    ra = rw (← same, ← whole) raised
 
     -- clipped to the clock, the load is the same in every minute from there on
     clipped : (u : ℕ) → getD (p .at) 0 0 ≤ u → leb from u ≡ leb start u
@@ -143,16 +143,16 @@ module _ {p p₁ q : Profile} {time start from i j : ℕ} (can : CanAdd p time s
         (λ b. le-leb from u (omega arith) ∙ sym (le-leb start u b))
         (below-or-not u start)
 
-    new-level : (l : ℕ) → IsLine l → (u : ℕ) → getD (p .at) 0 0 ≤ u → levelOf r l u ≡ levelOf p l u + draws (loadFrom (draw line time) start) l u
+    new-level : (l : ℕ) → IsLine l → (u : ℕ) → getD (p .at) 0 0 ≤ u → levelOf r l u ≡ levelOf p l u + draws (loadFrom (draw line time rate) start) l u
     new-level l hl u a =
         ap (λ (n : ℕ). levelAt (r .at) (lineOf r l) n u) en ∙ ap (λ (x : List ℕ). levelAt x (lineOf r l) (q .steps) u) ea
         ∙ raise-level (q .at) (s₂ .formed .rises) i-below (s₂ .below) (ra .each l hl) u (omega (arith, s₁ .starts, s₂ .starts))
-        ∙ ap (λ (x : ℕ). levelOf q l u + cond (leb x u && ltb u (getD (q .at) j 0)) (share line l) 0) i-begins
-        ∙ ap (λ (x : ℕ). levelOf q l u + cond (leb from u && ltb u x) (share line l) 0) (s₂ .begins)
-        ∙ ap (λ (b : Bool). levelOf q l u + cond (b && ltb u (start + time)) (share line l) 0) (clipped u a)
-        ∙ ap (λ (x : ℕ). x + draws (loadFrom (draw line time) start) l u) (same-level l hl u a)
+        ∙ ap (λ (x : ℕ). levelOf q l u + cond (leb x u && ltb u (getD (q .at) j 0)) (share line rate l) 0) i-begins
+        ∙ ap (λ (x : ℕ). levelOf q l u + cond (leb from u && ltb u x) (share line rate l) 0) (s₂ .begins)
+        ∙ ap (λ (b : Bool). levelOf q l u + cond (b && ltb u (start + time)) (share line rate l) 0) (clipped u a)
+        ∙ ap (λ (x : ℕ). x + draws (loadFrom (draw line time rate) start) l u) (same-level l hl u a)
 
-    pub add-done : LoadAdded p r line time start
+    pub add-done : LoadAdded p r line time rate start
     add-done =
         record {
           formed =

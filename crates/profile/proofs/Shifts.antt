@@ -83,9 +83,9 @@ shifted-insert {a} {b} {n} {k} {v} h f g w ex =
 
 -- one turn of `raise`
 pub raised-on :
-    {a₀ a : List ℕ} {line i k p : ℕ} → IsLine line → i ≤ k → k < mostSteps → p ≡ columns * k + line - 1 → RaisedIn a₀ a line i k →
-    RaisedIn a₀ (set a p (getD a p 0 + 1)) line i (k + 1)
-raised-on {a₀} {a} {line} {i} {k} {p} hl h lt e r =
+    {a₀ a : List ℕ} {line rate i k p : ℕ} → IsLine line → i ≤ k → k < mostSteps → p ≡ columns * k + line - 1 → RaisedIn a₀ a line rate i k →
+    RaisedIn a₀ (set a p (getD a p 0 + rate)) line rate i (k + 1)
+raised-on {a₀} {a} {line} {rate} {i} {k} {p} hl h lt e r =
     record {
       size = length-set a p _ ∙ r .size;
       each = λ l hc.
@@ -96,7 +96,7 @@ raised-on {a₀} {a} {line} {i} {k} {p} hl h lt e r =
                 (λ q. ⊎-elim
                 (λ ql.
                 let pl : columns * m + l - 1 ≡ p = omega arith in
-                rw (pl, eq-eqb line l (sym ql)) (getD-set-same a p _ 0 inside ∙ ap (λ (y : ℕ). y + 1) here))
+                rw (pl, eq-eqb line l (sym ql)) (getD-set-same a p _ 0 inside ∙ ap (λ (y : ℕ). y + rate) here))
                 (λ ne. getD-set-other a p (columns * m + l - 1) _ 0 (λ x. ne (omega (arith, hl .low, hl .high, hc .low, hc .high))) ∙ r .each l hc .after m (omega arith) ∙ plus-none (getD a₀ (columns * m + l - 1) 0) l (ne-eqb line l (λ x. ne (sym x))))
                 (same-or-not l line))
                 (λ ne. getD-set-other a p (columns * m + l - 1) _ 0 (λ x. ne (omega (arith, hl .low, hl .high, hc .low, hc .high))) ∙ r .each l hc .between m b (omega arith))
@@ -111,9 +111,9 @@ raised-on {a₀} {a} {line} {i} {k} {p} hl h lt e r =
     here : getD a p 0 ≡ getD a₀ p 0
     here = rw e (r .each line hl .after k (omega arith))
 
-    plus-none : (x l : ℕ) → eqb line l ≡ false → x ≡ x + share line l
+    plus-none : (x l : ℕ) → eqb line l ≡ false → x ≡ x + share line rate l
     plus-none x l q = rw q (omega arith)
 
-pub raised-none : (a : List ℕ) (line i : ℕ) → length a ≡ columns * mostSteps → RaisedIn a a line i i
-raised-none a line i h =
+pub raised-none : (a : List ℕ) (line rate i : ℕ) → length a ≡ columns * mostSteps → RaisedIn a a line rate i i
+raised-none a line rate i h =
     record { size = h; each = λ l hl. record { before = λ m b. refl; between = λ m b c. absurd (omega arith); after = λ m b. refl } }

@@ -1,15 +1,17 @@
 -- A profile that shows loads: from nothing, with one more load, and what is asked of it.
-use Prim.Native.Nat.{ℕ, _+_, _≤_, _<_, _^_, max}
+use Prim.Native.Nat.{ℕ, _+_, _*_, _≤_, _<_, _^_, max}
 use mathlib.Core.Path.{_≡_, sym, _∙_, ap, subst}
 use mathlib.Core.Bool.{Bool}
 use mathlib.Core.List.{List, [], _∷_}
 use native.Mathlib.Omega.{arith}
 use lib.ListN.{length, getD, length-append}
-use Rattle.rules.specs.Load.{Draw, draw, Load, loadFrom, IsLine, draws, count, counts, lastUntil}
+use Rattle.rules.specs.Basics.{Each}
+use Rattle.rules.specs.Load.{Draw, draw, Load, loadFrom, IsLine, IsRate, draws, count, counts, lastUntil}
 use Rattle.rules.specs.Search.{added}
+use Rattle.rules.proofs.Lists.{each-append}
 use Rattle.rules.proofs.Counts.{draws-most}
 use Rattle.rules.proofs.Searches.{count-added}
-use Rattle.profile.specs.Shows.{lineOf, levels, Formed, Shows, Small, CanAdd, LoadAdded, Added}
+use Rattle.profile.specs.Shows.{lineOf, levels, Formed, Rated, Shows, Small, CanAdd, LoadAdded, Added}
 use Rattle.profile.specs.declared.Profile.{Profile}
 use Rattle.profile.proofs.Lines.{Respects}
 use Rattle.profile.proofs.Levels.{level-in}
@@ -28,18 +30,19 @@ pub length-added : (xs : List Load) (a : Draw) (s : ℕ) → length (added xs a 
 length-added xs a s = length-append xs (loadFrom a s ∷ [])
 
 -- whatever loads p shows, q shows them and one more
-pub added-shows : {p q : Profile} {line time start : ℕ} → LoadAdded p q line time start → Added p q line time start
-added-shows {p} {q} {line} {time} {start} h clock loads s =
+pub added-shows : {p q : Profile} {line time rate start : ℕ} → IsRate rate → LoadAdded p q line time rate start → Added p q line time rate start
+added-shows {p} {q} {line} {time} {rate} {start} is-rate h clock loads s =
     record {
       formed = h .formed;
-      few = omega (arith, length-added loads (draw line time) start, s .few, h .few);
+      rated = each-append Rated loads (loadFrom (draw line time rate) start ∷ []) (s .rated) (is-rate, tt);
+      few = omega (arith, length-added loads (draw line time rate) start, s .few, h .few);
       starts = h .starts ∙ s .starts;
       ends = λ i lt.
-          let last = last-added loads (draw line time) start in
-          h .ends (max clock (lastUntil (added loads (draw line time) start))) (λ k b. omega (arith, s .ends k b, last)) (omega (arith, last)) i lt;
+          let last = last-added loads (draw line time rate) start in
+          h .ends (max clock (lastUntil (added loads (draw line time rate) start))) (λ k b. omega (arith, s .ends k b, last)) (omega (arith, last)) i lt;
       counted = λ l hl t a.
-          h .level l hl t (omega (arith, s .starts)) ∙ ap (λ (x : ℕ). x + draws (loadFrom (draw line time) start) l t) (s .counted l hl t a)
-          ∙ sym (count-added loads (draw line time) start l t);
+          h .level l hl t (omega (arith, s .starts)) ∙ ap (λ (x : ℕ). x + draws (loadFrom (draw line time rate) start) l t) (s .counted l hl t a)
+          ∙ sym (count-added loads (draw line time rate) start l t);
     }
 
 -- no load
@@ -47,6 +50,7 @@ pub shows-none : (p : Profile) (clock : ℕ) → Formed p → p .steps ≡ 1 →
 shows-none p clock f n e z =
     record {
       formed = f;
+      rated = tt;
       few = omega arith;
       starts = e;
       ends = λ i h. subst (λ (x : ℕ). getD (p .at) x 0 ≤ max clock 0) (zeroth i h) (omega (arith, e));
@@ -59,14 +63,22 @@ shows-none p clock f n e z =
     zeroth : (i : ℕ) → i < p .steps → 0 ≡ i
     zeroth i h = omega arith
 
-pub count-few : (xs : List Load) (l t : ℕ) → count xs l t ≤ length xs
-count-few [] l t = omega arith
-count-few (x ∷ xs) l t = omega (arith, draws-most x l t, count-few xs l t)
+pub count-few : (xs : List Load) → Each Rated xs → (l t : ℕ) → count xs l t ≤ 2 * length xs
+count-few [] e l t = omega arith
+count-few (x ∷ xs) e l t = omega (arith, e .0 .high, draws-most x l t, count-few xs (e .1) l t)
 
-pub shows-small : (p : Profile) (clock : ℕ) (loads : List Load) → Shows p clock loads → length loads < 4294967295 → Small p
-shows-small p clock loads s few l hl t a = omega (arith, s .counted l hl t (omega (arith, s .starts)), count-few loads l t)
+pub shows-small : (p : Profile) (clock : ℕ) (loads : List Load) → Shows p clock loads → length loads ≤ 180 → Small p
+shows-small p clock loads s few l hl t a = omega (arith, s .counted l hl t (omega (arith, s .starts)), count-few loads (s .rated) l t)
 
 -- a profile of fewer than 180 loads meets what one more asks
-pub can-add : (p : Profile) (clock : ℕ) (loads : List Load) (time start : ℕ) → Shows p clock loads → length loads < 180 → start + time < 2 ^ 32 → CanAdd p time start
-can-add p clock loads time start s few fit =
-    record { formed = s .formed; small = shows-small p clock loads s (omega arith); room = omega (arith, s .few); ends-fit = fit }
+pub can-add :
+    (p : Profile) (clock : ℕ) (loads : List Load) (time rate start : ℕ) → Shows p clock loads → length loads < 180 → IsRate rate → start + time < 2 ^ 32 →
+    CanAdd p time rate start
+can-add p clock loads time rate start s few is-rate fit =
+    record {
+      formed = s .formed;
+      small = shows-small p clock loads s (omega arith);
+      room = omega (arith, s .few);
+      is-rate = is-rate;
+      ends-fit = fit;
+    }

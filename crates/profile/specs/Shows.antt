@@ -5,8 +5,8 @@ use mathlib.Core.Bool.{cond}
 use mathlib.Core.List.{List}
 use lib.Dec.{eqb}
 use lib.ListN.{length, getD}
-use Rattle.rules.specs.Basics.{Found, at, nothing}
-use Rattle.rules.specs.Load.{draw, Load, loadFrom, IsLine, draws, count, lastUntil}
+use Rattle.rules.specs.Basics.{Found, at, nothing, Each}
+use Rattle.rules.specs.Load.{draw, Load, loadFrom, IsLine, IsRate, draws, count, lastUntil}
 use Rattle.rules.specs.Search.{added}
 use Rattle.profile.specs.Steps.{mostSteps, columns, levelAt, lineIn, Rising}
 use Rattle.profile.specs.declared.Profile.{Profile}
@@ -48,16 +48,24 @@ pub record Formed (p : Profile) : Type 0 where
   pub fits : p .steps ≤ mostSteps
   pub rises : Rising (p .at) (p .steps)
 
+-- so much can be drawn on a line: 180 charges of rate 2
+abbrev pub mostDrawn : ℕ
+mostDrawn = 360
+
+abbrev pub Rated : Load → Type 0
+Rated x = IsRate (x .rate)
+
 pub record Shows (p : Profile) (clock : ℕ) (loads : List Load) : Type 0 where
   pub formed : Formed p
+  pub rated : Each Rated loads
   pub few : p .steps ≤ 1 + 2 * length loads
   pub starts : getD (p .at) 0 0 ≡ clock
   pub ends : (i : ℕ) → i < p .steps → getD (p .at) i 0 ≤ max clock (lastUntil loads)
   pub counted : (l : ℕ) → IsLine l → (t : ℕ) → clock ≤ t → levelOf p l t ≡ count loads l t
 
--- no level is large
+-- no level is above that
 abbrev pub Small : Profile → Type 0
-Small p = (l : ℕ) → IsLine l → (t : ℕ) → getD (p .at) 0 0 ≤ t → levelOf p l t < 4294967295
+Small p = (l : ℕ) → IsLine l → (t : ℕ) → getD (p .at) 0 0 ≤ t → levelOf p l t ≤ mostDrawn
 
 -- every step begins by minute b
 abbrev pub StepsBy : ℕ → Profile → Type 0
@@ -82,24 +90,25 @@ pub record CanSplit (p : Profile) (t : ℕ) : Type 0 where
   pub low : getD (p .at) 0 0 ≤ t
 
 -- what one more load asks
-pub record CanAdd (p : Profile) (time start : ℕ) : Type 0 where
+pub record CanAdd (p : Profile) (time rate start : ℕ) : Type 0 where
   pub formed : Formed p
   pub small : Small p
   pub room : p .steps + 2 ≤ mostSteps
+  pub is-rate : IsRate rate
   pub ends-fit : start + time < 2 ^ 32
 
 -- q is p with one more load: each line has its level and what the load draws, in every minute from the first on
-pub record LoadAdded (p q : Profile) (line time start : ℕ) : Type 0 where
+pub record LoadAdded (p q : Profile) (line time rate start : ℕ) : Type 0 where
   pub formed : Formed q
   pub few : q .steps ≤ p .steps + 2
   pub starts : firstMinute q ≡ firstMinute p
   pub ends : (b : ℕ) → StepsBy b p → start + time ≤ b → StepsBy b q
-  pub level : (l : ℕ) → IsLine l → (t : ℕ) → firstMinute p ≤ t → levelOf q l t ≡ levelOf p l t + draws (loadFrom (draw line time) start) l t
+  pub level : (l : ℕ) → IsLine l → (t : ℕ) → firstMinute p ≤ t → levelOf q l t ≡ levelOf p l t + draws (loadFrom (draw line time rate) start) l t
 
 -- whatever loads p shows, q shows them and one more
-abbrev pub Added : Profile → Profile → ℕ → ℕ → ℕ → Type 0
-Added p q line time start =
-    (clock : ℕ) (loads : List Load) → Shows p clock loads → Shows q clock (added loads (draw line time) start)
+abbrev pub Added : Profile → Profile → ℕ → ℕ → ℕ → ℕ → Type 0
+Added p q line time rate start =
+    (clock : ℕ) (loads : List Load) → Shows p clock loads → Shows q clock (added loads (draw line time rate) start)
 
 -- an answer of the code as what a search of the rules finds
 abbrev pub foundAt : When → Found

@@ -62,6 +62,6 @@ pub record DoubledIn (a b : List ℕ) (n i : ℕ) : Type 0 where
   pub size : length b ≡ columns * mostSteps
   pub each : (l : ℕ) → IsLine l → Doubled (lineIn a l) (lineIn b l) n i
 
-pub record RaisedIn (a b : List ℕ) (line i j : ℕ) : Type 0 where
+pub record RaisedIn (a b : List ℕ) (line rate i j : ℕ) : Type 0 where
   pub size : length b ≡ columns * mostSteps
-  pub each : (l : ℕ) → IsLine l → Raised (lineIn a l) (lineIn b l) i j (share line l)
+  pub each : (l : ℕ) → IsLine l → Raised (lineIn a l) (lineIn b l) i j (share line rate l)

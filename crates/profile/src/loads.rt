@@ -39,10 +39,11 @@ pub fn add(
     n: usize,
     line: u32,
     time: u32,
+    rate: u32,
     start: u32,
 ) -> usize
-    requires { ⌜ CanAdd (profileOf n (now at) (now counts)) time start ⌝ }
-    ensures { λ r. ⌜ LoadAdded (profileOf n (now (at .entry)) (now (counts .entry))) (profileOf r (now (at .exit)) (now (counts .exit))) line time start ⌝ }
+    requires { ⌜ CanAdd (profileOf n (now at) (now counts)) time rate start ⌝ }
+    ensures { λ r. ⌜ LoadAdded (profileOf n (now (at .entry)) (now (counts .entry))) (profileOf r (now (at .exit)) (now (counts .exit))) line time rate start ⌝ }
 {
     let until = start + time;
     let from = larger(at[0], start);
@@ -57,6 +58,6 @@ pub fn add(
     }
     let a = split(at, counts, n, from);
     let b = split(at, counts, a.steps, until);
-    raise(counts, line as usize, a.step, b.step);
+    raise(counts, line as usize, rate, a.step, b.step);
     b.steps
 }

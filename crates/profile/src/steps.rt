@@ -37,15 +37,15 @@ pub fn shift(a: &mut [u32], low: usize, high: usize, w: usize)
     }
 }
 
-// One more on the line in the steps from i up to j.
-pub fn raise(counts: &mut [u32; COLUMNS * STEPS], line: usize, i: usize, j: usize)
-    requires { ⌜ (length (now counts) ≡ columns * mostSteps) × IsLine line × (i ≤ j) × (j ≤ mostSteps) × ((m : ℕ) → m < j → lineIn (now counts) line m + 1 < 2 ^ 32) ⌝ }
-    ensures { λ r. ⌜ RaisedIn (now (counts .entry)) (now (counts .exit)) line i j ⌝ }
+// The rate more on the line in the steps from i up to j.
+pub fn raise(counts: &mut [u32; COLUMNS * STEPS], line: usize, rate: u32, i: usize, j: usize)
+    requires { ⌜ (length (now counts) ≡ columns * mostSteps) × IsLine line × (i ≤ j) × (j ≤ mostSteps) × ((m : ℕ) → m < j → lineIn (now counts) line m + rate < 2 ^ 32) ⌝ }
+    ensures { λ r. ⌜ RaisedIn (now (counts .entry)) (now (counts .exit)) line rate i j ⌝ }
 {
     let mut k = i;
     while k < j {
         let p = COLUMNS * k + line - 1;
-        counts[p] = counts[p] + 1;
+        counts[p] = counts[p] + rate;
         k += 1;
     }
 }

@@ -54,8 +54,8 @@ module _ {s : Station} (c : Call) {ss list after : List ℕ} {a : code.Answer} {
 after-report :
     (s : State) (c : Call) (ss after : List ℕ) (places : ℕ) {a : code.Answer} {next : Station} → Lent (lends c) places
     → Applies s c ss (lentList places) after a next → after ≡ reportOf s (callOf c ss (lentList places))
-after-report s (Preview line time due) ss after places e p = p .stays ∙ ap lentList e
-after-report s (Commit line time due shown) ss after places e p = p .stays ∙ ap lentList e
+after-report s (Preview line time due rate) ss after places e p = p .stays ∙ ap lentList e
+after-report s (Commit line time due rate shown) ss after places e p = p .stays ∙ ap lentList e
 after-report s (Move target) ss after places e p = ap (λ (x : Result). x .list) (p .gives .result)
 after-report s Offer ss after places e p = p .stays ∙ ap lentList e
 after-report s ReplanLatest ss after places e p = p .stays ∙ ap lentList e

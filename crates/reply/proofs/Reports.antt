@@ -31,8 +31,8 @@ text-same (previewed u) list other e = refl
 text-same (committed t u) list other e = refl
 text-same (moved k d) list other e = rw e
 text-same (planned c b a k) list other e = refl
-text-same (waiting u) list other e = refl
-text-same (charging u v) list other e = refl
+text-same (waiting u w) list other e = refl
+text-same (charging u v w) list other e = refl
 
 refused-none : (i : ℕ) (s : State) (list : List ℕ) (r : Result) → pairsOf (r .answer) ≡ 0 → pairsOf (answering i s list r .answer) ≡ 0
 refused-none zero s list r e = e
@@ -56,7 +56,7 @@ enquired-none clock (c ∷ cs) ticket = go (eqb (c .ticket) ticket) (isBegun clo
   where
     go :
         (a b : Bool) → pairsOf (rules.told clock cs ticket) ≡ 0
-        → pairsOf (cond a (cond b (charging (c .start) (endOf c)) (waiting (c .start))) (rules.told clock cs ticket)) ≡ 0
+        → pairsOf (cond a (cond b (charging (c .start) (endOf c) (c .rate)) (waiting (c .start) (c .rate))) (rules.told clock cs ticket)) ≡ 0
     go true true h = refl
     go true false h = refl
     go false b h = h
@@ -87,10 +87,10 @@ pub reports :
     (s : State) (c : Call) (ss list : List ℕ) → length (s .charges) ≤ 180
     → Reports (lends c) (pairsOf (step s (callOf c ss list) .answer)) (length list)
 unfolding previewing committing offering replanningLatest replanningLines enquiring
-reports s (Preview line time due) ss list few =
-    refused-none (firstOf (refusals s (preview line time due))) s [] (previewing s line time due) (previewed-none s (startFor s (drawFor s line time)))
-reports s (Commit line time due shown) ss list few =
-    refused-none (firstOf (refusals s (commit line time due shown))) s [] (committing s line time due shown) refl
+reports s (Preview line time due rate) ss list few =
+    refused-none (firstOf (refusals s (preview line time due rate))) s [] (previewing s line time due rate) (previewed-none s (startFor s (drawFor s line time rate)))
+reports s (Commit line time due rate shown) ss list few =
+    refused-none (firstOf (refusals s (commit line time due rate shown))) s [] (committing s line time due rate shown) refl
 reports s (Move target) ss list few = few-moved s target list few
 reports s Offer ss list few = refused-none (firstOf (refusals s (offer ss))) s ss (offering s ss) (tested-none s 0 (replan.starts ss) ss)
 reports s ReplanLatest ss list few = tested-none s 0 (latest (limitsOf s) (s .clock) (s .charges)) []

@@ -33,8 +33,8 @@ answered s request = reply s (readRequest request)
 
 -- what a call leaves at the front of the list that is lent for reports: a clock move alone reports
 abbrev pub reportOf : State → Call → List ℕ
-reportOf s (preview line time due) = []
-reportOf s (commit line time due shown) = []
+reportOf s (preview line time due rate) = []
+reportOf s (commit line time due rate shown) = []
 reportOf s (move target list) = calls.step s (move target list) .list
 reportOf s (offer starts) = []
 reportOf s replanLatest = []

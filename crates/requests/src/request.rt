@@ -56,8 +56,8 @@ fn taken(name: CallName) -> Takes
 {
     match name {
         CallName::Open => Takes::Between { least: 2, most: 2 },
-        CallName::Preview => Takes::Between { least: 3, most: 3 },
-        CallName::Commit => Takes::Between { least: 4, most: 4 },
+        CallName::Preview => Takes::Between { least: 4, most: 4 },
+        CallName::Commit => Takes::Between { least: 5, most: 5 },
         CallName::Move => Takes::Between { least: 2, most: 2 },
         CallName::Offer => Takes::Between {
             least: 0,
@@ -115,6 +115,7 @@ fn call_of(name: CallName, numbers: &[u32]) -> Request
     let second = number_at(numbers, 1);
     let third = number_at(numbers, 2);
     let fourth = number_at(numbers, 3);
+    let fifth = number_at(numbers, 4);
     match name {
         CallName::Open => Request::Open {
             settings: Settings {
@@ -127,6 +128,7 @@ fn call_of(name: CallName, numbers: &[u32]) -> Request
                 line: first,
                 time: second,
                 due: third,
+                rate: fourth,
             },
             starts: 0,
             places: 0,
@@ -136,7 +138,8 @@ fn call_of(name: CallName, numbers: &[u32]) -> Request
                 line: first,
                 time: second,
                 due: third,
-                shown: fourth,
+                rate: fourth,
+                shown: fifth,
             },
             starts: 0,
             places: 0,

@@ -12,9 +12,10 @@ use Rattle.rules.specs.CasesAToL.{callsG, casesAToL}
 use Rattle.rules.specs.CasesAtEdges.{casesAtEdges}
 use Rattle.rules.specs.CasesInAHurry.{casesInAHurry}
 use Rattle.rules.specs.CasesPreviewed.{casesPreviewed}
+use Rattle.rules.specs.CasesOfTwoRates.{casesOfTwoRates}
 
 abbrev pub cases : List Case
-cases = casesAToL ++ casesAtEdges ++ casesInAHurry ++ casesPreviewed
+cases = casesAToL ++ casesAtEdges ++ casesInAHurry ++ casesPreviewed ++ casesOfTwoRates
 
 pub cases-hold : map computed cases ≡ cases
 unfolding limited balanced sound earliest earliestUnder firstUnbalanced placeAll latest round roundsFrom byLines judged opening previewing committing moving offering replanningLatest replanningLines enquiring
@@ -34,7 +35,7 @@ abbrev lastTicket : State
 lastTicket = record { limit = 1; percent = 100; bound = 1; clock = 0; next = 65535; charges = [] }
 
 pub last-ticket-given :
-    map (λ r. r .answer) (run lastTicket (commit 1 1 60 0 ∷ preview 1 1 60 ∷ commit 1 1 60 9 ∷ []))
+    map (λ r. r .answer) (run lastTicket (commit 1 1 60 1 0 ∷ preview 1 1 60 1 ∷ commit 1 1 60 1 9 ∷ []))
     ≡ committed 65535 0 ∷ refused 14 ∷ refused 14 ∷ []
 unfolding limited balanced sound earliest committing
 last-ticket-given = refl

@@ -7,7 +7,7 @@ use native.Mathlib.Omega.{arith}
 use lib.ListN.{length, length-append}
 use borrow.Author.Tests.{leb-false, not-true}
 use Rattle.rules.specs.Basics.{Each, at}
-use Rattle.rules.specs.Load.{counts, lastUntil, sound}
+use Rattle.rules.specs.Load.{Limits, counts, lastUntil, sound}
 use Rattle.rules.specs.Charge.{Charge, endOf, loadOf, loadsOf, isFinished, unfinishedCharges, lastEnd}
 use Rattle.rules.specs.Calls.{places, State, limitsOf, holding, newCharge, drawFor, startFor, taking}
 use Rattle.rules.specs.Valid.{ValidCharge, Rising, ValidState}
@@ -26,7 +26,7 @@ pub still-valid :
     → 1 ≤ next
     → next ≤ 65536
     → length cs ≤ places
-    → Each (ValidCharge clock next) cs
+    → Each (ValidCharge (limitsOf s) clock next) cs
     → Rising 1 cs
     → lastEnd cs ≤ clock + 1440 * (next - 1)
     → sound (limitsOf s) clock (loadsOf cs) ≡ true
@@ -51,13 +51,13 @@ still-valid s clock next cs v clock-high next-low next-high few each rising ends
 
 -- a charge that is held later, and has not ended
 valid-later :
-    (clock later next more : ℕ) (c : Charge)
+    (y : Limits) (clock later next more : ℕ) (c : Charge)
     → clock ≤ later
     → next ≤ more
     → later < endOf c
-    → ValidCharge clock next c
-    → ValidCharge later more c
-valid-later clock later next more c h j unfinished v =
+    → ValidCharge y clock next c
+    → ValidCharge y later more c
+valid-later y clock later next more c h j unfinished v =
     record {
       ticket-low = v .ticket-low;
       ticket-given = omega (arith, v .ticket-given);
@@ -68,24 +68,27 @@ valid-later clock later next more c h j unfinished v =
       ordered = omega (arith, v .ordered);
       not-early = v .not-early;
       unfinished = unfinished;
+      rate = v .rate;
+      within-limit = v .within-limit;
+      within-bound = v .within-bound;
     }
 
 pub commit-valid :
-    (s : State) (line p d start : ℕ)
+    (s : State) (line p d rate start : ℕ)
     → ValidState s
-    → OrderGranted s line p d
-    → startFor s (drawFor s line p) ≡ at start
-    → ValidState (taking s (newCharge s line p d start))
-commit-valid s line p d start v g f =
-    let new : Charge = newCharge s line p d start in
-    let r = earliest-first (limitsOf s) (s .clock) (loadsOf (s .charges)) (drawFor s line p) start f in
+    → OrderGranted s line p d rate
+    → startFor s (drawFor s line p rate) ≡ at start
+    → ValidState (taking s (newCharge s line p d rate start))
+commit-valid s line p d rate start v g f =
+    let new : Charge = newCharge s line p d rate start in
+    let r = earliest-first (limitsOf s) (s .clock) (loadsOf (s .charges)) (drawFor s line p rate) start f in
     let low : s .clock ≤ start = r .low in
     let high : start < s .clock + suc (lastUntil (loadsOf (s .charges)) - s .clock) = r .high in
     still-valid s (s .clock) (suc (s .next)) (taking s new .charges) v (v .clock-high) (omega arith) (omega (arith, g .ticket-left))
     (rw (length-append (s .charges) (new ∷ [])) (omega (arith, g .room)))
-    (each-append (ValidCharge (s .clock) (suc (s .next))) (s .charges) (new ∷ [])
-    (each-map (ValidCharge (s .clock) (s .next)) (ValidCharge (s .clock) (suc (s .next)))
-    (λ c h. valid-later (s .clock) (s .clock) (s .next) (suc (s .next)) c (omega arith) (omega arith) (h .unfinished) h)
+    (each-append (ValidCharge (limitsOf s) (s .clock) (suc (s .next))) (s .charges) (new ∷ [])
+    (each-map (ValidCharge (limitsOf s) (s .clock) (s .next)) (ValidCharge (limitsOf s) (s .clock) (suc (s .next)))
+    (λ c h. valid-later (limitsOf s) (s .clock) (s .clock) (s .next) (suc (s .next)) c (omega arith) (omega arith) (h .unfinished) h)
     (s .charges) (v .each)) (
       record {
         ticket-low = v .next-low;
@@ -97,11 +100,14 @@ commit-valid s line p d start v g f =
         ordered = omega arith;
         not-early = low;
         unfinished = omega (arith, g .time-low);
+        rate = g .is-rate;
+        within-limit = g .within-limit;
+        within-bound = g .within-bound;
       },
       tt,
     ))
     (rising-append 1 (s .charges) new (v .rising) (v .next-low)
-    (each-map (ValidCharge (s .clock) (s .next)) (λ x. x .ticket < s .next) (λ c h. h .ticket-given) (s .charges)
+    (each-map (ValidCharge (limitsOf s) (s .clock) (s .next)) (λ x. x .ticket < s .next) (λ c h. h .ticket-given) (s .charges)
     (v .each)))
     (rw (lastEnd-more (s .charges) new)
     (omega (arith, g .time-high, v .ends-high, v .next-low, last-until (s .charges))))
@@ -116,13 +122,13 @@ move-valid s target list v g =
     let left : List Charge = unfinishedCharges target (s .charges) in
     still-valid s target (s .next) left v (g .target-high) (v .next-low) (v .next-high)
     (omega (arith, v .few, length-keep (λ c. not (isFinished target c)) (s .charges)))
-    (each-map (λ c. ValidCharge (s .clock) (s .next) c × (not (isFinished target c) ≡ true))
-    (ValidCharge target (s .next))
+    (each-map (λ c. ValidCharge (limitsOf s) (s .clock) (s .next) c × (not (isFinished target c) ≡ true))
+    (ValidCharge (limitsOf s) target (s .next))
     (λ c p.
-    valid-later (s .clock) target (s .next) (s .next) c (g .not-back) (omega arith)
+    valid-later (limitsOf s) (s .clock) target (s .next) (s .next) c (g .not-back) (omega arith)
     (leb-false (endOf c) target (not-true (isFinished target c) (p .1))) (p .0))
     left
-    (each-keep (ValidCharge (s .clock) (s .next)) (λ c. not (isFinished target c)) (s .charges) (v .each)))
+    (each-keep (ValidCharge (limitsOf s) (s .clock) (s .next)) (λ c. not (isFinished target c)) (s .charges) (v .each)))
     (rising-keep 1 (λ c. not (isFinished target c)) (s .charges) (v .rising))
     (lastEnd-each (target + 1440 * (s .next - 1)) left
     (each-map (λ c. (endOf c ≤ lastEnd (s .charges)) × (not (isFinished target c) ≡ true))

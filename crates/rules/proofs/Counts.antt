@@ -12,15 +12,15 @@ use Rattle.rules.proofs.Ranges.{and-left, and-right, and-both, througho
 
 -- Counts
 
-pub share-most : (i l : ℕ) → share i l ≤ 1
-share-most i l = go (eqb i l)
+pub share-most : (i rate l : ℕ) → share i rate l ≤ rate
+share-most i rate l = go (eqb i l)
   where
-    go : (b : Bool) → cond {A = ℕ} b 1 0 ≤ 1
+    go : (b : Bool) → cond b rate 0 ≤ rate
     go true = omega arith
     go false = omega arith
 
-pub share-own : (l : ℕ) → share l l ≡ 1
-share-own l = rw (eq-eqb l l refl)
+pub share-own : (l rate : ℕ) → share l rate l ≡ rate
+share-own l rate = rw (eq-eqb l l refl)
 
 pub draws-before : (x : Load) (l t : ℕ) → t < x .from → draws x l t ≡ 0
 draws-before x l t h = rw (lt-leb (x .from) t h)
@@ -28,14 +28,14 @@ draws-before x l t h = rw (lt-leb (x .from) t h)
 pub draws-after : (x : Load) (l t : ℕ) → x .until ≤ t → draws x l t ≡ 0
 draws-after x l t h = rw (le-ltb t (x .until) h, and-false (leb (x .from) t))
 
-pub draws-in : (x : Load) (l t : ℕ) → x .from ≤ t → t < x .until → draws x l t ≡ share (x .line) l
+pub draws-in : (x : Load) (l t : ℕ) → x .from ≤ t → t < x .until → draws x l t ≡ share (x .line) (x .rate) l
 draws-in x l t h j = rw (le-leb (x .from) t h, lt-ltb t (x .until) j)
 
-pub draws-most : (x : Load) (l t : ℕ) → draws x l t ≤ 1
+pub draws-most : (x : Load) (l t : ℕ) → draws x l t ≤ x .rate
 draws-most x l t = go (active x t)
   where
-    go : (b : Bool) → cond b (share (x .line) l) 0 ≤ 1
-    go true = share-most (x .line) l
+    go : (b : Bool) → cond b (share (x .line) (x .rate) l) 0 ≤ x .rate
+    go true = share-most (x .line) (x .rate) l
     go false = omega arith
 
 pub count-append : (xs ys : List Load) (l t : ℕ) → count (xs ++ ys) l t ≡ count xs l t + count ys l t
@@ -109,9 +109,9 @@ sound-same y f g e s =
       balance = λ l m j i. rw (e l j, e m i) (s .balance l m j i);
     }
 
--- no count is above 1
-pub sound-few : (y : Limits) (f : ℕ → ℕ) → 1 ≤ y .limit → 1 ≤ y .bound → ((l : ℕ) → f l ≤ 1) → Sound y f
-sound-few y f n d h =
+-- no count is above what limit and bound both allow
+pub sound-few : (y : Limits) (f : ℕ → ℕ) (k : ℕ) → k ≤ y .limit → k ≤ y .bound → ((l : ℕ) → f l ≤ k) → Sound y f
+sound-few y f k n d h =
     record { limit = λ l j. omega (arith, h l); balance = λ l m j i. omega (arith, h l) }
 
 -- Every minute from the clock on

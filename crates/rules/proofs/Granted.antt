@@ -8,7 +8,7 @@ use lib.Dec.{ltb, eqb}
 use lib.ListN.{length}
 use borrow.Author.Tests.{ltb-false, leb-false, not-false, eqb-true, eqb-false, eq-eqb}
 use Rattle.rules.specs.Basics.{Found, at, nothing, firstOf, some}
-use Rattle.rules.specs.Load.{IsLine}
+use Rattle.rules.specs.Load.{IsLine, IsRate}
 use Rattle.rules.specs.Charge.{Charge, waitingCharges}
 use Rattle.rules.specs.Calls.{Settings, State, boundOf, openRefusals, Call, preview, commit, move, offer, replanLatest, replanLines, enquire, drawFor, startFor, isStart, orderRefusals, refusals}
 use Rattle.rules.proofs.Ranges.{or-left, or-right}
@@ -18,8 +18,8 @@ use Rattle.rules.proofs.Tables.{NoneHolds, Numbered, firstOf-none, none
 -- No number of a table is 0, so number 0 says that no condition holds.
 
 pub refusals-numbered : (s : State) (c : Call) → Numbered (refusals s c)
-refusals-numbered s (preview line p d) = omega arith
-refusals-numbered s (commit line p d shown) = omega arith
+refusals-numbered s (preview line p d rate) = omega arith
+refusals-numbered s (commit line p d rate shown) = omega arith
 refusals-numbered s (move target list) = omega arith
 refusals-numbered s (offer ss) = omega arith
 refusals-numbered s replanLatest = tt
@@ -51,16 +51,19 @@ open-granted x (limit, (percent, (bound, end))) =
 
 -- The calls
 
-pub record OrderGranted (s : State) (line p d : ℕ) : Type 0 where
+pub record OrderGranted (s : State) (line p d rate : ℕ) : Type 0 where
   pub is-line : IsLine line
   pub time-low : 1 ≤ p
   pub time-high : p ≤ 1440
+  pub is-rate : IsRate rate
+  pub within-limit : rate ≤ s .limit
+  pub within-bound : rate ≤ s .bound
   pub due-high : d ≤ 2000000
   pub room : length (s .charges) < 180
   pub ticket-left : s .next ≤ 65535
 
-pub order-granted : (s : State) (line p d : ℕ) → NoneHolds (orderRefusals s line p d) → OrderGranted s line p d
-order-granted s line p d (on, (time, (due, (full, (given, end))))) =
+pub order-granted : (s : State) (line p d rate : ℕ) → NoneHolds (orderRefusals s line p d rate) → OrderGranted s line p d rate
+order-granted s line p d rate (on, (time, (rated, (within, (due, (full, (given, end))))))) =
     record {
       is-line =
           record {
@@ -69,6 +72,13 @@ order-granted s line p d (on, (time, (due, (full, (given, end))))) =
           };
       time-low = ltb-false p 1 (or-left (ltb p 1) (ltb 1440 p) time);
       time-high = ltb-false 1440 p (or-right (ltb p 1) (ltb 1440 p) time);
+      is-rate =
+          record {
+            low = ltb-false rate 1 (or-left (ltb rate 1) (ltb 2 rate) rated);
+            high = ltb-false 2 rate (or-right (ltb rate 1) (ltb 2 rate) rated);
+          };
+      within-limit = ltb-false (s .limit) rate (or-left (ltb (s .limit) rate) (ltb (s .bound) rate) within);
+      within-bound = ltb-false (s .bound) rate (or-right (ltb (s .limit) rate) (ltb (s .bound) rate) within);
       due-high = ltb-false 2000000 d due;
       room = leb-false 180 (length (s .charges)) full;
       ticket-left = ltb-false 65535 (s .next) given;
@@ -86,22 +96,22 @@ shown-start f shown e = rw (e, eq-eqb shown shown refl)
 -- a commit meets no refusal exactly where its order meets none and the start shown is the earliest
 
 pub commit-granted :
-    (s : State) (line p d shown : ℕ)
-    → NoneHolds (refusals s (commit line p d shown))
-    → NoneHolds (orderRefusals s line p d) × (startFor s (drawFor s line p) ≡ at shown)
-commit-granted s line p d shown e =
-    let found : Found = startFor s (drawFor s line p) in
-    let r = none-front (orderRefusals s line p d) ((not (isStart found shown), 16) ∷ []) e in
+    (s : State) (line p d rate shown : ℕ)
+    → NoneHolds (refusals s (commit line p d rate shown))
+    → NoneHolds (orderRefusals s line p d rate) × (startFor s (drawFor s line p rate) ≡ at shown)
+commit-granted s line p d rate shown e =
+    let found : Found = startFor s (drawFor s line p rate) in
+    let r = none-front (orderRefusals s line p d rate) ((not (isStart found shown), 16) ∷ []) e in
     (r .0, start-shown found shown (not-false (isStart found shown) (r .1 .0)))
 
 pub granted-commit :
-    (s : State) (line p d shown : ℕ)
-    → NoneHolds (orderRefusals s line p d)
-    → startFor s (drawFor s line p) ≡ at shown
-    → NoneHolds (refusals s (commit line p d shown))
-granted-commit s line p d shown e f =
-    let found : Found = startFor s (drawFor s line p) in
-    each-append (λ row. row .0 ≡ false) (orderRefusals s line p d) ((not (isStart found shown), 16) ∷ []) e
+    (s : State) (line p d rate shown : ℕ)
+    → NoneHolds (orderRefusals s line p d rate)
+    → startFor s (drawFor s line p rate) ≡ at shown
+    → NoneHolds (refusals s (commit line p d rate shown))
+granted-commit s line p d rate shown e f =
+    let found : Found = startFor s (drawFor s line p rate) in
+    each-append (λ row. row .0 ≡ false) (orderRefusals s line p d rate) ((not (isStart found shown), 16) ∷ []) e
     (rw (shown-start found shown f), tt)
 
 pub record MoveGranted (s : State) (target : ℕ) (list : List ℕ) : Type 0 where

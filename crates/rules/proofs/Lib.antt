@@ -20,3 +20,6 @@ pub mod Restarts
 pub mod Validity
 pub mod Shown
 pub mod Earlier
+pub mod Unrated
+pub mod UnratedPlans
+pub mod RateOne

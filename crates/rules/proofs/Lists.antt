@@ -96,6 +96,10 @@ pub each-append : {A : Type 0} (P : A → Type 0) (l m : List A) → Each P l �
 each-append P [] m d e = e
 each-append P (a ∷ l) m d e = (d .0, each-append P l m (d .1) e)
 
+pub each-right : {A : Type 0} (P : A → Type 0) (l m : List A) → Each P (l ++ m) → Each P m
+each-right P [] m e = e
+each-right P (a ∷ l) m e = each-right P l m (e .1)
+
 pub each-keep :
     {A : Type 0} (P : A → Type 0) (f : A → Bool) (l : List A) → Each P l → Each (λ a. P a × (f a ≡ true)) (keep f l)
 each-keep P f [] e = tt
@@ -108,6 +112,9 @@ each-keep P f (a ∷ l) e = go (f a) refl (each-keep P f l (e .1))
         → Each (λ a. P a × (f a ≡ true)) (cond b (a ∷ keep f l) (keep f l))
     go true p r = ((e .0, p), r)
     go false p r = r
+
+pub keep-each : {A : Type 0} (P : A → Type 0) (f : A → Bool) (l : List A) → Each P l → Each P (keep f l)
+keep-each P f l e = each-map (λ a. P a × (f a ≡ true)) P (λ a p. p .0) (keep f l) (each-keep P f l e)
 
 -- what each member of a list made by place has, each place has, and the other way round
 pub each-tabulate :

@@ -63,6 +63,26 @@ restarted-each P f empty e = tt
 restarted-each P f (same r) e = (e .0, restarted-each P f r (e .1))
 restarted-each P f (other {c = c} {s = s} h j r) e = (f c s j (e .0), restarted-each P f r (e .1))
 
+-- of the definition itself, whatever the starts
+pub each-restarted :
+    (P : Charge → Type 0)
+    → ((x : Charge) (s : ℕ) → P x → P (starting x s))
+    → (clock : ℕ) (xs : List Charge) (ss : List ℕ)
+    → Each P xs
+    → Each P (restarted clock xs ss)
+each-restarted P f clock [] ss e = tt
+each-restarted P f clock (x ∷ xs) [] e = e
+each-restarted P f clock (x ∷ xs) (s ∷ ss) e =
+    go (isBegun clock x) (each-restarted P f clock xs (s ∷ ss) (e .1)) (each-restarted P f clock xs ss (e .1))
+  where
+    go :
+        (b : Bool)
+        → Each P (restarted clock xs (s ∷ ss))
+        → Each P (restarted clock xs ss)
+        → Each P (cond b (x ∷ restarted clock xs (s ∷ ss)) (starting x s ∷ restarted clock xs ss))
+    go true u v = (e .0, u)
+    go false u v = (f x s (e .0), v)
+
 pub restarted-rising : (i : ℕ) {clock : ℕ} {cs ds : List Charge} → Restarted clock cs ds → Rising i cs → Rising i ds
 restarted-rising i empty n = tt
 restarted-rising i (same {c = c} r) n = (n .0, restarted-rising (suc (c .ticket)) r (n .1))
@@ -81,7 +101,7 @@ plan-valid s ss v m =
     = restarted-is (s .clock) (s .charges) ss (m .none-early) in
     still-valid s (s .clock) (s .next) new v (v .clock-high) (v .next-low) (v .next-high)
     (rw (restarted-length r) (v .few))
-    (restarted-each (ValidCharge (s .clock) (s .next))
+    (restarted-each (ValidCharge (limitsOf s) (s .clock) (s .next))
     (λ c u h p.
     record {
       ticket-low = p .ticket-low;
@@ -93,6 +113,9 @@ plan-valid s ss v m =
       ordered = p .ordered;
       not-early = omega (arith, p .ordered);
       unfinished = omega (arith, p .time-low);
+      rate = p .rate;
+      within-limit = p .within-limit;
+      within-bound = p .within-bound;
     })
     r (v .each))
     (restarted-rising 1 r (v .rising))

@@ -7,26 +7,27 @@ use mathlib.Core.List.{List, [], _∷_, _++_, map, append-assoc, append-nil}
 use native.Mathlib.Omega.{arith}
 use lib.Dec.{leb, eqb}
 use borrow.Author.Tests.{leb-true, leb-false, le-leb}
-use Rattle.rules.specs.Basics.{Found, at}
+use Rattle.rules.specs.Basics.{Found, at, Each}
 use Rattle.rules.specs.Load.{IsLine, onLines}
-use Rattle.rules.specs.Charge.{Charge, starting, drawOf, loadsOf, begunCharges, waitingCharges}
+use Rattle.rules.specs.Charge.{Charge, starting, drawOf, loadsOf, isWaiting, begunCharges, waitingCharges}
 use Rattle.rules.specs.Search.{Caps}
-use Rattle.rules.specs.Replan.{all, placeAll, cappedStart, lineByLine, lowestLine, largestLine, smallestLine, lowered}
+use Rattle.rules.specs.Replan.{latestStartBefore, byLatestStart, all, placeAll, cappedStart, onLine, lineByLine, lowestLine, largestLine, smallestLine, lowered}
 use Rattle.rules.proofs.Ranges.{fails, below-or-not}
-use Rattle.rules.proofs.Lists.{map-append}
+use Rattle.rules.proofs.Lists.{map-append, each-append, keep-each}
+use Rattle.rules.proofs.Sorting.{sorted-rearranged, each-rearranged}
 use Rattle.rules.proofs.Counts.{onLines-at, onLines-all}
 use Rattle.rules.proofs.Searches.{under-found}
 
 -- Caps
 
--- a cap is never below 1
-abbrev pub AtLeastOne : Caps → Type 0
-AtLeastOne cap = (l t : ℕ) → 1 ≤ cap l t
+-- a cap is never below k
+abbrev pub AtLeast : ℕ → Caps → Type 0
+AtLeast k cap = (l t : ℕ) → k ≤ cap l t
 
-pub lowered-at-least-one : (cap : Caps) (i t v : ℕ) → 1 ≤ v → AtLeastOne cap → AtLeastOne (lowered cap i t v)
-lowered-at-least-one cap i t v h c l u = go (eqb l i && leb t u)
+pub lowered-at-least : (k : ℕ) (cap : Caps) (i t v : ℕ) → k ≤ v → AtLeast k cap → AtLeast k (lowered cap i t v)
+lowered-at-least k cap i t v h c l u = go (eqb l i && leb t u)
   where
-    go : (b : Bool) → 1 ≤ cond b (min (cap l u) v) (cap l u)
+    go : (b : Bool) → k ≤ cond b (min (cap l u) v) (cap l u)
     go true = omega (arith, c l u)
     go false = c l u
 
@@ -151,15 +152,17 @@ pub record AllPlaced (find : List Charge → Charge → Found) (placed cs : List
   pub gives : placeAll find placed cs ≡ all plan
   pub each : tickets plan ≡ tickets placed ++ tickets cs
 
--- a search that always finds a start places every charge
+-- a search that finds a start for each of these charges places them all
 pub all-placed :
-    (find : List Charge → Charge → Found)
-    → ((placed : List Charge) (c : Charge) → (s : ℕ) × (find placed c ≡ at s))
+    (P : Charge → Type 0) (find : List Charge → Charge → Found)
+    → ((placed : List Charge) (c : Charge) → P c → (s : ℕ) × (find placed c ≡ at s))
     → (placed cs : List Charge)
+    → Each P cs
     → AllPlaced find placed cs
 unfolding placeAll
-all-placed find h placed [] = record { plan = placed; gives = refl; each = sym (append-nil (tickets placed)) }
-all-placed find h placed (c ∷ cs) = go (h placed c) (λ s. all-placed find h (placed ++ (starting c s ∷ [])) cs)
+all-placed P find h placed [] e = record { plan = placed; gives = refl; each = sym (append-nil (tickets placed)) }
+all-placed P find h placed (c ∷ cs) e =
+    go (h placed c (e .0)) (λ s. all-placed P find h (placed ++ (starting c s ∷ [])) cs (e .1))
   where
     go :
         (s : ℕ) × (find placed c ≡ at s)
@@ -177,13 +180,26 @@ all-placed find h placed (c ∷ cs) = go (h placed c) (λ s. all-placed find h (
               );
         }
 
--- in a round every charge gets a start
+-- the charges taken line by line are those that wait
+pub each-line-by-line : (P : Charge → Type 0) (cs : List Charge) → Each P cs → Each P (lineByLine cs)
+each-line-by-line P cs e =
+    each-append P (byLatestStart (onLine 1 cs)) (byLatestStart (onLine 2 cs) ++ byLatestStart (onLine 3 cs)) (by 1)
+    (each-append P (byLatestStart (onLine 2 cs)) (byLatestStart (onLine 3 cs)) (by 2) (by 3))
+  where
+    by : (l : ℕ) → Each P (byLatestStart (onLine l cs))
+    by l = each-rearranged P (sorted-rearranged latestStartBefore (onLine l cs)) (keep-each P (λ c. eqb (c .line) l) cs e)
+
+-- in a round every charge gets a start: no cap is below D, for it is N or a count plus D, and no rate is above D
 pub round-places :
-    (cap : Caps) (clock : ℕ) (held : List Charge)
-    → AtLeastOne cap
+    (k : ℕ) (cap : Caps) (clock : ℕ) (held : List Charge)
+    → AtLeast k cap
+    → Each (λ c. c .rate ≤ k) held
     → AllPlaced (cappedStart cap clock (begunCharges clock held)) [] (lineByLine (waitingCharges clock held))
-round-places cap clock held h =
-    all-placed (cappedStart cap clock (begunCharges clock held))
-    (λ placed c. under-found cap clock (loadsOf (begunCharges clock held ++ placed)) (drawOf c) (h (c .line)))
+round-places k cap clock held h rates =
+    all-placed (λ c. c .rate ≤ k) (cappedStart cap clock (begunCharges clock held))
+    (λ placed c r.
+    under-found cap clock (loadsOf (begunCharges clock held ++ placed)) (drawOf c) (λ t. omega (arith, h (c .line) t)))
     []
     (lineByLine (waitingCharges clock held))
+    (each-line-by-line (λ c. c .rate ≤ k) (waitingCharges clock held)
+    (keep-each (λ c. c .rate ≤ k) (isWaiting clock) held rates))

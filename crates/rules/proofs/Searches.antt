@@ -27,7 +27,7 @@ count-added-before xs a s l t h =
 
 -- past the last end the new load is alone
 pub count-added-past :
-    (xs : List Load) (a : Draw) (s l t : ℕ) → lastUntil xs ≤ t → count (added xs a s) l t ≤ 1
+    (xs : List Load) (a : Draw) (s l t : ℕ) → lastUntil xs ≤ t → count (added xs a s) l t ≤ a .rate
 count-added-past xs a s l t h =
     rw (count-added xs a s l t, count-past xs l t h) (omega (arith, draws-most (loadFrom a s) l t))
 
@@ -45,8 +45,8 @@ earliest-first y k xs a s e =
 -- where the minutes before the last end are sound without the charge, the last end serves
 at-the-end :
     (y : Limits) (k : ℕ) (xs : List Load) (a : Draw) (s : ℕ)
-    → 1 ≤ y .limit
-    → 1 ≤ y .bound
+    → a .rate ≤ y .limit
+    → a .rate ≤ y .bound
     → lastUntil xs ≤ s
     → ((t : ℕ) → k ≤ t → t < s → Sound y (counts xs t))
     → sound y k (added xs a s) ≡ true
@@ -58,14 +58,14 @@ at-the-end y k xs a s n d le h = sound-true y k (added xs a s) (λ t j. go t j (
         (λ l q. count-added-before xs a s l t i)
         (h t j i)
     go t j (inr i) =
-        sound-few y (counts (added xs a s) t) n d
+        sound-few y (counts (added xs a s) t) (a .rate) n d
         (λ l. count-added-past xs a s l t (omega arith))
 
 -- nothing found: no start at all is sound
 pub earliest-none :
     (y : Limits) (k : ℕ) (xs : List Load) (a : Draw)
-    → 1 ≤ y .limit
-    → 1 ≤ y .bound
+    → a .rate ≤ y .limit
+    → a .rate ≤ y .bound
     → earliest y k xs a ≡ nothing
     → (s : ℕ)
     → k ≤ s
@@ -98,11 +98,11 @@ earliest-none y k xs a n d e s h = go (below-or-not s (k + suc (lastUntil xs - k
     go (inl j) = first-none f (suc (lastUntil xs - k)) k e s h j
     go (inr j) = fails (f s) (beyond (omega arith))
 
--- a sound plan always leaves a start
+-- a sound plan always leaves a start for a rate that is neither above N nor above D
 pub earliest-found :
     (y : Limits) (k : ℕ) (xs : List Load) (a : Draw)
-    → 1 ≤ y .limit
-    → 1 ≤ y .bound
+    → a .rate ≤ y .limit
+    → a .rate ≤ y .bound
     → sound y k xs ≡ true
     → (s : ℕ) × (earliest y k xs a ≡ at s)
 earliest-found y k xs a n d e =
@@ -118,7 +118,7 @@ earliest-found y k xs a n d e =
 
 -- the line's count, the load itself included, is at or below the cap in all its minutes
 abbrev pub Under : Caps → List Load → Draw → ℕ → Type 0
-Under cap xs a s = (t : ℕ) → s ≤ t → t < s + a .time → count xs (a .line) t + 1 ≤ cap (a .line) t
+Under cap xs a s = (t : ℕ) → s ≤ t → t < s + a .time → count xs (a .line) t + a .rate ≤ cap (a .line) t
 
 abbrev pub underTest : Caps → List Load → Draw → ℕ → Bool
 underTest cap xs a s = throughout (λ t. leb (count (added xs a s) (a .line) t) (cap (a .line) t)) (a .time) s
@@ -127,9 +127,9 @@ pub count-added-own :
     (xs : List Load) (a : Draw) (s t : ℕ)
     → s ≤ t
     → t < s + a .time
-    → count (added xs a s) (a .line) t ≡ count xs (a .line) t + 1
+    → count (added xs a s) (a .line) t ≡ count xs (a .line) t + a .rate
 count-added-own xs a s t h j =
-    rw (count-added xs a s (a .line) t, draws-in (loadFrom a s) (a .line) t h j, share-own (a .line))
+    rw (count-added xs a s (a .line) t, draws-in (loadFrom a s) (a .line) t h j, share-own (a .line) (a .rate))
 
 pub under-at :
     (cap : Caps) (xs : List Load) (a : Draw) (s : ℕ) → underTest cap xs a s ≡ true → Under cap xs a s
@@ -153,10 +153,10 @@ pub under-first :
 unfolding earliestUnder
 under-first cap k xs a s e = first-found (underTest cap xs a) (suc (lastUntil xs - k)) k s e
 
--- a cap of at least 1 always leaves a start
+-- a cap that is never below the rate always leaves a start
 pub under-found :
     (cap : Caps) (k : ℕ) (xs : List Load) (a : Draw)
-    → ((t : ℕ) → 1 ≤ cap (a .line) t)
+    → ((t : ℕ) → a .rate ≤ cap (a .line) t)
     → (s : ℕ) × (earliestUnder cap k xs a ≡ at s)
 unfolding earliestUnder
 under-found cap k xs a h =

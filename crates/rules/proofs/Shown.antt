@@ -9,26 +9,26 @@ use Rattle.rules.specs.Basics.{Found, at, nothing, firstOf}
 use Rattle.rules.specs.Calls.{State, refused, previewed, answering, preview, commit, drawFor, startFor, isStart, orderRefusals, refusals, previewedAt, previewing, committing, step}
 use Rattle.rules.specs.Valid.{ValidState}
 use Rattle.rules.proofs.Tables.{NoneHolds, none-firstOf, firstOf-front, firstOf-more}
-use Rattle.rules.proofs.Granted.{refusals-none, granted-commit}
+use Rattle.rules.proofs.Granted.{refusals-none, order-granted, granted-commit}
 use Rattle.rules.proofs.Validity.{order-found}
 
-module _ (s : State) (line p d : ℕ) where
+module _ (s : State) (line p d rate : ℕ) where
   -- a start that is shown
   pub preview-shown :
       (start : ℕ)
-      → previewed start ≡ step s (preview line p d) .answer
-      → NoneHolds (orderRefusals s line p d) × (startFor s (drawFor s line p) ≡ at start)
+      → previewed start ≡ step s (preview line p d rate) .answer
+      → NoneHolds (orderRefusals s line p d rate) × (startFor s (drawFor s line p rate) ≡ at start)
   unfolding previewing
-  preview-shown start e = go (firstOf (orderRefusals s line p d)) refl (startFor s (drawFor s line p)) refl e
+  preview-shown start e = go (firstOf (orderRefusals s line p d rate)) refl (startFor s (drawFor s line p rate)) refl e
     where
       go :
           (i : ℕ)
-          → firstOf (orderRefusals s line p d) ≡ i
+          → firstOf (orderRefusals s line p d rate) ≡ i
           → (f : Found)
-          → startFor s (drawFor s line p) ≡ f
+          → startFor s (drawFor s line p rate) ≡ f
           → previewed start ≡ answering i s [] (previewedAt s f) .answer
-          → NoneHolds (orderRefusals s line p d) × (startFor s (drawFor s line p) ≡ at start)
-      go zero h (at u) q a = let same : u ≡ start = cc in (refusals-none s (preview line p d) h, q ∙ ap at same)
+          → NoneHolds (orderRefusals s line p d rate) × (startFor s (drawFor s line p rate) ≡ at start)
+      go zero h (at u) q a = let same : u ≡ start = cc in (refusals-none s (preview line p d rate) h, q ∙ ap at same)
       go zero h nothing q a = let z : _≡_ {A = ℕ} 0 1 = cc in absurd (omega arith)
       go (suc i) h f q a = let z : _≡_ {A = ℕ} 0 1 = cc in absurd (omega arith)
 
@@ -36,45 +36,47 @@ module _ (s : State) (line p d : ℕ) where
   pub commit-refused :
       (k shown : ℕ)
       → ValidState s
-      → refused k ≡ step s (preview line p d) .answer
-      → step s (commit line p d shown) ≡ record { answer = refused k; state = s; list = [] }
+      → refused k ≡ step s (preview line p d rate) .answer
+      → step s (commit line p d rate shown) ≡ record { answer = refused k; state = s; list = [] }
   unfolding previewing
   commit-refused k shown v e =
-      go (firstOf (orderRefusals s line p d)) refl (startFor s (drawFor s line p)) refl e
+      go (firstOf (orderRefusals s line p d rate)) refl (startFor s (drawFor s line p rate)) refl e
     where
-      found : startFor s (drawFor s line p) ≡ nothing → ⊥
-      found q = let f = order-found s line p v in let same : at (f .0) ≡ nothing = sym (f .1) ∙ q in let z : _≡_ {A = ℕ} 0 1 = cc in omega arith
+      found : firstOf (orderRefusals s line p d rate) ≡ 0 → startFor s (drawFor s line p rate) ≡ nothing → ⊥
+      found h q =
+          let f = order-found s line p d rate v (order-granted s line p d rate (refusals-none s (preview line p d rate) h)) in
+          let same : at (f .0) ≡ nothing = sym (f .1) ∙ q in let z : _≡_ {A = ℕ} 0 1 = cc in omega arith
 
       go :
           (i : ℕ)
-          → firstOf (orderRefusals s line p d) ≡ i
+          → firstOf (orderRefusals s line p d rate) ≡ i
           → (f : Found)
-          → startFor s (drawFor s line p) ≡ f
+          → startFor s (drawFor s line p rate) ≡ f
           → refused k ≡ answering i s [] (previewedAt s f) .answer
-          → step s (commit line p d shown) ≡ record { answer = refused k; state = s; list = [] }
+          → step s (commit line p d rate shown) ≡ record { answer = refused k; state = s; list = [] }
       go zero h (at u) q a = let z : _≡_ {A = ℕ} 0 1 = cc in absurd (omega arith)
-      go zero h nothing q a = absurd (found q)
+      go zero h nothing q a = absurd (found h q)
       go (suc i) h f q a =
           let same : suc i ≡ k = cc in
-          rw (firstOf-front (orderRefusals s line p d) ((not (isStart (startFor s (drawFor s line p)) shown), 16) ∷ []) i h, ← same)
+          rw (firstOf-front (orderRefusals s line p d rate) ((not (isStart (startFor s (drawFor s line p rate)) shown), 16) ∷ []) i h, ← same)
 
-  module _ (free : NoneHolds (orderRefusals s line p d)) where
+  module _ (free : NoneHolds (orderRefusals s line p d rate)) where
     -- "commit whose shown start is not the earliest start at that moment"
     pub commit-other :
         (start shown : ℕ)
-        → startFor s (drawFor s line p) ≡ at start
+        → startFor s (drawFor s line p rate) ≡ at start
         → (start ≡ shown → ⊥)
-        → step s (commit line p d shown) ≡ record { answer = refused 16; state = s; list = [] }
+        → step s (commit line p d rate shown) ≡ record { answer = refused 16; state = s; list = [] }
     commit-other start shown f other =
         rw (
-          firstOf-more (orderRefusals s line p d) ((not (isStart (startFor s (drawFor s line p)) shown), 16) ∷ []) free,
+          firstOf-more (orderRefusals s line p d rate) ((not (isStart (startFor s (drawFor s line p rate)) shown), 16) ∷ []) free,
           f,
           ne-eqb start shown other,
         )
 
     pub commit-taken :
         (shown : ℕ)
-        → startFor s (drawFor s line p) ≡ at shown
-        → step s (commit line p d shown) ≡ committing s line p d shown
+        → startFor s (drawFor s line p rate) ≡ at shown
+        → step s (commit line p d rate shown) ≡ committing s line p d rate shown
     commit-taken shown f =
-        rw (none-firstOf (refusals s (commit line p d shown)) (granted-commit s line p d shown free f))
+        rw (none-firstOf (refusals s (commit line p d rate shown)) (granted-commit s line p d rate shown free f))

@@ -11,7 +11,7 @@ use Rattle.rules.specs.Judgement.{judged}
 use Rattle.rules.specs.Calls.{Settings, settings, State, limitsOf, Result, answering, opened, fresh, boundOf, openRefusals, opening, Call, preview, commit, move, offer, replanLatest, replanLines, enquire, drawFor, startFor, refusals, previewedAt, previewing, committing, moving, decided, tested, offering, replanningLatest, replanningLines, enquiring, step}
 use Rattle.rules.specs.Valid.{ValidState}
 use Rattle.rules.proofs.Tables.{firstOf-none}
-use Rattle.rules.proofs.Granted.{refusals-none, openRefusals-numbered, OpenGranted, open-granted, order-granted, commit-granted, move-granted}
+use Rattle.rules.proofs.Granted.{refusals-none, openRefusals-numbered, OpenGranted, open-granted, OrderGranted, order-granted, commit-granted, move-granted}
 use Rattle.rules.proofs.Searches.{earliest-found}
 use Rattle.rules.proofs.Judgements.{judged-meets}
 use Rattle.rules.proofs.Changes.{commit-valid, move-valid}
@@ -74,17 +74,17 @@ tested-valid s rounds (none cause) list v = v
 
 pub step-valid : (s : State) (c : Call) → ValidState s → ValidState (step s c .state)
 unfolding previewing committing moving offering replanningLatest replanningLines enquiring
-step-valid s (preview line p d) v =
-    answering-valid (firstOf (refusals s (preview line p d))) s [] _ v (λ e. go (startFor s (drawFor s line p)))
+step-valid s (preview line p d rate) v =
+    answering-valid (firstOf (refusals s (preview line p d rate))) s [] _ v (λ e. go (startFor s (drawFor s line p rate)))
   where
     go : (f : Found) → ValidState (previewedAt s f .state)
     go (at start) = v
     go nothing = v
-step-valid s (commit line p d shown) v =
-    answering-valid (firstOf (refusals s (commit line p d shown))) s [] _ v
+step-valid s (commit line p d rate shown) v =
+    answering-valid (firstOf (refusals s (commit line p d rate shown))) s [] _ v
     (λ e.
-    let g = commit-granted s line p d shown (refusals-none s (commit line p d shown) e) in
-    commit-valid s line p d shown v (order-granted s line p d (g .0)) (g .1))
+    let g = commit-granted s line p d rate shown (refusals-none s (commit line p d rate shown) e) in
+    commit-valid s line p d rate shown v (order-granted s line p d rate (g .0)) (g .1))
 step-valid s (move target list) v =
     answering-valid (firstOf (refusals s (move target list))) s list _ v
     (λ e.
@@ -100,7 +100,12 @@ step-valid s (replanLines allowance) v =
 step-valid s (enquire ticket) v =
     answering-valid (firstOf (refusals s (enquire ticket))) s [] _ v (λ e. v)
 
--- an order on a valid station gets a start
-pub order-found : (s : State) (line p : ℕ) → ValidState s → (start : ℕ) × (startFor s (drawFor s line p) ≡ at start)
-order-found s line p v =
-    earliest-found (limitsOf s) (s .clock) (loadsOf (s .charges)) (drawFor s line p) (v .limit-low) (v .bound-low) (v .sound-on)
+-- an order that is not refused gets a start on a valid station: its rate is above neither N nor D
+pub order-found :
+    (s : State) (line p d rate : ℕ)
+    → ValidState s
+    → OrderGranted s line p d rate
+    → (start : ℕ) × (startFor s (drawFor s line p rate) ≡ at start)
+order-found s line p d rate v g =
+    earliest-found (limitsOf s) (s .clock) (loadsOf (s .charges)) (drawFor s line p rate) (g .within-limit) (g .within-bound)
+    (v .sound-on)

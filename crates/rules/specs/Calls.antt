@@ -47,9 +47,9 @@ pub data Answer : Type 0 where
   moved : ℕ → ℕ → Answer
   -- an offer or a replan: "cause, lateness before and after (equal when kept), rounds used"
   planned : ℕ → ℕ → ℕ → ℕ → Answer
-  -- an enquiry: "waiting with its start, charging with start and end"
-  waiting : ℕ → Answer
-  charging : ℕ → ℕ → Answer
+  -- an enquiry: "waiting with its start, charging with start and end", and "enquiries show the rate", last
+  waiting : ℕ → ℕ → Answer
+  charging : ℕ → ℕ → ℕ → Answer
 
 -- an answer, the next station, and the whole of the lent list afterwards (empty where none is lent)
 pub record Result : Type 0 where
@@ -111,10 +111,10 @@ opening x =
 
 -- The calls of a station that stands.
 pub data Call : Type 0 where
-  -- line, p, d
-  preview : ℕ → ℕ → ℕ → Call
-  -- line, p, d, the start shown
-  commit : ℕ → ℕ → ℕ → ℕ → Call
+  -- line, p, d, rate
+  preview : ℕ → ℕ → ℕ → ℕ → Call
+  -- line, p, d, rate, the start shown
+  commit : ℕ → ℕ → ℕ → ℕ → ℕ → Call
   -- target, report list
   move : ℕ → List ℕ → Call
   -- starts
@@ -127,8 +127,8 @@ pub data Call : Type 0 where
 
 -- the list that is lent to a call
 abbrev pub lent : Call → List ℕ
-lent (preview line p d) = []
-lent (commit line p d shown) = []
+lent (preview line p d rate) = []
+lent (commit line p d rate shown) = []
 lent (move target list) = list
 lent (offer ss) = ss
 lent replanLatest = []
@@ -138,13 +138,13 @@ lent (enquire ticket) = []
 -- An order, previewed or committed
 
 -- "The order minute is the clock."
-abbrev pub newCharge : State → ℕ → ℕ → ℕ → ℕ → Charge
-newCharge s line p d start =
-    record { ticket = s .next; line = line; orderMinute = s .clock; time = p; due = d; start = start }
+abbrev pub newCharge : State → ℕ → ℕ → ℕ → ℕ → ℕ → Charge
+newCharge s line p d rate start =
+    record { ticket = s .next; line = line; orderMinute = s .clock; time = p; due = d; start = start; rate = rate }
 
 -- what an order draws, whenever it is due and wherever it starts
-abbrev pub drawFor : State → ℕ → ℕ → Draw
-drawFor s line p = drawOf (newCharge s line p 0 0)
+abbrev pub drawFor : State → ℕ → ℕ → ℕ → Draw
+drawFor s line p rate = drawOf (newCharge s line p 0 rate 0)
 
 -- "The start is the smallest s not below the clock with which the held plan and this charge are sound together."
 abbrev pub startFor : State → Draw → Found
@@ -158,12 +158,16 @@ isStart nothing shown = false
 -- Refusals
 
 -- "Both meet the order's refusals". "Refusal 7 ends": no other condition gets this number.
-abbrev pub orderRefusals : State → ℕ → ℕ → ℕ → List (Bool × ℕ)
-orderRefusals s line p d =
+abbrev pub orderRefusals : State → ℕ → ℕ → ℕ → ℕ → List (Bool × ℕ)
+orderRefusals s line p d rate =
     -- "line not 1 to 3"
     (ltb line 1 || ltb 3 line, 4)
     -- "p not 1 to 1,440"
     ∷ (ltb p 1 || ltb 1440 p, 5)
+    -- "after 5, rate not 1 or 2"
+    ∷ (ltb rate 1 || ltb 2 rate, 17)
+    -- "after 17, rate above N or above D"
+    ∷ (ltb (s .limit) rate || ltb (s .bound) rate, 18)
     -- "d above 2,000,000"
     ∷ (ltb 2000000 d, 6)
     -- "180 charges held"
@@ -174,11 +178,11 @@ orderRefusals s line p d =
 
 -- "Where several apply": the first of the call's table, for a refusal's "stated place goes before its number".
 abbrev pub refusals : State → Call → List (Bool × ℕ)
-refusals s (preview line p d) = orderRefusals s line p d
-refusals s (commit line p d shown) =
-    orderRefusals s line p d
+refusals s (preview line p d rate) = orderRefusals s line p d rate
+refusals s (commit line p d rate shown) =
+    orderRefusals s line p d rate
     -- "after 14, commit whose shown start is not the earliest start at that moment"
-    ++ ((not (isStart (startFor s (drawFor s line p)) shown), 16) ∷ [])
+    ++ ((not (isStart (startFor s (drawFor s line p rate)) shown), 16) ∷ [])
 refusals s (move target list) =
     -- "target above 1,000,000"
     (ltb 1000000 target, 8)
@@ -206,8 +210,8 @@ abbrev pub previewedAt : State → Found → Result
 previewedAt s (at start) = record { answer = previewed start; state = s; list = [] }
 previewedAt s nothing = record { answer = refused 0; state = s; list = [] }
 
-unfoldable pub previewing : State → ℕ → ℕ → ℕ → Result
-previewing s line p d = previewedAt s (startFor s (drawFor s line p))
+unfoldable pub previewing : State → ℕ → ℕ → ℕ → ℕ → Result
+previewing s line p d rate = previewedAt s (startFor s (drawFor s line p rate))
 
 -- Commit
 
@@ -224,9 +228,9 @@ taking s c =
     }
 
 -- "The commit gives a ticket and exactly that start."
-unfoldable pub committing : State → ℕ → ℕ → ℕ → ℕ → Result
-committing s line p d shown =
-    record { answer = committed (s .next) shown; state = taking s (newCharge s line p d shown); list = [] }
+unfoldable pub committing : State → ℕ → ℕ → ℕ → ℕ → ℕ → Result
+committing s line p d rate shown =
+    record { answer = committed (s .next) shown; state = taking s (newCharge s line p d rate shown); list = [] }
 
 -- Move the clock
 
@@ -303,7 +307,7 @@ abbrev pub told : ℕ → List Charge → ℕ → Answer
 told clock [] ticket = refused 15
 told clock (c ∷ cs) ticket =
     cond (eqb (c .ticket) ticket)
-    (cond (isBegun clock c) (charging (c .start) (endOf c)) (waiting (c .start)))
+    (cond (isBegun clock c) (charging (c .start) (endOf c) (c .rate)) (waiting (c .start) (c .rate)))
     (told clock cs ticket)
 
 unfoldable pub enquiring : State → ℕ → Result
@@ -313,8 +317,8 @@ enquiring s ticket = record { answer = told (s .clock) (s .charges) ticket; stat
 
 -- what comes of a call that is not refused
 abbrev pub granted : State → Call → Result
-granted s (preview line p d) = previewing s line p d
-granted s (commit line p d shown) = committing s line p d shown
+granted s (preview line p d rate) = previewing s line p d rate
+granted s (commit line p d rate shown) = committing s line p d rate shown
 granted s (move target list) = moving s target list
 granted s (offer ss) = offering s ss
 granted s replanLatest = replanningLatest s

@@ -7,12 +7,12 @@ use Rattle.rules.specs.Entry.{Given, gives, givesWith, Minute, Case, len
 -- the orders of case e, with what they give
 abbrev ordersE : List Call
 ordersE =
-    commit 1 10 60 0
-    ∷ commit 3 10 60 0
-    ∷ commit 2 5 60 0
-    ∷ commit 2 5 60 0
-    ∷ commit 2 5 20 5
-    ∷ commit 1 10 60 0
+    commit 1 10 60 1 0
+    ∷ commit 3 10 60 1 0
+    ∷ commit 2 5 60 1 0
+    ∷ commit 2 5 60 1 0
+    ∷ commit 2 5 20 1 5
+    ∷ commit 1 10 60 1 0
     ∷ []
 
 abbrev givenE : List Given
@@ -24,14 +24,14 @@ givenF = reports (moved 5 0) (1 ∷ 0 ∷ 2 ∷ 0 ∷ 3 ∷ 0 ∷ 4 ∷ 0 ∷ 6 
 
 -- what is called in case g before the replan
 abbrev pub callsG : List Call
-callsG = ordersE ++ (move 1 lentList ∷ preview 3 3 10 ∷ commit 3 3 10 1 ∷ [])
+callsG = ordersE ++ (move 1 lentList ∷ preview 3 3 10 1 ∷ commit 3 3 10 1 1 ∷ [])
 
 abbrev minuteG : ℕ → Minute
 minuteG t = record { without = 5; minute = t; one = 2; two = 0; three = 1 }
 
 -- the orders of case h, with what they give
 abbrev pub ordersH : List Call
-ordersH = commit 1 10 60 0 ∷ commit 1 10 15 10 ∷ []
+ordersH = commit 1 10 60 1 0 ∷ commit 1 10 15 1 10 ∷ []
 
 abbrev pub givenH : List Given
 givenH = startsFrom 1 (0 ∷ 10 ∷ [])
@@ -59,14 +59,14 @@ casesAToL =
     -- h, by latest start and by lines
     ∷ case 1 100 1
     (ordersH ++ (replanLatest ∷ enquire 1 ∷ enquire 2 ∷ []))
-    (givenH ++ (gives (planned 0 5 0 0) ∷ gives (waiting 10) ∷ gives (waiting 0) ∷ []))
+    (givenH ++ (gives (planned 0 5 0 0) ∷ gives (waiting 10 1) ∷ gives (waiting 0 1) ∷ []))
     ∷ case 1 100 1
     (ordersH ++ (replanLines 1000 ∷ enquire 1 ∷ enquire 2 ∷ []))
-    (givenH ++ (gives (planned 0 5 0 1) ∷ gives (waiting 10) ∷ gives (waiting 0) ∷ []))
+    (givenH ++ (gives (planned 0 5 0 1) ∷ gives (waiting 10 1) ∷ gives (waiting 0 1) ∷ []))
     -- i
     ∷ case 1 100 1
     (ordersH ++ (move 1 lentList ∷ replanLatest ∷ enquire 1 ∷ []))
-    (givenH ++ (reports (moved 1 0) (1 ∷ 0 ∷ []) ∷ gives (planned 7 5 5 0) ∷ gives (charging 0 10) ∷ []))
+    (givenH ++ (reports (moved 1 0) (1 ∷ 0 ∷ []) ∷ gives (planned 7 5 5 0) ∷ gives (charging 0 10 1) ∷ []))
     -- j: an offer's list is lent, and stays
     ∷ case 1 100 1
     (ordersH ++ (offer (10 ∷ 0 ∷ []) ∷ []))
@@ -79,10 +79,10 @@ casesAToL =
     (givenH ++ (givesWith (planned 4 5 5 0) (11 ∷ 0 ∷ []) ∷ []))
     -- k, each order previewed first
     ∷ case 2 50 1
-    (preview 1 10 60
-    ∷ commit 1 10 60 0
-    ∷ preview 1 10 60
-    ∷ commit 1 10 60 10
+    (preview 1 10 60 1
+    ∷ commit 1 10 60 1 0
+    ∷ preview 1 10 60 1
+    ∷ commit 1 10 60 1 10
     ∷ replanLines 2
     ∷ replanLines 1
     ∷ [])

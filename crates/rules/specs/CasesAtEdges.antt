@@ -9,11 +9,11 @@ use Rattle.rules.specs.CasesAToL.{ordersH, givenH}
 
 -- d − p is 50, 10 and 13, so ticket 2 goes first and then ticket 3; by d alone, 20 and 15, ticket 3 would go first.
 abbrev ordersByStart : List Call
-ordersByStart = commit 1 10 60 0 ∷ commit 1 10 20 10 ∷ commit 1 2 15 20 ∷ []
+ordersByStart = commit 1 10 60 1 0 ∷ commit 1 10 20 1 10 ∷ commit 1 2 15 1 20 ∷ []
 
 -- d − p is 50, 10 and 10: ticket 2 goes before ticket 3.
 abbrev ordersTied : List Call
-ordersTied = commit 1 10 60 0 ∷ commit 1 4 14 10 ∷ commit 1 10 20 14 ∷ []
+ordersTied = commit 1 10 60 1 0 ∷ commit 1 4 14 1 10 ∷ commit 1 10 20 1 14 ∷ []
 
 -- "ticket, start" of k charges with tickets from i on and start 0
 abbrev fullReport : ℕ → ℕ → List ℕ
@@ -26,11 +26,11 @@ searches =
     -- Balance only at the start: ticket 4 would stand beside 1, 1 in minute 0, but lines 2 and 3 end after minute 4, and
     -- minutes 5 to 9 would count 2, 0, 0; so it waits for the end of ticket 3.
     case 2 50 1
-    (commit 2 5 60 0 ∷ commit 3 5 60 0 ∷ commit 1 10 60 0 ∷ commit 1 10 60 10 ∷ [])
+    (commit 2 5 60 1 0 ∷ commit 3 5 60 1 0 ∷ commit 1 10 60 1 0 ∷ commit 1 10 60 1 10 ∷ [])
     (startsFrom 1 (0 ∷ 0 ∷ 0 ∷ 10 ∷ []))
     -- Neighbours only: 2, 1, 0 differ by 1 from line to line, and lines 1 and 3 by 2.
     ∷ case 2 50 1
-    (commit 1 10 60 0 ∷ commit 2 10 60 0 ∷ commit 1 10 60 10 ∷ [])
+    (commit 1 10 60 1 0 ∷ commit 2 10 60 1 0 ∷ commit 1 10 60 1 10 ∷ [])
     (startsFrom 1 (0 ∷ 0 ∷ 10 ∷ []))
     ∷ []
 
@@ -50,13 +50,13 @@ refusalsAtEdges =
     -- The refusals of a station that stands, each with the next condition of its table met too where it can be. The start
     -- that the commits show, 9, is not the earliest.
     ∷ case 1 100 1
-    (preview 0 0 2000001
-    ∷ commit 4 5 5 9
-    ∷ preview 1 1441 2000001
-    ∷ commit 1 0 0 9
-    ∷ preview 1 10 2000001
-    ∷ commit 1 10 2000001 9
-    ∷ commit 1 10 60 9
+    (preview 0 0 2000001 1
+    ∷ commit 4 5 5 1 9
+    ∷ preview 1 1441 2000001 1
+    ∷ commit 1 0 0 1 9
+    ∷ preview 1 10 2000001 1
+    ∷ commit 1 10 2000001 1 9
+    ∷ commit 1 10 60 1 9
     ∷ move 1000001 []
     ∷ move 5 (replicate 359 7)
     ∷ offer (0 ∷ [])
@@ -69,10 +69,10 @@ refusalsAtEdges =
     ∷ givesWith (refused 10) (0 ∷ [])
     ∷ map gives (refused 11 ∷ refused 11 ∷ refused 15 ∷ [])))
     -- A charging time of 1 and of 1,440 is taken: the second charge starts at the end of the first.
-    ∷ case 1 100 1 (commit 1 1 1 0 ∷ commit 1 1440 1441 1 ∷ []) (startsFrom 1 (0 ∷ 1 ∷ []))
+    ∷ case 1 100 1 (commit 1 1 1 1 0 ∷ commit 1 1440 1441 1 1 ∷ []) (startsFrom 1 (0 ∷ 1 ∷ []))
     -- 2,000,000 is not above 2,000,000.
     ∷ case 1 100 1
-    (commit 1 10 2000001 0 ∷ commit 1 10 2000000 0 ∷ [])
+    (commit 1 10 2000001 1 0 ∷ commit 1 10 2000000 1 0 ∷ [])
     (map gives (refused 6 ∷ committed 1 0 ∷ []))
     -- A target of 1,000,000 is not above it; the same target again reports and drops nothing; one minute less is refused.
     ∷ case 1 100 1
@@ -82,10 +82,10 @@ refusalsAtEdges =
     -- where its due minute cannot be met or the start shown is not the earliest. The move reports them all, which fills the list,
     -- and gives the places back.
     ∷ case 60 100 60
-    (replicate 60 (commit 1 1 1 0)
-    ++ (replicate 60 (commit 2 1 1 0)
-    ++ (replicate 60 (commit 3 1 1 0)
-    ++ (preview 1 1 1 ∷ commit 1 1 0 1 ∷ commit 1 1 1 9 ∷ move 1 lentList ∷ commit 1 1 2 1 ∷ []))))
+    (replicate 60 (commit 1 1 1 1 0)
+    ++ (replicate 60 (commit 2 1 1 1 0)
+    ++ (replicate 60 (commit 3 1 1 1 0)
+    ++ (preview 1 1 1 1 ∷ commit 1 1 0 1 1 ∷ commit 1 1 1 1 9 ∷ move 1 lentList ∷ commit 1 1 2 1 1 ∷ []))))
     (startsFrom 1 (replicate 180 0)
     ++ (gives (refused 13)
     ∷ gives (refused 13)
@@ -100,11 +100,11 @@ abbrev moves : List Case
 moves =
     -- A charge that ends at the target is dropped, one that ends a minute later is not; then the clock cannot go back.
     case 2 50 1
-    (commit 1 3 9 0 ∷ commit 2 4 9 0 ∷ move 3 lentList ∷ enquire 1 ∷ enquire 2 ∷ move 2 lentList ∷ [])
+    (commit 1 3 9 1 0 ∷ commit 2 4 9 1 0 ∷ move 3 lentList ∷ enquire 1 ∷ enquire 2 ∷ move 2 lentList ∷ [])
     (startsFrom 1 (0 ∷ 0 ∷ [])
     ++ (reports (moved 2 1) (1 ∷ 0 ∷ 2 ∷ 0 ∷ [])
     ∷ gives (refused 15)
-    ∷ gives (charging 0 4)
+    ∷ gives (charging 0 4 1)
     ∷ givesWith (refused 12) lentList
     ∷ []))
     -- By start before ticket: as h, with starts 10 and 0 after the replan, and both passed.
@@ -120,9 +120,9 @@ plans =
     -- does not report it. 6, 1: a start below the clock, and an end at 9. 6, 6: an end at 9, and 2 in minute 6. 2, 2: a
     -- count of 2, and a difference of 2. 5, 2: none, for a start at the clock is not below it.
     case 1 100 1
-    (commit 1 2 10 0
-    ∷ commit 1 3 60 2
-    ∷ commit 1 3 5 5
+    (commit 1 2 10 1 0
+    ∷ commit 1 3 60 1 2
+    ∷ commit 1 3 5 1 5
     ∷ move 2 lentList
     ∷ offer (6 ∷ 1 ∷ [])
     ∷ offer (6 ∷ 6 ∷ [])
@@ -138,7 +138,7 @@ plans =
     ∷ []))
     -- As k, both at 0: 2 is not above N, but differs by 2 from 0; and lateness stays 0.
     ∷ case 2 50 1
-    (commit 1 10 60 0 ∷ commit 1 10 60 10 ∷ offer (0 ∷ 0 ∷ []) ∷ [])
+    (commit 1 10 60 1 0 ∷ commit 1 10 60 1 10 ∷ offer (0 ∷ 0 ∷ []) ∷ [])
     (startsFrom 1 (0 ∷ 10 ∷ []) ++ (givesWith (planned 6 0 0 0) (0 ∷ 0 ∷ []) ∷ []))
     -- By d − p, and then by ticket, in both replans.
     ∷ replanned ordersByStart replanLatest (0 ∷ 10 ∷ 20 ∷ []) (planned 0 7 0 0) (12 ∷ 0 ∷ 10 ∷ [])
@@ -149,17 +149,17 @@ plans =
     -- that the second round has 0 and 1, as held: cause 7. With a cap of 2 left in minute 0 the second round would end as
     -- the first, and the allowance be spent: cause 2.
     ∷ case 2 50 1
-    (commit 1 1 60 0 ∷ commit 1 1 60 1 ∷ replanLines 2 ∷ [])
+    (commit 1 1 60 1 0 ∷ commit 1 1 60 1 1 ∷ replanLines 2 ∷ [])
     (startsFrom 1 (0 ∷ 1 ∷ []) ++ (gives (planned 7 0 0 2) ∷ []))
     -- Cause 1 by lines: at clock 1 ticket 2 goes from 5 to 1 and ticket 4 from 6 to 1, and minute 6 counts 2, 0, 1. The two
     -- of line 1 have begun; ticket 4, which is placed, is of line 3.
     ∷ case 2 50 1
-    (commit 2 5 60 0
-    ∷ commit 2 5 60 5
-    ∷ commit 3 6 60 0
-    ∷ commit 3 9 60 6
-    ∷ commit 1 10 60 0
-    ∷ commit 1 10 60 0
+    (commit 2 5 60 1 0
+    ∷ commit 2 5 60 1 5
+    ∷ commit 3 6 60 1 0
+    ∷ commit 3 9 60 1 6
+    ∷ commit 1 10 60 1 0
+    ∷ commit 1 10 60 1 0
     ∷ move 1 lentList
     ∷ replanLines 2
     ∷ [])
@@ -169,13 +169,13 @@ plans =
     -- no placed charge, so that one round is made; line 3 has ticket 6, and its cap would be lowered for a second round.
     -- (Which of several lines with the smallest count is j makes no difference: only its count is used.)
     ∷ case 2 50 1
-    (commit 2 5 60 0
-    ∷ commit 2 5 60 5
-    ∷ commit 3 10 60 0
-    ∷ commit 1 10 60 0
-    ∷ commit 1 10 60 0
+    (commit 2 5 60 1 0
+    ∷ commit 2 5 60 1 5
+    ∷ commit 3 10 60 1 0
+    ∷ commit 1 10 60 1 0
+    ∷ commit 1 10 60 1 0
     ∷ move 1 lentList
-    ∷ commit 3 10 60 1
+    ∷ commit 3 10 60 1 1
     ∷ replanLines 2
     ∷ [])
     (startsFrom 1 (0 ∷ 5 ∷ 0 ∷ 0 ∷ 0 ∷ [])

@@ -7,12 +7,12 @@ use Rattle.rules.specs.Entry.{givesWith, Case, lentList, startsFrom, rep
 -- ends 20, 24, 34, 46: lateness 0 + 23 + 24 + 44. Then the ends are 12, 16, 26, 46: lateness 10 + 15 + 16 + 22.
 -- Cut off at zero the tickets would go 2, 3, 4, 1; with the negative ones last 3, 1, 4, 2; by d alone 2, 4, 3, 1.
 abbrev belowZero : List Call
-belowZero = commit 1 20 24 0 ∷ commit 1 4 1 20 ∷ commit 1 10 10 24 ∷ commit 1 12 2 34 ∷ []
+belowZero = commit 1 20 24 1 0 ∷ commit 1 4 1 1 20 ∷ commit 1 10 10 1 24 ∷ commit 1 12 2 1 34 ∷ []
 
 -- d − p is 50, −5 and −5: ticket 2 goes before ticket 3, and starts 10, 15 become 0, 5. Lateness was 0 + 15 + 20, and is
 -- 0 + 5 + 10. With ticket 3 first it would be 15 + 5.
 abbrev equalBelowZero : List Call
-equalBelowZero = commit 1 10 60 0 ∷ commit 1 5 0 10 ∷ commit 1 10 5 15 ∷ []
+equalBelowZero = commit 1 10 60 1 0 ∷ commit 1 5 0 1 10 ∷ commit 1 10 5 1 15 ∷ []
 
 abbrev pub casesInAHurry : List Case
 casesInAHurry =
@@ -23,19 +23,19 @@ casesInAHurry =
     -- At clock 3 a charge of 10 minutes ends at 13 or later: due minutes 12, 3, 2 and 0 are taken like 13.
     ∷ case 1 100 1
     (move 3 lentList
-    ∷ commit 1 10 13 3
-    ∷ commit 1 10 12 13
-    ∷ commit 1 10 3 23
-    ∷ commit 1 10 2 33
-    ∷ commit 1 10 0 43
+    ∷ commit 1 10 13 1 3
+    ∷ commit 1 10 12 1 13
+    ∷ commit 1 10 3 1 23
+    ∷ commit 1 10 2 1 33
+    ∷ commit 1 10 0 1 43
     ∷ [])
     (reports (moved 0 0) [] ∷ startsFrom 1 (3 ∷ 13 ∷ 23 ∷ 33 ∷ 43 ∷ []))
     -- A due minute of 0 at the last clock. Ticket 1 is in time; ticket 2 ends at 1,000,020 and is late by as much. With
     -- their starts exchanged it ends at 1,000,010. From clock + p on it would be late by 10, and then by nothing.
     ∷ case 1 100 1
     (move 1000000 lentList
-    ∷ commit 1 10 2000000 1000000
-    ∷ commit 1 10 0 1000010
+    ∷ commit 1 10 2000000 1 1000000
+    ∷ commit 1 10 0 1 1000010
     ∷ offer (1000010 ∷ 1000000 ∷ [])
     ∷ [])
     (reports (moved 0 0) []

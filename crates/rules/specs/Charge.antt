@@ -6,7 +6,8 @@ use lib.Dec.{ltb, leb, eqb}
 use Rattle.rules.specs.Basics.{keep}
 use Rattle.rules.specs.Load.{Load, Draw, draw, loadFrom}
 
--- "A charge has a ticket, a line, an order minute, a charging time p, a due minute d and a start s."
+-- "A charge has a ticket, a line, an order minute, a charging time p, a due minute d and a start s." "Each order states a
+-- rate, 1 or 2."
 pub record Charge : Type 0 where
   pub ticket : ℕ
   pub line : ℕ
@@ -14,11 +15,20 @@ pub record Charge : Type 0 where
   pub time : ℕ
   pub due : ℕ
   pub start : ℕ
+  pub rate : ℕ
 
 -- the same charge with another start
 abbrev pub starting : Charge → ℕ → Charge
 starting c s =
-    record { ticket = c .ticket; line = c .line; orderMinute = c .orderMinute; time = c .time; due = c .due; start = s }
+    record {
+      ticket = c .ticket;
+      line = c .line;
+      orderMinute = c .orderMinute;
+      time = c .time;
+      due = c .due;
+      start = s;
+      rate = c .rate;
+    }
 
 -- "Its end is s + p."
 abbrev pub endOf : Charge → ℕ
@@ -26,7 +36,7 @@ endOf c = c .start + c .time
 
 -- what it draws wherever it starts
 abbrev pub drawOf : Charge → Draw
-drawOf c = draw (c .line) (c .time)
+drawOf c = draw (c .line) (c .time) (c .rate)
 
 -- "It is active in minutes s to s + p − 1."
 abbrev pub loadOf : Charge → Load

@@ -98,4 +98,4 @@ abbrev pub replanned : List Call → Call → List ℕ → Answer → List ℕ �
 replanned orders replan held answer new =
     case 1 100 1
     (orders ++ (replan ∷ enquiries (length new) 1))
-    (startsFrom 1 held ++ (gives answer ∷ map (λ s. gives (waiting s)) new))
+    (startsFrom 1 held ++ (gives answer ∷ map (λ s. gives (waiting s 1)) new))

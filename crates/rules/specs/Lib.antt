@@ -6,9 +6,11 @@ pub mod Replan
 pub mod Judgement
 pub mod Calls
 pub mod Earlier
+pub mod Unrated
 pub mod Valid
 pub mod Entry
 pub mod CasesAToL
 pub mod CasesAtEdges
 pub mod CasesInAHurry
 pub mod CasesPreviewed
+pub mod CasesOfTwoRates

@@ -5,37 +5,40 @@ use mathlib.Core.List.{List, [], _∷_}
 use lib.Dec.{ltb, leb, eqb}
 use Rattle.rules.specs.Basics.{throughout}
 
--- What one charge draws: a point on a line, in the minutes from `from` up to, and without, `until`.
+-- What one charge draws: its rate on a line, in the minutes from `from` up to, and without, `until`.
 pub record Load : Type 0 where
   pub line : ℕ
+  pub rate : ℕ
   pub from : ℕ
   pub until : ℕ
 
--- What a charge draws wherever it starts: a point on a line, for `time` minutes.
+-- What a charge draws wherever it starts: its rate on a line, for `time` minutes.
 pub record Draw : Type 0 where
   pub line : ℕ
   pub time : ℕ
+  pub rate : ℕ
 
-abbrev pub draw : ℕ → ℕ → Draw
-draw line time = record { line = line; time = time }
+abbrev pub draw : ℕ → ℕ → ℕ → Draw
+draw line time rate = record { line = line; time = time; rate = rate }
 
 -- its load, if it starts in minute s
 abbrev pub loadFrom : Draw → ℕ → Load
-loadFrom a s = record { line = a .line; from = s; until = s + a .time }
+loadFrom a s = record { line = a .line; rate = a .rate; from = s; until = s + a .time }
 
 -- "It is active in minutes s to s + p − 1."
 abbrev pub active : Load → ℕ → Bool
 active x t = leb (x .from) t && ltb t (x .until)
 
 -- what an active load of line i adds to the count of line l
-abbrev pub share : ℕ → ℕ → ℕ
-share i l = cond (eqb i l) 1 0
+abbrev pub share : ℕ → ℕ → ℕ → ℕ
+share i rate l = cond (eqb i l) rate 0
 
 -- what a load adds to the count of line l in minute t
 abbrev pub draws : Load → ℕ → ℕ → ℕ
-draws x l t = cond (active x t) (share (x .line) l) 0
+draws x l t = cond (active x t) (share (x .line) (x .rate) l) 0
 
--- "The count of a line in a minute is the number of its active charges."
+-- "The count of a line in a minute is the number of its active charges", and "a charge of rate 2 counts as two wherever
+-- a line is counted"
 abbrev pub count : List Load → ℕ → ℕ → ℕ
 count [] l t = 0
 count (x ∷ xs) l t = draws x l t + count xs l t
@@ -61,6 +64,11 @@ limits n d = record { limit = n; bound = d }
 pub record IsLine (l : ℕ) : Type 0 where
   pub low : 1 ≤ l
   pub high : l ≤ 3
+
+-- "Each order states a rate, 1 or 2."
+pub record IsRate (r : ℕ) : Type 0 where
+  pub low : 1 ≤ r
+  pub high : r ≤ 2
 
 -- f holds on lines 1 to 3
 abbrev pub onLines : (ℕ → Bool) → Bool

@@ -6,12 +6,12 @@ use mathlib.Core.Bool.{true}
 use mathlib.Core.List.{List, [], _∷_}
 use lib.ListN.{length}
 use Rattle.rules.specs.Basics.{Each}
-use Rattle.rules.specs.Load.{IsLine, sound}
+use Rattle.rules.specs.Load.{Limits, IsLine, IsRate, sound}
 use Rattle.rules.specs.Charge.{Charge, endOf, loadsOf, lastEnd}
 use Rattle.rules.specs.Calls.{places, State, boundOf, limitsOf}
 
--- one charge that is held
-pub record ValidCharge (clock next : ℕ) (c : Charge) : Type 0 where
+-- one charge that is held: its rate is within N and D, so that it has a start wherever nothing else is drawn
+pub record ValidCharge (y : Limits) (clock next : ℕ) (c : Charge) : Type 0 where
   pub ticket-low : 1 ≤ c .ticket
   pub ticket-given : c .ticket < next
   pub line : IsLine (c .line)
@@ -21,6 +21,9 @@ pub record ValidCharge (clock next : ℕ) (c : Charge) : Type 0 where
   pub ordered : c .orderMinute ≤ clock
   pub not-early : c .orderMinute ≤ c .start
   pub unfinished : clock < endOf c
+  pub rate : IsRate (c .rate)
+  pub within-limit : c .rate ≤ y .limit
+  pub within-bound : c .rate ≤ y .bound
 
 -- tickets are i or more, and rise along the list
 abbrev pub Rising : ℕ → List Charge → Type 0
@@ -37,7 +40,7 @@ pub record ValidState (s : State) : Type 0 where
   pub next-low : 1 ≤ s .next
   pub next-high : s .next ≤ 65536
   pub few : length (s .charges) ≤ places
-  pub each : Each (ValidCharge (s .clock) (s .next)) (s .charges)
+  pub each : Each (ValidCharge (limitsOf s) (s .clock) (s .next)) (s .charges)
   pub rising : Rising 1 (s .charges)
   -- next - 1 tickets have been given: no end is above the clock and 1,440 minutes for each of them
   pub ends-high : lastEnd (s .charges) ≤ s .clock + 1440 * (s .next - 1)

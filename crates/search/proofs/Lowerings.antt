@@ -6,7 +6,7 @@ use mathlib.Core.List.{List}
 use mathlib.Core.Logic.{_⊎_, inl, inr, ⊎-elim}
 use native.Mathlib.Omega.{arith}
 use borrow.Author.Tests.{lt-ltb, le-ltb, lt-leb, le-leb, eq-eqb, ne-eqb}
-use lib.Dec.{ltb}
+use lib.Dec.{ltb, leb}
 use lib.ListN.{length, getD, set, length-set, List·getD-eq-default}
 use lib.Seq.{getD-set-same, getD-set-other}
 use Rattle.rules.specs.Load.{IsLine}
@@ -54,17 +54,17 @@ level-more {a} {n} w h =
     same k ne (inl b) = lt-ltb k n b ∙ sym (lt-ltb k (n + 1) (omega arith))
     same k ne (inr b) = le-ltb k n b ∙ sym (le-ltb k (n + 1) (omega (arith, ne)))
 
-pub level-shown : (c : LineCaps) (n : ℕ) → Level (columns * n) (c .caps) → CapsShown c (λ l t. n)
+pub level-shown : (c : LineCaps) (n : ℕ) → Level (columns * (n + 1)) (c .caps) → CapsShown c (λ l t. n)
 level-shown c n w =
     record {
       size = w .size;
       rooms = λ l h k t.
-          ap (λ (x : ℕ). hasRoom x t) (w .each (columns * k + l - 1) ∙ ap (λ (b : Bool). cond b 4294967295 0) (same l h k (below-or-not k n))) ∙ room-cond (ltb k n) t;
+          ap (λ (x : ℕ). hasRoom x t) (w .each (columns * k + l - 1) ∙ ap (λ (b : Bool). cond b 4294967295 0) (same l h k (below-or-not n k))) ∙ room-cond (leb k n) t;
     }
   where
-    same : (l : ℕ) → IsLine l → (k : ℕ) → (k < n) ⊎ (n ≤ k) → ltb (columns * k + l - 1) (columns * n) ≡ ltb k n
-    same l h k (inl b) = lt-ltb (columns * k + l - 1) (columns * n) (omega (arith, h .low, h .high)) ∙ sym (lt-ltb k n b)
-    same l h k (inr b) = le-ltb (columns * k + l - 1) (columns * n) (omega (arith, h .low, h .high)) ∙ sym (le-ltb k n b)
+    same : (l : ℕ) → IsLine l → (k : ℕ) → (n < k) ⊎ (k ≤ n) → ltb (columns * k + l - 1) (columns * (n + 1)) ≡ leb k n
+    same l h k (inl b) = le-ltb (columns * k + l - 1) (columns * (n + 1)) (omega (arith, h .low, h .high)) ∙ sym (lt-leb k n b)
+    same l h k (inr b) = lt-ltb (columns * k + l - 1) (columns * (n + 1)) (omega (arith, h .low, h .high)) ∙ sym (le-leb k n b)
 
 -- A line of the list lowered
 
@@ -137,48 +137,48 @@ smaller-room p t u h =
 pub caps-other : (c : LineCaps) (line t v : ℕ) → Whole c → (IsLine line → ⊥) → CapLowered c c line t v
 caps-other c line t v size not = record { size = size; gone = λ h. absurd (not h); kept = λ l h k u n. refl }
 
-pub caps-lowered : {c d : LineCaps} {line t v on : ℕ} → t < 4294967295 → Lowered (c .caps) (d .caps) on t v → on ≡ line → CapLowered c d line t v
-caps-lowered {c} {d} {line} {t} {v} small done same =
+pub caps-lowered : {c d : LineCaps} {line t v on above : ℕ} → t < 4294967295 → Lowered (c .caps) (d .caps) on t above → on ≡ line → above ≡ v + 1 → CapLowered c d line t v
+caps-lowered {c} {d} {line} {t} {v} small done same next =
     record {
       size = x .size;
-      gone = λ h k u a b. ap (λ (y : ℕ). hasRoom y u) (x .after k a) ∙ room-after (min (capsOf c line k) t) u (omega arith) (omega arith);
+      gone = λ h k u a b. ap (λ (y : ℕ). hasRoom y u) (x .after k (omega arith)) ∙ room-after (min (capsOf c line k) t) u (omega arith) (omega arith);
       kept = λ l h k u n.
           ⊎-elim
-          (λ e. rw e (own k u (λ a b. n e a b) (below-or-not k v) (below-or-not u t)))
+          (λ e. rw e (own k u (λ a b. n e a b) (below-or-not v k) (below-or-not u t)))
           (λ ne. ap (λ (y : ℕ). hasRoom y u) (x .other l h ne k))
           (same-or-not l line);
     }
   where
-    x : Lowered (c .caps) (d .caps) line t v
-    x = rw (← same) done
+    x : Lowered (c .caps) (d .caps) line t (v + 1)
+    x = rw (← same, ← next) done
 
-    own : (k u : ℕ) → (v ≤ k → t ≤ u → ⊥) → (k < v) ⊎ (v ≤ k) → (u < t) ⊎ (t ≤ u) → hasRoom (capsOf d line k) u ≡ hasRoom (capsOf c line k) u
-    own k u n (inl a) b = ap (λ (y : ℕ). hasRoom y u) (x .before k a)
-    own k u n (inr a) (inl b) = ap (λ (y : ℕ). hasRoom y u) (x .after k a) ∙ smaller-room (capsOf c line k) t u b
-    own k u n (inr a) (inr b) = absurd (n a b)
+    own : (k u : ℕ) → (v < k → t ≤ u → ⊥) → (v < k) ⊎ (k ≤ v) → (u < t) ⊎ (t ≤ u) → hasRoom (capsOf d line k) u ≡ hasRoom (capsOf c line k) u
+    own k u n (inr a) b = ap (λ (y : ℕ). hasRoom y u) (x .before k (omega arith))
+    own k u n (inl a) (inl b) = ap (λ (y : ℕ). hasRoom y u) (x .after k (omega arith)) ∙ smaller-room (capsOf c line k) t u b
+    own k u n (inl a) (inr b) = absurd (n a b)
 
 -- whatever caps c shows, d shows them lowered
 pub lowered-shows : {c d : LineCaps} {line t v : ℕ} → CapLowered c d line t v → LoweredAt c d line t v
 lowered-shows {c} {d} {line} {t} {v} x cap s = record { size = x .size; rooms = λ l h k u. room l h k u (same-or-not l line) }
   where
-    smaller : (m k : ℕ) → k < v → (k < m) ⊎ (m ≤ k) → ltb k m ≡ ltb k (min m v)
-    smaller m k a (inl b) = lt-ltb k m b ∙ sym (lt-ltb k (min m v) (omega arith))
-    smaller m k a (inr b) = le-ltb k m b ∙ sym (le-ltb k (min m v) (omega arith))
+    smaller : (m k : ℕ) → k ≤ v → (m < k) ⊎ (k ≤ m) → leb k m ≡ leb k (min m v)
+    smaller m k a (inl b) = lt-leb k m b ∙ sym (lt-leb k (min m v) (omega arith))
+    smaller m k a (inr b) = le-leb k m b ∙ sym (le-leb k (min m v) (omega arith))
 
-    own : (h : IsLine line) (k u : ℕ) → (u < t) ⊎ (t ≤ u) → (k < v) ⊎ (v ≤ k) → hasRoom (capsOf d line k) u ≡ ltb k (lowered cap line t v line u)
+    own : (h : IsLine line) (k u : ℕ) → (u < t) ⊎ (t ≤ u) → (v < k) ⊎ (k ≤ v) → hasRoom (capsOf d line k) u ≡ leb k (lowered cap line t v line u)
     own h k u (inl a) b = x .kept line h k u (λ e f g. omega arith) ∙ s .rooms line h k u ∙ rw (eq-eqb line line refl, lt-leb t u a) refl
-    own h k u (inr a) (inl b) =
-        x .kept line h k u (λ e f g. omega arith) ∙ s .rooms line h k u ∙ smaller (cap line u) k b (below-or-not k (cap line u))
+    own h k u (inr a) (inr b) =
+        x .kept line h k u (λ e f g. omega arith) ∙ s .rooms line h k u ∙ smaller (cap line u) k b (below-or-not (cap line u) k)
         ∙ rw (eq-eqb line line refl, le-leb t u a) refl
-    own h k u (inr a) (inr b) = x .gone h k u b a ∙ sym (le-ltb k (min (cap line u) v) (omega arith)) ∙ rw (eq-eqb line line refl, le-leb t u a) refl
+    own h k u (inr a) (inl b) = x .gone h k u b a ∙ sym (lt-leb k (min (cap line u) v) (omega arith)) ∙ rw (eq-eqb line line refl, le-leb t u a) refl
 
-    room : (l : ℕ) → IsLine l → (k u : ℕ) → (l ≡ line) ⊎ (l ≡ line → ⊥) → hasRoom (capsOf d l k) u ≡ ltb k (lowered cap line t v l u)
-    room l h k u (inl e) = rw e (own (subst IsLine e h) k u (below-or-not u t) (below-or-not k v))
+    room : (l : ℕ) → IsLine l → (k u : ℕ) → (l ≡ line) ⊎ (l ≡ line → ⊥) → hasRoom (capsOf d l k) u ≡ leb k (lowered cap line t v l u)
+    room l h k u (inl e) = rw e (own (subst IsLine e h) k u (below-or-not u t) (below-or-not v k))
     room l h k u (inr ne) = x .kept l h k u (λ e f g. ne e) ∙ s .rooms l h k u ∙ rw (ne-eqb l line ne) refl
 
--- caps that are never below 1 meet what a search for a start asks
-pub can-cap : (c : LineCaps) (cap : Caps) (l : ℕ) → CapsShown c cap → IsLine l → ((t : ℕ) → 1 ≤ cap l t) → CanCap c l
-can-cap c cap l s h one =
+-- caps that are never below the rate meet what a search for a start asks
+pub can-cap : (c : LineCaps) (cap : Caps) (l rate : ℕ) → CapsShown c cap → IsLine l → ((t : ℕ) → rate ≤ cap l t) → CanCap c l rate
+can-cap c cap l rate s h enough =
     record {
       size = s .size;
       some =
@@ -186,8 +186,8 @@ can-cap c cap l s h one =
           (λ a.
           absurd
           (true≢false
-          (sym (lt-ltb 0 (cap l 4294967295) (omega (arith, one 4294967295))) ∙ sym (s .rooms l h 0 4294967295)
-          ∙ room-after (capsOf c l 0) 4294967295 a (omega arith))))
+          (sym (le-leb rate (cap l 4294967295) (enough 4294967295)) ∙ sym (s .rooms l h rate 4294967295)
+          ∙ room-after (capsOf c l rate) 4294967295 a (omega arith))))
           (λ a. a)
-          (below-or-not (capsOf c l 0) 4294967295);
+          (below-or-not (capsOf c l rate) 4294967295);
     }

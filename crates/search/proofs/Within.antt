@@ -32,20 +32,20 @@ filled-more {g} {n} {v} {a} f h e =
           (same-or-not i n);
     }
 
-pub within-none : (counts rooms : List ℕ) (limit bound line : ℕ) → length rooms ≡ mostSteps → RoomsWithin counts 0 limit bound line rooms
-within-none counts rooms limit bound line h = record { filled = record { size = h; each = λ i b. absurd (omega arith) } }
+pub within-none : (counts rooms : List ℕ) (limit bound line rate : ℕ) → length rooms ≡ mostSteps → RoomsWithin counts 0 limit bound line rate rooms
+within-none counts rooms limit bound line rate h = record { filled = record { size = h; each = λ i b. absurd (omega arith) } }
 
 pub within-more :
-    {counts rooms : List ℕ} {n limit bound line a b c v : ℕ} → RoomsWithin counts n limit bound line rooms → n < mostSteps →
-    a ≡ lineIn counts 1 n + share line 1 → b ≡ lineIn counts 2 n + share line 2 → c ≡ lineIn counts 3 n + share line 3 →
+    {counts rooms : List ℕ} {n limit bound line rate a b c v : ℕ} → RoomsWithin counts n limit bound line rate rooms → n < mostSteps →
+    a ≡ lineIn counts 1 n + share line rate 1 → b ≡ lineIn counts 2 n + share line rate 2 → c ≡ lineIn counts 3 n + share line rate 3 →
     v ≡ cond (soundCounts (limits limit bound) (ofLines a b c)) 4294967295 0 →
-    RoomsWithin counts (n + 1) limit bound line (set rooms n v)
-within-more {counts} {rooms} {n} {limit} {bound} {line} {a} {b} {c} w h ea eb ec e =
+    RoomsWithin counts (n + 1) limit bound line rate (set rooms n v)
+within-more {counts} {rooms} {n} {limit} {bound} {line} {rate} {a} {b} {c} w h ea eb ec e =
     record {
       filled =
           filled-more (w .filled) h
           (e ∙ ap (λ (x : Bool). cond x 4294967295 0)
-          (sound-tests (limits limit bound) (ofLines a b c) (λ l. lineIn counts l n + share line l)
+          (sound-tests (limits limit bound) (ofLines a b c) (λ l. lineIn counts l n + share line rate l)
           (each-line _ ea eb ec)));
     }
 
@@ -53,16 +53,16 @@ within-more {counts} {rooms} {n} {limit} {bound} {line} {a} {b} {c} w h ea eb ec
 
 -- the room of its steps is that of its levels
 pub within-levels :
-    {p : Profile} {limit bound line : ℕ} {rooms : List ℕ} → Formed p → RoomsWithin (p .counts) (p .steps) limit bound line rooms →
-    (t : ℕ) → firstMinute p ≤ t → roomAt (p .at) rooms (p .steps) t ≡ soundCounts (limits limit bound) (λ l. levelOf p l t + share line l)
-within-levels {p} {limit} {bound} {line} {rooms} f w t a = go (step-of (p .at) (p .steps) t (f .some) a)
+    {p : Profile} {limit bound line rate : ℕ} {rooms : List ℕ} → Formed p → RoomsWithin (p .counts) (p .steps) limit bound line rate rooms →
+    (t : ℕ) → firstMinute p ≤ t → roomAt (p .at) rooms (p .steps) t ≡ soundCounts (limits limit bound) (λ l. levelOf p l t + share line rate l)
+within-levels {p} {limit} {bound} {line} {rate} {rooms} f w t a = go (step-of (p .at) (p .steps) t (f .some) a)
   where
-    go : Place (p .at) (p .steps) t → roomAt (p .at) rooms (p .steps) t ≡ soundCounts (limits limit bound) (λ l. levelOf p l t + share line l)
+    go : Place (p .at) (p .steps) t → roomAt (p .at) rooms (p .steps) t ≡ soundCounts (limits limit bound) (λ l. levelOf p l t + share line rate l)
     go i =
         room-in rooms (i .inside)
         ∙ ap (λ (x : ℕ). hasRoom x t) (w .filled .each (i .step) (i .inside .below))
-        ∙ room-cond (soundCounts (limits limit bound) (λ l. lineOf p l (i .step) + share line l)) t
-        ∙ sound-tests (limits limit bound) (λ l. lineOf p l (i .step) + share line l) (λ l. levelOf p l t + share line l)
+        ∙ room-cond (soundCounts (limits limit bound) (λ l. lineOf p l (i .step) + share line rate l)) t
+        ∙ sound-tests (limits limit bound) (λ l. lineOf p l (i .step) + share line rate l) (λ l. levelOf p l t + share line rate l)
         (λ l h. omega (arith, level-in (p .at) (lineOf p l) (p .steps) (i .step) t (i .inside)))
 
 pub least-same : {f g : ℕ → Bool} {time start r : ℕ} → ((t : ℕ) → start ≤ t → f t ≡ g t) → Least f time start r → Least g time start r
@@ -77,17 +77,17 @@ least-same h m =
 
 -- What the search asks
 
-module _ {p : Profile} {time limit bound line : ℕ} (can : CanStart p time) (some-limit : 1 ≤ limit) (some-bound : 1 ≤ bound) {rooms : List ℕ}
-    (w : RoomsWithin (p .counts) (p .steps) limit bound line rooms) where
+module _ {p : Profile} {time limit bound line rate : ℕ} (can : CanStart p time) (within-limit : rate ≤ limit) (within-bound : rate ≤ bound) {rooms : List ℕ}
+    (w : RoomsWithin (p .counts) (p .steps) limit bound line rate rooms) where
   -- past the last step one more load is alone
   pub within-rests : Rests rooms (p .steps)
   within-rests =
       let e : getD rooms (p .steps - 1) 0 ≡ 4294967295 =
       w .filled .each (p .steps - 1) (omega (arith, can .formed .some))
       ∙ ap (λ (b : Bool). cond b 4294967295 0)
-      (sound-all (limits limit bound) (λ l. lineOf p l (p .steps - 1) + share line l)
-      (sound-same (limits limit bound) (share line) (λ l. lineOf p l (p .steps - 1) + share line l) (λ l h. omega (arith, can .empty l h))
-      (sound-few (limits limit bound) (share line) some-limit some-bound (share-most line)))) in
+      (sound-all (limits limit bound) (λ l. lineOf p l (p .steps - 1) + share line rate l)
+      (sound-same (limits limit bound) (share line rate) (λ l. lineOf p l (p .steps - 1) + share line rate l) (λ l h. omega (arith, can .empty l h))
+      (sound-few (limits limit bound) (share line rate) rate within-limit within-bound (share-most line rate)))) in
       omega arith
 
 pub start-search :

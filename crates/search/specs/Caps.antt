@@ -1,9 +1,9 @@
--- The caps of the lines, as a list of minutes: place k of a line has the first minute from which on the cap is at most k.
-use Prim.Native.Nat.{ℕ, _*_, _≤_, _<_, min}
+-- The caps of the lines, as a list of minutes: place k of a line has the first minute from which on its cap is below k.
+use Prim.Native.Nat.{ℕ, _+_, _*_, _≤_, _<_, min}
 use mathlib.Core.Path.{_≡_}
 use mathlib.Core.Bool.{Bool, false, cond}
 use mathlib.Core.List.{List}
-use lib.Dec.{ltb}
+use lib.Dec.{ltb, leb}
 use lib.ListN.{length, getD}
 use Rattle.rules.specs.Basics.{at}
 use Rattle.rules.specs.Load.{draw, Load, IsLine}
@@ -27,29 +27,29 @@ capsIn caps = record { caps = caps }
 abbrev pub capsOf : LineCaps → ℕ → ℕ → ℕ
 capsOf c l = lineIn (c .caps) l
 
--- a minute with count k has room for one more load just where k is below the cap
+-- a count of k has room in a minute just where it is at or below the cap
 pub record CapsShown (c : LineCaps) (cap : Caps) : Type 0 where
   pub size : length (c .caps) ≡ columns * capPlaces
-  pub rooms : (l : ℕ) → IsLine l → (k t : ℕ) → hasRoom (capsOf c l k) t ≡ ltb k (cap l t)
+  pub rooms : (l : ℕ) → IsLine l → (k t : ℕ) → hasRoom (capsOf c l k) t ≡ leb k (cap l t)
 
 -- the first n numbers have no end
 pub record Level (n : ℕ) (a : List ℕ) : Type 0 where
   pub size : length a ≡ columns * capPlaces
   pub each : (k : ℕ) → getD a k 0 ≡ cond (ltb k n) 4294967295 0
 
--- b is a with the cap of a line from t on at most v
+-- b is a with the places of a line from v on at most t
 pub record Lowered (a b : List ℕ) (line t v : ℕ) : Type 0 where
   pub size : length b ≡ columns * capPlaces
   pub before : (k : ℕ) → k < v → lineIn b line k ≡ lineIn a line k
   pub after : (k : ℕ) → v ≤ k → lineIn b line k ≡ min (lineIn a line k) t
   pub other : (l : ℕ) → IsLine l → (l ≡ line → ⊥) → (k : ℕ) → lineIn b l k ≡ lineIn a l k
 
--- d is c with the cap of a line from t on at most v: from there on a count of v or more has no room on it, and all else stays
+-- d is c with the cap of a line from t on at most v: from there on a count above v has no room on it, and all else stays
 pub record CapLowered (c d : LineCaps) (line t v : ℕ) : Type 0 where
   pub size : length (d .caps) ≡ columns * capPlaces
-  pub gone : IsLine line → (k u : ℕ) → v ≤ k → t ≤ u → hasRoom (capsOf d line k) u ≡ false
+  pub gone : IsLine line → (k u : ℕ) → v < k → t ≤ u → hasRoom (capsOf d line k) u ≡ false
   pub kept :
-      (l : ℕ) → IsLine l → (k u : ℕ) → (l ≡ line → v ≤ k → t ≤ u → ⊥) → hasRoom (capsOf d l k) u ≡ hasRoom (capsOf c l k) u
+      (l : ℕ) → IsLine l → (k u : ℕ) → (l ≡ line → v < k → t ≤ u → ⊥) → hasRoom (capsOf d l k) u ≡ hasRoom (capsOf c l k) u
 
 -- whatever caps c shows, d shows them with that of line i from t on at most v
 abbrev pub LoweredAt : LineCaps → LineCaps → ℕ → ℕ → ℕ → Type 0
@@ -60,24 +60,24 @@ abbrev pub Whole : LineCaps → Type 0
 Whole c = length (c .caps) ≡ columns * capPlaces
 
 -- the room of each step under a cap
-pub record RoomsUnder (counts caps : ℕ → ℕ) (n : ℕ) (rooms : List ℕ) : Type 0 where
-  pub filled : Filled (λ i. caps (counts i)) n rooms
+pub record RoomsUnder (counts caps : ℕ → ℕ) (rate n : ℕ) (rooms : List ℕ) : Type 0 where
+  pub filled : Filled (λ i. caps (counts i + rate)) n rooms
 
 -- with one more load on the line minute t is still within the cap
-abbrev pub roomUnder : Profile → LineCaps → ℕ → ℕ → Bool
-roomUnder p c line t = hasRoom (capsOf c line (levelOf p line t)) t
+abbrev pub roomUnder : Profile → LineCaps → ℕ → ℕ → ℕ → Bool
+roomUnder p c line rate t = hasRoom (capsOf c line (levelOf p line t + rate)) t
 
 -- r is the smallest start, from the first minute on, with room under the cap in all its minutes
-pub record EarliestStartUnder (p : Profile) (c : LineCaps) (line time r : ℕ) : Type 0 where
-  pub least : Least (roomUnder p c line) time (firstMinute p) r
+pub record EarliestStartUnder (p : Profile) (c : LineCaps) (line time rate r : ℕ) : Type 0 where
+  pub least : Least (roomUnder p c line rate) time (firstMinute p) r
   pub high : r ≤ lastMinute p
 
--- a cap is whole and never below 1
-pub record CanCap (c : LineCaps) (l : ℕ) : Type 0 where
+-- a cap is whole and never below the rate
+pub record CanCap (c : LineCaps) (l rate : ℕ) : Type 0 where
   pub size : length (c .caps) ≡ columns * capPlaces
-  pub some : 4294967295 ≤ capsOf c l 0
+  pub some : 4294967295 ≤ capsOf c l rate
 
 -- whatever loads p and caps c show, the answer is the rules' smallest start under the cap
-abbrev pub EarliestUnder : Profile → LineCaps → ℕ → ℕ → ℕ → Type 0
-EarliestUnder p c line time r =
-    (clock : ℕ) (loads : List Load) (cap : Caps) → Shows p clock loads → CapsShown c cap → earliestUnder cap clock loads (draw line time) ≡ at r
+abbrev pub EarliestUnder : Profile → LineCaps → ℕ → ℕ → ℕ → ℕ → Type 0
+EarliestUnder p c line time rate r =
+    (clock : ℕ) (loads : List Load) (cap : Caps) → Shows p clock loads → CapsShown c cap → earliestUnder cap clock loads (draw line time rate) ≡ at r

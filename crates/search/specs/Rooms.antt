@@ -7,6 +7,7 @@ use lib.Dec.{ltb, leb}
 use lib.ListN.{length, getD}
 use Rattle.rules.specs.Load.{IsLine, share, limits, soundCounts}
 use Rattle.profile.specs.Steps.{mostSteps, levelAt, lineIn, In, Rising}
+use Rattle.profile.specs.Shows.{mostDrawn}
 use Rattle.search.specs.declared.walk.Failing.{Failing}
 use Rattle.search.specs.declared.walk.Failing.the-variants.{At, Nothing}
 
@@ -24,13 +25,13 @@ pub record Filled (g : ℕ → ℕ) (n : ℕ) (a : List ℕ) : Type 0 where
   pub each : (i : ℕ) → i < n → getD a i 0 ≡ g i
 
 -- step i has room, throughout or not at all, where three counts with one more load on the line are within limit and bound
-pub record RoomsWithin (counts : List ℕ) (n limit bound line : ℕ) (rooms : List ℕ) : Type 0 where
+pub record RoomsWithin (counts : List ℕ) (n limit bound line rate : ℕ) (rooms : List ℕ) : Type 0 where
   pub filled :
-      Filled (λ i. cond (soundCounts (limits limit bound) (λ l. lineIn counts l i + share line l)) 4294967295 0) n rooms
+      Filled (λ i. cond (soundCounts (limits limit bound) (λ l. lineIn counts l i + share line rate l)) 4294967295 0) n rooms
 
--- no count of the first n steps is large
+-- no count of the first n steps is above what can be drawn
 abbrev pub SmallSteps : List ℕ → ℕ → Type 0
-SmallSteps counts n = (l : ℕ) → IsLine l → (m : ℕ) → m < n → lineIn counts l m < 4294967295
+SmallSteps counts n = (l : ℕ) → IsLine l → (m : ℕ) → m < n → lineIn counts l m ≤ mostDrawn
 
 -- where a step, or what is looked at, ends
 pub record End (ats : List ℕ) (n i until r : ℕ) : Type 0 where

@@ -27,9 +27,9 @@ abbrev pub soundIn : Profile → ℕ → ℕ → ℕ → Bool
 soundIn p limit bound t = soundCounts (limits limit bound) (levels p t)
 
 -- the same with one more load of a line from minute s on
-abbrev pub soundWith : Profile → ℕ → ℕ → ℕ → ℕ → ℕ → ℕ → Bool
-soundWith p limit bound line time s t =
-    soundCounts (limits limit bound) (λ l. levelOf p l t + draws (loadFrom (draw line time) s) l t)
+abbrev pub soundWith : Profile → ℕ → ℕ → ℕ → ℕ → ℕ → ℕ → ℕ → Bool
+soundWith p limit bound line time rate s t =
+    soundCounts (limits limit bound) (λ l. levelOf p l t + draws (loadFrom (draw line time rate) s) l t)
 
 -- every minute before `first` is sound, and every minute from `end` on; `first` is not, if it is a minute at all, and neither is the minute before `end`
 pub record UnsoundWithin (p : Profile) (limit bound first end : ℕ) : Type 0 where
@@ -41,23 +41,23 @@ pub record UnsoundWithin (p : Profile) (limit bound first end : ℕ) : Type 0 wh
   pub last-fails : firstMinute p < end → soundIn p limit bound (end - 1) ≡ false
 
 -- r is the smallest start, from the first minute on, with which every minute is sound
-pub record StartsAt (p : Profile) (limit bound line time r : ℕ) : Type 0 where
+pub record StartsAt (p : Profile) (limit bound line time rate r : ℕ) : Type 0 where
   pub low : firstMinute p ≤ r
   pub high : r ≤ lastMinute p
-  pub sound : Passes (soundWith p limit bound line time r) (firstMinute p)
-  pub least : (s : ℕ) → firstMinute p ≤ s → s < r → Fails (soundWith p limit bound line time s) (firstMinute p)
+  pub sound : Passes (soundWith p limit bound line time rate r) (firstMinute p)
+  pub least : (s : ℕ) → firstMinute p ≤ s → s < r → Fails (soundWith p limit bound line time rate s) (firstMinute p)
 
 -- that start, or there is none
-abbrev pub StartsIf : Profile → ℕ → ℕ → ℕ → ℕ → When → Type 0
-StartsIf p limit bound line time (Minute r) = StartsAt p limit bound line time r
-StartsIf p limit bound line time Never =
-    (s : ℕ) → firstMinute p ≤ s → Fails (soundWith p limit bound line time s) (firstMinute p)
+abbrev pub StartsIf : Profile → ℕ → ℕ → ℕ → ℕ → ℕ → When → Type 0
+StartsIf p limit bound line time rate (Minute r) = StartsAt p limit bound line time rate r
+StartsIf p limit bound line time rate Never =
+    (s : ℕ) → firstMinute p ≤ s → Fails (soundWith p limit bound line time rate s) (firstMinute p)
 
 -- the answer is the smallest start with which the levels and one more load are within limit and bound in every minute
-pub record EarliestStart (p : Profile) (limit bound line time : ℕ) (r : When) : Type 0 where
-  pub answer : StartsIf p limit bound line time r
+pub record EarliestStart (p : Profile) (limit bound line time rate : ℕ) (r : When) : Type 0 where
+  pub answer : StartsIf p limit bound line time rate r
 
 -- whatever loads p shows, the answer is the rules' earliest start
-abbrev pub Earliest : Profile → ℕ → ℕ → ℕ → ℕ → When → Type 0
-Earliest p limit bound line time r =
-    (clock : ℕ) (loads : List Load) → Shows p clock loads → earliest (limits limit bound) clock loads (draw line time) ≡ foundAt r
+abbrev pub Earliest : Profile → ℕ → ℕ → ℕ → ℕ → ℕ → When → Type 0
+Earliest p limit bound line time rate r =
+    (clock : ℕ) (loads : List Load) → Shows p clock loads → earliest (limits limit bound) clock loads (draw line time rate) ≡ foundAt r

@@ -1,4 +1,4 @@
-// The caps of the lines: for line l the number at COLUMNS * k + l - 1 has the first minute from which on the cap is at most k, 4294967295 where it never is.
+// The caps of the lines: for line l the number at COLUMNS * k + l - 1 has the first minute from which on the cap is below k, 4294967295 where it never is.
 use profile::COLUMNS;
 use profile::counts::smaller;
 ghost use mathlib.Core.Path.{_≡_};
@@ -15,7 +15,7 @@ pub struct LineCaps {
     pub caps: [u32; COLUMNS * CAP_PLACES],
 }
 
-// A cap of n on each line in every minute.
+// Counts below n are at or below the cap of each line in every minute.
 pub fn level(n: usize) -> [u32; COLUMNS * CAP_PLACES]
     requires { ⌜ n ≤ capPlaces ⌝ }
     ensures { λ r. ⌜ Level (columns * n) r ⌝ }
@@ -29,7 +29,7 @@ pub fn level(n: usize) -> [u32; COLUMNS * CAP_PLACES]
     caps
 }
 
-// From t on the cap of the line becomes the smaller of itself and v.
+// From t on counts of v and more are above the cap of the line.
 pub fn lower(caps: &mut [u32; COLUMNS * CAP_PLACES], line: usize, v: usize, t: u32)
     requires { ⌜ (length (now caps) ≡ columns * capPlaces) × IsLine line ⌝ }
     ensures { λ r. ⌜ Lowered (now (caps .entry)) (now (caps .exit)) line t v ⌝ }
@@ -45,11 +45,11 @@ pub fn lower(caps: &mut [u32; COLUMNS * CAP_PLACES], line: usize, v: usize, t: u
 impl LineCaps {
     // Each line's cap is the limit in every minute.
     pub fn new(limit: u32) -> LineCaps
-        requires { ⌜ limit ≤ capPlaces ⌝ }
+        requires { ⌜ limit < capPlaces ⌝ }
         ensures { λ r. ⌜ CapsShown r (λ l t. limit) ⌝ }
     {
         let n = limit as usize;
-        let caps = level(n);
+        let caps = level(n + 1);
         LineCaps { caps }
     }
 
@@ -64,7 +64,7 @@ impl LineCaps {
         if 3 < line {
             return self;
         }
-        lower(&mut self.caps, line as usize, v as usize, t);
+        lower(&mut self.caps, line as usize, v as usize + 1, t);
         self
     }
 }

@@ -7,8 +7,8 @@ use profile::counts::larger;
 use profile::counts::smaller;
 ghost use mathlib.Core.Path.{_≡_};
 ghost use mathlib.Core.Bool.{cond};
-ghost use Prim.Native.Nat.{_*_, _≤_};
-ghost use Rattle.rules.specs.Load.{IsLine, share, limits, soundCounts};
+ghost use Prim.Native.Nat.{_+_, _*_, _≤_};
+ghost use Rattle.rules.specs.Load.{IsLine, IsRate, share, limits, soundCounts};
 ghost use Rattle.profile.specs.Steps.{mostSteps, columns, lineIn};
 ghost use Rattle.profile.specs.Shows.{ofLines};
 ghost use lib.ListN.{length};
@@ -16,10 +16,10 @@ ghost use Rattle.search.specs.Rooms.{RoomsWithin, SmallSteps};
 ghost use Rattle.search.specs.Caps.{capPlaces, RoomsUnder};
 
 // What one load of a line adds to the count of line l.
-pub fn share_of(line: u32, l: u32) -> u32
-    ensures { λ r. ⌜ (r ≡ share line l) × (r ≤ 1) ⌝ }
+pub fn share_of(line: u32, rate: u32, l: u32) -> u32
+    ensures { λ r. ⌜ (r ≡ share line rate l) × (r ≤ rate) ⌝ }
 {
-    if line == l { 1 } else { 0 }
+    if line == l { rate } else { 0 }
 }
 
 // Whether three counts are within limit and bound.
@@ -51,14 +51,15 @@ pub fn rooms_within<'a>(
     limit: u32,
     bound: u32,
     line: u32,
+    rate: u32,
 ) -> [u32; STEPS]
-    requires { ⌜ (n ≤ mostSteps) × SmallSteps (now counts) n ⌝ }
-    ensures { λ r. ⌜ RoomsWithin (now (counts .entry)) n limit bound line r ⌝ }
+    requires { ⌜ (n ≤ mostSteps) × SmallSteps (now counts) n × IsRate rate ⌝ }
+    ensures { λ r. ⌜ RoomsWithin (now (counts .entry)) n limit bound line rate r ⌝ }
 {
     let mut rooms = [0u32; STEPS];
-    let a = share_of(line, 1);
-    let b = share_of(line, 2);
-    let c = share_of(line, 3);
+    let a = share_of(line, rate, 1);
+    let b = share_of(line, rate, 2);
+    let c = share_of(line, rate, 3);
     let mut i = 0;
     while i < n {
         let x = count_of(counts, i, 1) + a;
@@ -70,12 +71,12 @@ pub fn rooms_within<'a>(
     rooms
 }
 
-// Up to which minute a count has room for one more load under a cap.
-pub fn under<'a>(caps: &'a [u32; COLUMNS * CAP_PLACES], line: usize, count: u32) -> u32
+// Up to which minute a count with one more load is at or below a cap.
+pub fn under<'a>(caps: &'a [u32; COLUMNS * CAP_PLACES], line: usize, count: u32, rate: u32) -> u32
     requires { ⌜ (length (now caps) ≡ columns * capPlaces) × IsLine line ⌝ }
-    ensures { λ r. ⌜ r ≡ lineIn (now (caps .entry)) line count ⌝ }
+    ensures { λ r. ⌜ r ≡ lineIn (now (caps .entry)) line (count + rate) ⌝ }
 {
-    let k = count as usize;
+    let k = count as usize + rate as usize;
     if k < CAP_PLACES {
         return caps[COLUMNS * k + line - 1];
     }
@@ -86,16 +87,17 @@ pub fn under<'a>(caps: &'a [u32; COLUMNS * CAP_PLACES], line: usize, count: u32)
 pub fn rooms_under<'a>(
     counts: &'a [u32; COLUMNS * STEPS],
     line: usize,
+    rate: u32,
     caps: &'a [u32; COLUMNS * CAP_PLACES],
     n: usize,
 ) -> [u32; STEPS]
     requires { ⌜ (n ≤ mostSteps) × IsLine line × (length (now caps) ≡ columns * capPlaces) ⌝ }
-    ensures { λ r. ⌜ RoomsUnder (lineIn (now (counts .entry)) line) (lineIn (now (caps .entry)) line) n r ⌝ }
+    ensures { λ r. ⌜ RoomsUnder (lineIn (now (counts .entry)) line) (lineIn (now (caps .entry)) line) rate n r ⌝ }
 {
     let mut rooms = [0u32; STEPS];
     let mut i = 0;
     while i < n {
-        rooms[i] = under(caps, line, count_of(counts, i, line));
+        rooms[i] = under(caps, line, count_of(counts, i, line), rate);
         i += 1;
     }
     rooms

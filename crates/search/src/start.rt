@@ -12,7 +12,7 @@ use profile::counts::larger;
 use profile::counts::smaller;
 ghost use mathlib.Core.Path.{_≡_};
 ghost use Prim.Native.Nat.{_-_, _≤_, max};
-ghost use Rattle.rules.specs.Load.{IsLine};
+ghost use Rattle.rules.specs.Load.{IsLine, IsRate};
 ghost use Rattle.profile.specs.Shows.{profileOf, Formed};
 ghost use Rattle.search.specs.Starts.{EndsEmpty, CanStart, UnsoundWithin, EarliestStart};
 ghost use Rattle.search.specs.Caps.{capsIn, CanCap, EarliestStartUnder};
@@ -70,12 +70,13 @@ pub fn earliest<'a>(
     bound: u32,
     line: u32,
     time: u32,
+    rate: u32,
 ) -> When
-    requires { ⌜ CanStart (profileOf n (now at) (now counts)) time × (1 ≤ limit) × (1 ≤ bound) ⌝ }
-    ensures { λ r. ⌜ EarliestStart (profileOf n (now (at .entry)) (now (counts .entry))) limit bound line time r ⌝ }
+    requires { ⌜ CanStart (profileOf n (now at) (now counts)) time × IsRate rate × (rate ≤ limit) × (rate ≤ bound) ⌝ }
+    ensures { λ r. ⌜ EarliestStart (profileOf n (now (at .entry)) (now (counts .entry))) limit bound line time rate r ⌝ }
 {
     let clock = at[0];
-    let rooms = rooms_within(counts, n, limit, bound, line);
+    let rooms = rooms_within(counts, n, limit, bound, line, rate);
     let u = unsound_minutes(at, counts, n, limit, bound);
     let start = reaching(clock, u.end, time);
     let s = search(at, &rooms, n, time, start);
@@ -94,10 +95,11 @@ pub fn earliest_under<'a>(
     caps: &'a [u32; COLUMNS * CAP_PLACES],
     line: u32,
     time: u32,
+    rate: u32,
 ) -> u32
-    requires { ⌜ CanStart (profileOf n (now at) (now counts)) time × IsLine line × CanCap (capsIn (now caps)) line ⌝ }
-    ensures { λ r. ⌜ EarliestStartUnder (profileOf n (now (at .entry)) (now (counts .entry))) (capsIn (now (caps .entry))) line time r ⌝ }
+    requires { ⌜ CanStart (profileOf n (now at) (now counts)) time × IsLine line × CanCap (capsIn (now caps)) line rate ⌝ }
+    ensures { λ r. ⌜ EarliestStartUnder (profileOf n (now (at .entry)) (now (counts .entry))) (capsIn (now (caps .entry))) line time rate r ⌝ }
 {
-    let rooms = rooms_under(counts, line as usize, caps, n);
+    let rooms = rooms_under(counts, line as usize, rate, caps, n);
     search(at, &rooms, n, time, at[0])
 }

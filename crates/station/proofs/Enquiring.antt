@@ -18,7 +18,7 @@ use Rattle.station.proofs.Refusing.{answering-granted}
 
 -- what is said of a charge
 abbrev pub toldOf : ℕ → Charge → Answer
-toldOf clock x = cond (isBegun clock x) (charging (x .start) (endOf x)) (waiting (x .start))
+toldOf clock x = cond (isBegun clock x) (charging (x .start) (endOf x) (x .rate)) (waiting (x .start) (x .rate))
 
 abbrev isAt : Found → Bool
 isAt (at i) = true
@@ -71,8 +71,8 @@ module _ (s : Station) (ticket : ℕ) where
   enquire-held i e =
       omega (arith, first-found (λ j. eqb (chargeAt (s .charges) j .ticket) ticket) (s .charges .held) 0 i e .high)
 
-pub told-charging : (clock : ℕ) (x : Charge) → x .start < clock → toldOf clock x ≡ charging (x .start) (endOf x)
+pub told-charging : (clock : ℕ) (x : Charge) → x .start < clock → toldOf clock x ≡ charging (x .start) (endOf x) (x .rate)
 told-charging clock x h = rw (lt-ltb (x .start) clock h)
 
-pub told-waiting : (clock : ℕ) (x : Charge) → clock ≤ x .start → toldOf clock x ≡ waiting (x .start)
+pub told-waiting : (clock : ℕ) (x : Charge) → clock ≤ x .start → toldOf clock x ≡ waiting (x .start) (x .rate)
 told-waiting clock x h = rw (le-ltb (x .start) clock h)

@@ -5,6 +5,7 @@ use Prim.Native.Nat.{ℕ, zero, suc, _+_, _≤_, _<_}
 use mathlib.Core.List.{List, [], _∷_}
 use native.Mathlib.Omega.{arith}
 use Rattle.rules.specs.Basics.{Each, tabulate}
+use Rattle.rules.specs.Load.{limits}
 use Rattle.rules.specs.Charge.{Charge, endOf, lastEnd}
 use Rattle.rules.specs.Valid.{ValidCharge, Rising}
 use Rattle.rules.proofs.Ranges.{below-or-not}
@@ -38,6 +39,13 @@ rising-places f low (suc k) a r i j h l m =
         (rising-from (suc (f a .ticket)) (tabulate f k (suc a)) (r .1))
         j (omega arith) (omega arith))
 
+-- each held charge is valid
+pub held-valid :
+    (s : Station) → Valid s → (i : ℕ) → i < s .charges .held → ValidCharge (limits (s .limit) (s .bound)) (s .clock) (s .next) (chargeAt (s .charges) i)
+held-valid s v i h =
+    tabulate-each (ValidCharge (limits (s .limit) (s .bound)) (s .clock) (s .next)) (chargeAt (s .charges)) (s .charges .held) 0 (v .state .each) i
+    (omega arith) (omega arith)
+
 -- "No held time reaches 100,000,000."
 pub valid-listed : (s : Station) → Valid s → Listed (s .charges)
 valid-listed s v =
@@ -47,11 +55,6 @@ valid-listed s v =
       rising = λ i h. rising-places (chargeAt (s .charges)) 1 (s .charges .held) 0 (v .state .rising) i (i + 1) (omega arith) (omega arith) (omega arith);
     }
   where
-    fair : (i : ℕ) → i < s .charges .held → ValidCharge (s .clock) (s .next) (chargeAt (s .charges) i)
-    fair i h =
-        tabulate-each (ValidCharge (s .clock) (s .next)) (chargeAt (s .charges)) (s .charges .held) 0 (v .state .each) i
-        (omega arith) (omega arith)
-
     ended : (i : ℕ) → i < s .charges .held → endOf (chargeAt (s .charges) i) ≤ lastEnd (chargesOf (s .charges))
     ended i h =
         tabulate-each (λ c. endOf c ≤ lastEnd (chargesOf (s .charges))) (chargeAt (s .charges)) (s .charges .held) 0
@@ -60,10 +63,11 @@ valid-listed s v =
 
     small : (i : ℕ) → i < s .charges .held → Small (chargeAt (s .charges) i)
     small i h =
-        let f : ValidCharge (s .clock) (s .next) (chargeAt (s .charges) i) = fair i h in
+        let f : ValidCharge (limits (s .limit) (s .bound)) (s .clock) (s .next) (chargeAt (s .charges) i) = held-valid s v i h in
         record {
           on-line = f .line;
           time-most = f .time-high;
           due-most = f .due-high;
+          is-rate = f .rate;
           start-most = omega (arith, ended i h, f .time-low, v .state .ends-high, v .state .clock-high, v .state .next-high);
         }

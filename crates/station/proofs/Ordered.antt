@@ -5,7 +5,7 @@ use mathlib.Core.List.{[], _∷_, _++_}
 use native.Mathlib.Omega.{arith}
 use native.Mathlib.Numerals.{add-one}
 use Rattle.rules.specs.Basics.{Found, at, nothing, firstOf}
-use Rattle.rules.specs.Load.{lastUntil}
+use Rattle.rules.specs.Load.{IsRate, lastUntil}
 use Rattle.rules.specs.Charge.{loadsOf, begunCharges}
 use Rattle.rules.specs.Calls.{Answer, refused, committed, Result, answering, preview, commit, drawFor, startFor, orderRefusals, previewedAt, previewing, committing, step}
 use Rattle.rules.proofs.Tables.{NoneHolds}
@@ -19,8 +19,8 @@ use Rattle.profile.specs.declared.Profile.{Profile}
 use Rattle.profile.specs.Shows.{Shows}
 use Rattle.search.specs.Starts.{CanStart}
 use Rattle.search.proofs.Starts.{can-start}
-use Rattle.planner.specs.Ready.{EndsFit}
-use Rattle.planner.proofs.Showing.{length-loads-of, listed-ends, all-before}
+use Rattle.planner.specs.Ready.{EndsFit, Rated}
+use Rattle.planner.proofs.Showing.{length-loads-of, listed-ends, listed-rates, all-before}
 use Rattle.station.specs.declared.Station.{Station}
 use Rattle.station.specs.declared.order.PreviewAnswer.{PreviewAnswer}
 use Rattle.station.specs.declared.order.PreviewAnswer.the-variants.{Previewed}
@@ -32,6 +32,9 @@ use Rattle.station.proofs.Listing.{valid-listed}
 -- what `profile_before` asks
 pub ends-fit : (s : Station) → Valid s → EndsFit (s .charges)
 ends-fit s v = listed-ends (valid-listed s v)
+
+pub rates-fit : (s : Station) → Valid s → Rated (s .charges)
+rates-fit s v = listed-rates (valid-listed s v)
 
 -- every start is below what `start_for` passes, so that all held charges are in the profile
 pub all-shown :
@@ -46,18 +49,24 @@ last-held : (s : Station) → Valid s → lastUntil (loadsOf (chargesOf (s .char
 last-held s v =
     omega (arith, last-until (chargesOf (s .charges)), v .state .ends-high, v .state .clock-high, v .state .next-high)
 
--- what none of refusals 4 to 14 turns away, read off the arrays
-pub record Orderable (s : Station) (line time due : ℕ) : Type 0 where
+-- what none of refusals 4 to 18 turns away, read off the arrays
+pub record Orderable (s : Station) (line time due rate : ℕ) : Type 0 where
   pub time-most : time ≤ 1440
+  pub is-rate : IsRate rate
+  pub within-limit : rate ≤ s .limit
+  pub within-bound : rate ≤ s .bound
   pub room : s .charges .held < 180
   pub tickets-left : s .next ≤ 65535
 
 pub orderable :
-    (s : Station) (line time due : ℕ) → NoneHolds (orderRefusals (view s) line time due) → Orderable s line time due
-orderable s line time due e =
-    let g = order-granted (view s) line time due e in
+    (s : Station) (line time due rate : ℕ) → NoneHolds (orderRefusals (view s) line time due rate) → Orderable s line time due rate
+orderable s line time due rate e =
+    let g = order-granted (view s) line time due rate e in
     record {
       time-most = g .time-high;
+      is-rate = g .is-rate;
+      within-limit = g .within-limit;
+      within-bound = g .within-bound;
       room = omega (arith, g .room, length-tabulate (chargeAt (s .charges)) (s .charges .held) 0);
       tickets-left = g .ticket-left;
     }
@@ -81,40 +90,40 @@ can-search s p clock time v shows h k =
 
 -- What is answered
 
-module _ (s : Station) (line time due : ℕ) where
+module _ (s : Station) (line time due rate : ℕ) where
   pub shown-refused :
       (k : ℕ)
-      → k ≡ firstOf (orderRefusals (view s) line time due)
+      → k ≡ firstOf (orderRefusals (view s) line time due rate)
       → 0 < k
-      → refused k ≡ step (view s) (preview line time due) .answer
-  shown-refused k e h = ap (λ (r : Result). r .answer) (call-refused s (preview line time due) k e h)
+      → refused k ≡ step (view s) (preview line time due rate) .answer
+  shown-refused k e h = ap (λ (r : Result). r .answer) (call-refused s (preview line time due rate) k e h)
 
   pub shown-found :
       (k : ℕ) (f : Found)
-      → k ≡ firstOf (orderRefusals (view s) line time due)
+      → k ≡ firstOf (orderRefusals (view s) line time due rate)
       → k ≡ 0
-      → startFor (view s) (drawFor (view s) line time) ≡ f
-      → previewedAt (view s) f .answer ≡ step (view s) (preview line time due) .answer
+      → startFor (view s) (drawFor (view s) line time rate) ≡ f
+      → previewedAt (view s) f .answer ≡ step (view s) (preview line time due rate) .answer
   unfolding previewing
   shown-found k f e z q =
-      sym (ap (λ (r : Result). r .answer) (call-granted s (preview line time due) k e z ∙ ap (previewedAt (view s)) q))
+      sym (ap (λ (r : Result). r .answer) (call-granted s (preview line time due rate) k e z ∙ ap (previewedAt (view s)) q))
 
 -- what the start that was found says of the order
 pub found-granted :
-    (s : Station) (line time due start : ℕ) (a : PreviewAnswer)
+    (s : Station) (line time due rate start : ℕ) (a : PreviewAnswer)
     → a ≡ Previewed start
-    → previewAnswer a ≡ step (view s) (preview line time due) .answer
-    → NoneHolds (orderRefusals (view s) line time due) × (startFor (view s) (drawFor (view s) line time) ≡ at start)
-found-granted s line time due start a e h = preview-shown (view s) line time due start (sym (ap previewAnswer e) ∙ h)
+    → previewAnswer a ≡ step (view s) (preview line time due rate) .answer
+    → NoneHolds (orderRefusals (view s) line time due rate) × (startFor (view s) (drawFor (view s) line time rate) ≡ at start)
+found-granted s line time due rate start a e h = preview-shown (view s) line time due rate start (sym (ap previewAnswer e) ∙ h)
 
 -- a preview leaves the station, whatever it answers
 pub preview-stays :
-    (s : Station) (line time due : ℕ) (a : Answer)
-    → a ≡ step (view s) (preview line time due) .answer
-    → giving a s [] ≡ step (view s) (preview line time due)
+    (s : Station) (line time due rate : ℕ) (a : Answer)
+    → a ≡ step (view s) (preview line time due rate) .answer
+    → giving a s [] ≡ step (view s) (preview line time due rate)
 unfolding previewing
-preview-stays s line time due a e =
-    rw e (go (firstOf (orderRefusals (view s) line time due)) (startFor (view s) (drawFor (view s) line time)))
+preview-stays s line time due rate a e =
+    rw e (go (firstOf (orderRefusals (view s) line time due rate)) (startFor (view s) (drawFor (view s) line time rate)))
   where
     go :
         (i : ℕ) (f : Found)
@@ -137,12 +146,12 @@ committedStation s c =
     }
 
 pub call-committed :
-    (s : Station) (line time due start shown : ℕ) (c : Charges)
-    → NoneHolds (orderRefusals (view s) line time due)
-    → startFor (view s) (drawFor (view s) line time) ≡ at start
+    (s : Station) (line time due rate start shown : ℕ) (c : Charges)
+    → NoneHolds (orderRefusals (view s) line time due rate)
+    → startFor (view s) (drawFor (view s) line time rate) ≡ at start
     → start ≡ shown
-    → Holds (chargesOf (s .charges) ++ (charge (s .next) line (s .clock) time due start ∷ [])) c
-    → giving (committed (s .next) start) (committedStation s c) [] ≡ step (view s) (commit line time due shown)
+    → Holds (chargesOf (s .charges) ++ (charge (s .next) line (s .clock) time due start rate ∷ [])) c
+    → giving (committed (s .next) start) (committedStation s c) [] ≡ step (view s) (commit line time due rate shown)
 unfolding committing
-call-committed s line time due start shown c free f same h =
-    rw (h .charges, add-one (s .next), same) (sym (commit-taken (view s) line time due free shown (f ∙ ap at same)))
+call-committed s line time due rate start shown c free f same h =
+    rw (h .charges, add-one (s .next), same) (sym (commit-taken (view s) line time due rate free shown (f ∙ ap at same)))

@@ -27,7 +27,7 @@ use Rattle.station.specs.declared.Station.{Station}
 use Rattle.station.specs.View.{view, Valid}
 use Rattle.station.specs.Answers.{giving}
 use Rattle.station.proofs.Refusing.{call-refused, call-granted}
-use Rattle.station.proofs.Listing.{valid-listed}
+use Rattle.station.proofs.Listing.{held-valid, valid-listed}
 
 -- what the planners ask of a valid station
 pub valid-ready : (s : Station) → Valid s → Ready (s .clock) (s .limit) (s .bound) (s .charges)
@@ -35,9 +35,7 @@ valid-ready s v =
     record {
       listed = valid-listed s v;
       clock-most = v .state .clock-high;
-      some-limit = v .state .limit-low;
       limit-most = v .state .limit-high;
-      some-bound = v .state .bound-low;
       bound-most =
           omega (
             arith,
@@ -45,6 +43,8 @@ valid-ready s v =
             v .state .limit-high,
             bound-at-most (s .limit) (s .percent) (v .state .percent-high),
           );
+      within-limit = λ i h. held-valid s v i h .within-limit;
+      within-bound = λ i h. held-valid s v i h .within-bound;
     }
 
 -- The test

@@ -62,6 +62,6 @@ planAnswer (PlanRefused number) = refused number
 
 -- "no held charge has this ticket" is refusal 15
 abbrev pub enquiryAnswer : EnquiryAnswer → Answer
-enquiryAnswer (Waiting start) = waiting start
-enquiryAnswer (Charging start end) = charging start end
+enquiryAnswer (Waiting start rate) = waiting start rate
+enquiryAnswer (Charging start end rate) = charging start end rate
 enquiryAnswer EnquiryRefused = refused 15

@@ -13,8 +13,8 @@ use Rattle.station.specs.Answers.{Gives, previewAnswer, commitAnswer, mo
 
 -- the call of the rules, with the lists that are lent to it
 abbrev pub callOf : Call → List ℕ → List ℕ → rules.Call
-callOf (Preview line time due) starts report = preview line time due
-callOf (Commit line time due shown) starts report = commit line time due shown
+callOf (Preview line time due rate) starts report = preview line time due rate
+callOf (Commit line time due rate shown) starts report = commit line time due rate shown
 callOf (Move target) starts report = move target report
 callOf Offer starts report = offer starts
 callOf ReplanLatest starts report = replanLatest
@@ -28,8 +28,8 @@ pub data Lends : Type 0 where
   report : Lends
 
 abbrev pub lends : Call → Lends
-lends (Preview line time due) = none
-lends (Commit line time due shown) = none
+lends (Preview line time due rate) = none
+lends (Commit line time due rate shown) = none
 lends (Move target) = report
 lends Offer = starts
 lends ReplanLatest = none

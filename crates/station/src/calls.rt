@@ -13,11 +13,13 @@ pub enum Call {
         line: u32,
         time: u32,
         due: u32,
+        rate: u32,
     },
     Commit {
         line: u32,
         time: u32,
         due: u32,
+        rate: u32,
         shown: u32,
     },
     Move {
@@ -53,8 +55,13 @@ impl Station {
         ensures { λ r. ⌜ Applies (view self) call (now (starts .entry)) (now (report .entry)) (now (report .exit)) (r .answer) (r .station) ⌝ }
     {
         match call {
-            Call::Preview { line, time, due } => {
-                let done = self.preview(line, time, due);
+            Call::Preview {
+                line,
+                time,
+                due,
+                rate,
+            } => {
+                let done = self.preview(line, time, due, rate);
                 let answer = done.answer;
                 let station = done.station;
                 Applied {
@@ -66,9 +73,10 @@ impl Station {
                 line,
                 time,
                 due,
+                rate,
                 shown,
             } => {
-                let done = self.commit(line, time, due, shown);
+                let done = self.commit(line, time, due, rate, shown);
                 let answer = done.answer;
                 let station = done.station;
                 Applied {

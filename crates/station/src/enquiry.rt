@@ -7,8 +7,8 @@ ghost use Rattle.station.specs.Answers.{Gives, enquiryAnswer};
 
 // An enquiry is refused for one reason alone, so that its refusal needs no number: it is 15 (specs/Answers.antt).
 pub enum EnquiryAnswer {
-    Waiting(u32),
-    Charging { start: u32, end: u32 },
+    Waiting { start: u32, rate: u32 },
+    Charging { start: u32, end: u32, rate: u32 },
     Refused,
 }
 
@@ -32,17 +32,19 @@ impl Station {
         };
         let start = held.starts[i];
         let time = held.times[i];
+        let rate = held.rates[i];
         if start < self.clock {
             return Enquiring {
                 answer: EnquiryAnswer::Charging {
                     start,
                     end: start + time,
+                    rate,
                 },
                 station: self,
             };
         }
         Enquiring {
-            answer: EnquiryAnswer::Waiting(start),
+            answer: EnquiryAnswer::Waiting { start, rate },
             station: self,
         }
     }

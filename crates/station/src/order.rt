@@ -32,9 +32,9 @@ pub struct Committing {
 
 impl Station {
     // The number of the first refusal of an order, 0 where none applies.
-    fn order_refusal(self, line: u32, time: u32, due: u32) -> u32
+    fn order_refusal(self, line: u32, time: u32, due: u32, rate: u32) -> u32
         requires { ⌜ Valid self ⌝ }
-        ensures { λ r. ⌜ r ≡ firstOf (orderRefusals (view self) line time due) ⌝ }
+        ensures { λ r. ⌜ r ≡ firstOf (orderRefusals (view self) line time due rate) ⌝ }
     {
         if line < 1 {
             return 4;
@@ -48,11 +48,22 @@ impl Station {
         if 1440 < time {
             return 5;
         }
+        if rate < 1 {
+            return 17;
+        }
+        if 2 < rate {
+            return 17;
+        }
+        if self.limit < rate {
+            return 18;
+        }
+        if self.bound < rate {
+            return 18;
+        }
         if 2000000 < due {
             return 6;
         }
-        let held = self.charges.held;
-        if 180 <= held {
+        if 180 <= self.charges.held {
             return 13;
         }
         if 65535 < self.next {
@@ -61,13 +72,13 @@ impl Station {
         0
     }
 
-    // The one search of both calls: the first refusal of an order, or its start. A sound plan always leaves a start, so the
-    // second refusal is never given.
-    fn start_for(self, line: u32, time: u32, due: u32) -> PreviewAnswer
+    // The one search of both calls: the first refusal of an order, or its start. A sound plan always leaves a start for a rate
+    // that is above neither N nor D, so the second refusal is never given.
+    fn start_for(self, line: u32, time: u32, due: u32, rate: u32) -> PreviewAnswer
         requires { ⌜ Valid self ⌝ }
-        ensures { λ r. ⌜ previewAnswer r ≡ step (view self) (previewCall line time due) .answer ⌝ }
+        ensures { λ r. ⌜ previewAnswer r ≡ step (view self) (previewCall line time due rate) .answer ⌝ }
     {
-        let refusal = self.order_refusal(line, time, due);
+        let refusal = self.order_refusal(line, time, due, rate);
         if 0 < refusal {
             return PreviewAnswer::Refused(refusal);
         }
@@ -83,6 +94,7 @@ impl Station {
             self.bound,
             line,
             time,
+            rate,
         );
         let When::Minute(start) = found else {
             return PreviewAnswer::Refused(0);
@@ -91,22 +103,22 @@ impl Station {
     }
 
     // The station stays as it is.
-    pub fn preview(self, line: u32, time: u32, due: u32) -> Previewing
+    pub fn preview(self, line: u32, time: u32, due: u32, rate: u32) -> Previewing
         requires { ⌜ Valid self ⌝ }
-        ensures { λ r. ⌜ Gives (step (view self) (previewCall line time due)) (previewAnswer (r .answer)) (r .station) [] ⌝ }
+        ensures { λ r. ⌜ Gives (step (view self) (previewCall line time due rate)) (previewAnswer (r .answer)) (r .station) [] ⌝ }
     {
         Previewing {
-            answer: self.start_for(line, time, due),
+            answer: self.start_for(line, time, due, rate),
             station: self,
         }
     }
 
     // No other start moves.
-    pub fn commit(self, line: u32, time: u32, due: u32, shown: u32) -> Committing
+    pub fn commit(self, line: u32, time: u32, due: u32, rate: u32, shown: u32) -> Committing
         requires { ⌜ Valid self ⌝ }
-        ensures { λ r. ⌜ Gives (step (view self) (commitCall line time due shown)) (commitAnswer (r .answer)) (r .station) [] ⌝ }
+        ensures { λ r. ⌜ Gives (step (view self) (commitCall line time due rate shown)) (commitAnswer (r .answer)) (r .station) [] ⌝ }
     {
-        let found = self.start_for(line, time, due);
+        let found = self.start_for(line, time, due, rate);
         match found {
             PreviewAnswer::Refused(number) => Committing {
                 answer: CommitAnswer::Refused(number),
@@ -121,7 +133,7 @@ impl Station {
                 }
                 let ticket = self.next;
                 let held = self.charges;
-                let with = held.push(ticket, line, self.clock, time, due, start);
+                let with = held.push(ticket, line, self.clock, time, due, start, rate);
                 let mut next = self;
                 next.next = ticket + 1;
                 next.charges = with;

@@ -108,7 +108,10 @@ pub fn typical_offer(held: usize) -> Measured {
         write_call(&call).into_bytes()
     }));
     let answers = answers_of(Station::fresh(1, 100), &first);
-    let start = |answer: &Line| show(answer).strip_prefix("waiting ")?.parse().ok();
+    let start = |answer: &Line| {
+        let text = show(answer);
+        text.strip_prefix("waiting ")?.split(' ').next()?.parse().ok()
+    };
     let starts = answers.iter().filter_map(start).collect();
     Measured::kept(first, write_call(&Call::Offer { starts }).into_bytes())
 }

@@ -87,7 +87,8 @@ fn script_of(class: Class, cars: &[Car], replan: Replan) -> Vec<Line> {
     day.call(&Call::Open { limit: class.limit, percent: class.percent });
     for (place, car) in cars.iter().enumerate() {
         day.move_to(car.arrival);
-        day.lines.push(open_commit(Order { line: car.line, time: car.time, due: car.due }));
+        let Car { line, time, due, .. } = *car;
+        day.lines.push(open_commit(Order { line, time, due, rate: 1 }));
         // The first look after this arrival; a next car that comes before it
         // is part of the same look.
         let look = (car.arrival / SUPERVISED + 1) * SUPERVISED;
@@ -141,16 +142,16 @@ mod tests {
         let text: Vec<String> = lines.iter().map(|line| show(line)).collect();
         let expected = [
             "open 5 20",
-            "commit 1 10 20 0",
+            "commit 1 10 20 1 0",
             "move 1 360",
-            "commit 1 10 21 10",
+            "commit 1 10 21 1 10",
             "move 2 360",
             "latest",
-            "commit 1 10 22 20",
+            "commit 1 10 22 1 20",
             "move 4 360",
             "latest",
             "move 7 360",
-            "commit 1 10 27 30",
+            "commit 1 10 27 1 30",
             "move 8 360",
             "latest",
             "move 1000000 360",

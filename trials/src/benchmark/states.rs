@@ -18,9 +18,9 @@ fn line(call: &Call) -> Line {
     write_call(call).into_bytes()
 }
 
-/// An order whose start is still open.
+/// An order of rate 1 whose start is still open.
 fn order(on: u32, time: u32, due: u32) -> Line {
-    open_commit(Order { line: on, time, due })
+    open_commit(Order { line: on, time, due, rate: 1 })
 }
 
 /// The lines with the starts that the fast program would show.
@@ -58,7 +58,7 @@ pub fn passing(orders: bool) -> Vec<Line> {
     let mut lines = Vec::new();
     for clock in 0..PASSING {
         if orders {
-            let order = Order { line: 3, time: 1, due: clock + 1 };
+            let order = Order { line: 3, time: 1, due: clock + 1, rate: 1 };
             lines.push(line(&Call::Commit { order, shown: clock }));
         }
         lines.push(line(&Call::Move { target: clock + 1, places: 360 }));
@@ -90,7 +90,7 @@ pub fn dense(held: usize) -> (Vec<Line>, Line) {
 }
 
 /// An order that finds line 1 of `dense` full to its end.
-const BEHIND_DENSE: Order = Order { line: 1, time: 1, due: LOOSE };
+const BEHIND_DENSE: Order = Order { line: 1, time: 1, due: LOOSE, rate: 1 };
 
 /// Such orders, one after the other.
 pub fn behind_dense(count: u32) -> Vec<Line> {

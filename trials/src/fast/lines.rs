@@ -7,20 +7,20 @@ use super::station::{Charge, Station};
 use crate::yard::Planned;
 
 /// A cap never rises along the minutes. Place k holds the first minute from which
-/// the cap is at most k; so a minute t with count k has room exactly when t is
-/// below place k.
+/// the cap is at most k; so a minute t with count k has room for one more exactly when
+/// t is below place k, and for two when t is below place k + 1.
 #[derive(Clone, Copy)]
-struct Caps([u32; 61]);
+struct Caps([u32; 62]);
 
 impl Caps {
-    fn new(limit: u8) -> Caps {
-        let mut first = [NEVER; 61];
+    fn new(limit: u16) -> Caps {
+        let mut first = [NEVER; 62];
         first[usize::from(limit)..].fill(0);
         Caps(first)
     }
 
     /// From the minute on the cap becomes the smaller of itself and this one.
-    fn lower(&mut self, minute: u32, cap: u8) {
+    fn lower(&mut self, minute: u32, cap: u16) {
         for first in self.0.iter_mut().skip(usize::from(cap)) {
             *first = (*first).min(minute);
         }
@@ -65,9 +65,10 @@ impl Station {
     ) {
         for (line, caps) in caps.iter().enumerate() {
             for (place, charge) in waiting.iter().filter(|(_, charge)| charge.line == line) {
-                let room = |counts: [u8; 3]| caps.0[usize::from(counts[line])];
+                let rate = charge.rate;
+                let room = |counts: [u16; 3]| caps.0[usize::from(counts[line] + rate - 1)];
                 let start = profile.first_run(self.clock, charge.time, room);
-                profile.add(Load { line, from: start, until: start + charge.time });
+                profile.add(Load { line, rate, from: start, until: start + charge.time });
                 starts[*place] = start;
             }
         }
@@ -83,7 +84,7 @@ fn any_placed(line: usize, minute: u32, waiting: &Waiting, starts: &[u32]) -> bo
 }
 
 /// The lines with the largest and the smallest count, the lowest among equals.
-fn extremes(counts: [u8; 3]) -> (usize, usize) {
+fn extremes(counts: [u16; 3]) -> (usize, usize) {
     let (mut largest, mut smallest) = (0, 0);
     for line in 1..3 {
         if counts[line] > counts[largest] {

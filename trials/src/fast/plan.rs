@@ -90,12 +90,12 @@ impl Station {
         for (place, charge) in waiting {
             let (first, after) = span.take().unwrap_or((u32::MAX, 0));
             let least = after.saturating_sub(charge.time).max(self.clock);
-            let start = profile.earliest(charge.line, charge.time, least, self.rules);
+            let Charge { line, rate, time, .. } = charge;
+            let start = profile.earliest(line, rate, time, least, self.rules);
             if start > first {
                 return None;
             }
-            let load = Load { line: charge.line, from: start, until: start + charge.time };
-            profile.add(load);
+            profile.add(Load { line, rate, from: start, until: start + time });
             starts[place] = start;
         }
         Some(starts)

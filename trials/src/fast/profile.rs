@@ -1,17 +1,19 @@
 //! "The **count** of a line in a minute": change minutes in rising order with the
-//! three counts from there on. 180 charges make at most 361 steps, since every
-//! change is a start or an end, and the first step begins at the clock. The last
-//! step has no end and counts nothing.
+//! three counts from there on, in which a charge of rate 2 counts as two; offers bring
+//! them up to 360. 180 charges make at most 361 steps, since every change is a start or
+//! an end, and the first step begins at the clock. The last step has no end and counts
+//! nothing.
 
 /// Steps of 180 charges.
 const STEPS: usize = 361;
 /// Every minute is below it.
 pub const NEVER: u32 = u32::MAX;
 
-/// What a charge draws: line (from 0), first minute, minute after the last.
+/// What a charge draws: line (from 0), rate, first minute, minute after the last.
 #[derive(Clone, Copy)]
 pub struct Load {
     pub line: usize,
+    pub rate: u16,
     pub from: u32,
     pub until: u32,
 }
@@ -19,21 +21,21 @@ pub struct Load {
 /// The limit N and the bound D.
 #[derive(Clone, Copy)]
 pub struct Rules {
-    pub limit: u8,
-    pub bound: u8,
+    pub limit: u16,
+    pub bound: u16,
 }
 
 impl Rules {
-    fn balanced(self, counts: [u8; 3]) -> bool {
+    fn balanced(self, counts: [u16; 3]) -> bool {
         let [a, b, c] = counts;
         a.max(b).max(c) - a.min(b).min(c) <= self.bound
     }
 
-    fn within_limit(self, counts: [u8; 3]) -> bool {
+    fn within_limit(self, counts: [u16; 3]) -> bool {
         counts.iter().all(|count| *count <= self.limit)
     }
 
-    fn sound(self, counts: [u8; 3]) -> bool {
+    fn sound(self, counts: [u16; 3]) -> bool {
         self.within_limit(counts) && self.balanced(counts)
     }
 }
@@ -43,7 +45,7 @@ impl Rules {
 pub struct Profile {
     steps: usize,
     from: [u32; STEPS],
-    counts: [[u8; 3]; STEPS],
+    counts: [[u16; 3]; STEPS],
 }
 
 impl Profile {
@@ -76,7 +78,7 @@ impl Profile {
         let first = self.split_at(load.from);
         let after = self.split_at(load.until);
         for counts in &mut self.counts[first..after] {
-            counts[load.line] += 1;
+            counts[load.line] += load.rate;
         }
     }
 
@@ -96,7 +98,7 @@ impl Profile {
     /// The first start from `least` on with `time` minutes in a row that have
     /// room. `room` answers, for a step's counts, the minute before which it has
     /// room. After a failing minute the next candidate is the end of that step.
-    pub fn first_run(&self, least: u32, time: u32, room: impl Fn([u8; 3]) -> u32) -> u32 {
+    pub fn first_run(&self, least: u32, time: u32, room: impl Fn([u16; 3]) -> u32) -> u32 {
         let mut start = least;
         let mut step = self.step_of(least);
         loop {
@@ -112,11 +114,11 @@ impl Profile {
         }
     }
 
-    /// The smallest start from `least` on at which one more load on the line
-    /// leaves its own minutes sound.
-    pub fn earliest(&self, line: usize, time: u32, least: u32, rules: Rules) -> u32 {
+    /// The smallest start from `least` on at which one more load of the line and the
+    /// rate leaves its own minutes sound.
+    pub fn earliest(&self, line: usize, rate: u16, time: u32, least: u32, rules: Rules) -> u32 {
         self.first_run(least, time, |mut counts| {
-            counts[line] += 1;
+            counts[line] += rate;
             if rules.sound(counts) {
                 NEVER
             } else {
@@ -130,7 +132,7 @@ impl Profile {
     }
 
     /// The first minute in which two counts differ by more than D, with the counts.
-    pub fn first_unbalanced(&self, rules: Rules) -> Option<(u32, [u8; 3])> {
+    pub fn first_unbalanced(&self, rules: Rules) -> Option<(u32, [u16; 3])> {
         let steps = &self.counts[..self.steps];
         let step = steps.iter().position(|counts| !rules.balanced(*counts))?;
         Some((self.from[step], self.counts[step]))

@@ -15,6 +15,7 @@ pub struct Charge {
     pub line: usize,
     pub time: u32,
     pub due: u32,
+    pub rate: u16,
     pub start: u32,
 }
 
@@ -24,7 +25,7 @@ impl Charge {
     }
 
     pub fn load(&self) -> Load {
-        Load { line: self.line, from: self.start, until: self.end() }
+        Load { line: self.line, rate: self.rate, from: self.start, until: self.end() }
     }
 
     /// The key of latest-start order, which may be negative; charges lie in ticket
@@ -51,7 +52,7 @@ pub struct Station {
 impl Station {
     pub fn fresh(limit: u32, percent: u32) -> Station {
         Station {
-            rules: Rules { limit: limit as u8, bound: bound(limit, percent) as u8 },
+            rules: Rules { limit: limit as u16, bound: bound(limit, percent) as u16 },
             clock: 0,
             next_ticket: 1,
             charges: Vec::with_capacity(PLACES),
@@ -59,12 +60,18 @@ impl Station {
     }
 
     fn check_order(&self, order: Order) -> Result<(), Refusal> {
-        let Order { line, time, due } = order;
+        let Order { line, time, due, rate } = order;
         if !(1..=3).contains(&line) {
             return Err(4);
         }
         if !(1..=1_440).contains(&time) {
             return Err(5);
+        }
+        if rate != 1 && rate != 2 {
+            return Err(17);
+        }
+        if rate > u32::from(self.rules.limit) || rate > u32::from(self.rules.bound) {
+            return Err(18);
         }
         if due > 2_000_000 {
             return Err(6);
@@ -82,7 +89,8 @@ impl Station {
     fn earliest(&self, order: Order) -> Result<u32, Refusal> {
         self.check_order(order)?;
         let profile = Profile::of(self.charges.iter().map(Charge::load), self.clock);
-        Ok(profile.earliest(order.line as usize - 1, order.time, self.clock, self.rules))
+        let (line, rate) = (order.line as usize - 1, order.rate as u16);
+        Ok(profile.earliest(line, rate, order.time, self.clock, self.rules))
     }
 
     pub fn waiting(&self) -> impl Iterator<Item = &Charge> {
@@ -121,9 +129,8 @@ impl Yard for Station {
         if shown != start {
             return Err(16);
         }
-        let Order { line, time, due } = order;
-        let ticket = self.next_ticket;
-        self.charges.push(Charge { ticket, line: line as usize - 1, time, due, start });
+        let (ticket, line, rate) = (self.next_ticket, order.line as usize - 1, order.rate as u16);
+        self.charges.push(Charge { ticket, line, time: order.time, due: order.due, rate, start });
         self.next_ticket += 1;
         Ok(Committed { ticket, start: u64::from(start) })
     }
@@ -175,11 +182,11 @@ impl Yard for Station {
     fn enquire(&self, ticket: u32) -> Result<Found, Refusal> {
         let place = self.charges.binary_search_by_key(&ticket, |charge| charge.ticket);
         let charge = &self.charges[place.map_err(|_| 15u32)?];
-        let start = u64::from(charge.start);
+        let (start, rate) = (u64::from(charge.start), u32::from(charge.rate));
         Ok(if charge.start >= self.clock {
-            Found::Waiting { start }
+            Found::Waiting { start, rate }
         } else {
-            Found::Charging { start, end: u64::from(charge.end()) }
+            Found::Charging { start, end: u64::from(charge.end()), rate }
         })
     }
 }

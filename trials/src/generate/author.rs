@@ -69,9 +69,13 @@ impl Author {
     }
 
     /// An order that is committed with the start that a preview would show.
-    pub fn order(&mut self, line: u32, time: u32, due: u32) {
-        let order = Order { line, time, due };
+    pub fn take(&mut self, order: Order) {
         self.commit(order, self.shown(order));
+    }
+
+    /// Such an order of rate 1.
+    pub fn order(&mut self, line: u32, time: u32, due: u32) {
+        self.take(Order { line, time, due, rate: 1 });
     }
 
     pub fn move_to(&mut self, target: u32) {

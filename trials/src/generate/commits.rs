@@ -26,7 +26,7 @@ fn meanwhile(author: &mut Author, order: Order, longest: u64) {
             author.move_on(minutes);
         }
         // The same minutes, taken by somebody else.
-        1 => author.order(order.line, order.time, order.due),
+        1 => author.take(order),
         2 => due::order(author, order.line, longest),
         3 => author.latest(),
         4 => author.lines(1_000),
@@ -61,7 +61,7 @@ fn one_driver(author: &mut Author, longest: u64) {
             author.commit(order, start);
         }
         7 => author.preview(order),
-        8 => author.order(order.line, order.time, order.due),
+        8 => author.take(order),
         _ => {
             let earliest = author.shown(order);
             let start = another(author, earliest);

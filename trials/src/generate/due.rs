@@ -20,7 +20,17 @@ pub fn due(author: &mut Author, time: u32) -> u32 {
 /// An order that is refused, if at all, for what the station holds.
 pub fn some(author: &mut Author, line: u32, longest: u64) -> Order {
     let time = author.random.between(1, longest) as u32;
-    Order { line, time, due: due(author, time) }
+    Order { line, time, due: due(author, time), rate: rate(author) }
+}
+
+/// A rate that the station takes: mostly 1, and 2 at times where limit and bound allow.
+pub fn rate(author: &mut Author) -> u32 {
+    let two = author.random.percent(30) && author.station().bound.min(author.station().limit) >= 2;
+    if two {
+        2
+    } else {
+        1
+    }
 }
 
 /// Such an order, previewed at times and committed.
@@ -29,7 +39,7 @@ pub fn order(author: &mut Author, line: u32, longest: u64) {
     if author.random.percent(20) {
         author.preview(order);
     }
-    author.commit(order, author.shown(order));
+    author.take(order);
 }
 
 /// The smallest percentage that gives this limit a bound of at least 1: more than half
@@ -48,6 +58,11 @@ pub fn open(author: &mut Author, limit: u64) {
         _ => author.random.between(least, 100),
     };
     author.open(limit as u32, percent as u32);
+}
+
+/// An opening with this limit and this bound, which is not above it.
+pub fn open_with_bound(author: &mut Author, limit: u64, bound: u64) {
+    author.open(limit as u32, ((100 * bound + limit / 2) / limit) as u32);
 }
 
 /// A percentage with which c × N / 100 lies just between two whole numbers.

@@ -45,7 +45,9 @@ fn order(author: &mut Author) {
         2_000_001,
     ];
     let due = argument(author, usual, &edges);
-    let order = Order { line, time, due };
+    let usual = author.random.pick(&[1, 1, 2]);
+    let rate = argument(author, usual, &[0, 1, 2, 3]);
+    let order = Order { line, time, due, rate };
     if author.random.percent(25) {
         author.preview(order);
     }

@@ -1,10 +1,11 @@
 //! Busy days after section 10.1 of source document 000: three scenarios, both
 //! ways to spread cars over the lines, N 20, 30 or 40, and Δ 0.2 to 0.8. Some of the
-//! drivers are in a hurry.
+//! drivers are in a hurry, and some charge at the higher rate.
 
 use super::author::Author;
 use super::cars::{self, Car};
-use super::hurry;
+use super::{due, hurry};
+use crate::yard::Order;
 
 /// A scenario and a spread drawn by lot, with fewer cars than the station has places
 /// at times.
@@ -33,7 +34,8 @@ pub fn write(author: &mut Author) {
         }
         let in_a_hurry = author.random.percent(10);
         let due = if in_a_hurry { hurry::due(author, car.time) } else { car.due };
-        author.order(car.line, car.time, due);
+        let rate = due::rate(author);
+        author.take(Order { line: car.line, time: car.time, due, rate });
         if author.random.percent(6) {
             supervise(author);
         }

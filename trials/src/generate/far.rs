@@ -3,6 +3,7 @@
 
 use super::author::Author;
 use super::due;
+use crate::yard::Order;
 
 fn queue(author: &mut Author, count: u64) {
     let one_line = author.random.percent(50);
@@ -11,7 +12,8 @@ fn queue(author: &mut Author, count: u64) {
         let time = author.random.pick(&[1, 700, 1_439, 1_440]);
         let tight = author.random.percent(50);
         let due = if tight { author.clock() + time } else { 2_000_000 };
-        author.order(line, time, due);
+        let rate = due::rate(author);
+        author.take(Order { line, time, due, rate });
     }
 }
 

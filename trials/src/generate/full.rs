@@ -1,5 +1,5 @@
 //! Full yards: 180 held, and the 181st order refused 13, previewed or committed, also
-//! where its due minute cannot be met or the start shown is no start; 4 and 6 come
+//! where its due minute cannot be met or the start shown is no start; 4, 6 and 17 come
 //! first. Then room again.
 
 use super::author::Author;
@@ -18,11 +18,12 @@ fn one_too_many(author: &mut Author) {
     author.order(1, 1, clock + 1);
     author.order(2, 1_440, 2_000_000);
     author.order(3, 5, clock + 4);
-    let order = Order { line: 3, time: 1, due: clock + 1 };
+    let order = Order { line: 3, time: 1, due: clock + 1, rate: 1 };
     author.preview(order);
     let shown = author.random.pick(&[0, clock, u32::MAX]);
     author.commit(order, shown);
     author.order(1, 1, 2_000_001);
+    author.take(Order { rate: 3, ..order });
     author.order(4, 1, clock + 1);
 }
 

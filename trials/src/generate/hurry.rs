@@ -4,6 +4,7 @@
 
 use super::author::Author;
 use super::due;
+use crate::yard::Order;
 
 /// A due minute at an edge of what can be met, or of what is taken.
 pub fn due(author: &mut Author, time: u32) -> u32 {
@@ -25,7 +26,8 @@ fn of_few_latest_starts(author: &mut Author, line: u32, longest: u64) {
     let time = author.random.between(1, longest) as u32;
     let latest_start = author.random.pick(&[-10, -3, -3, -1, 0, 1, 4]);
     let due = time.saturating_add_signed(latest_start);
-    author.order(line, time, due);
+    let rate = due::rate(author);
+    author.take(Order { line, time, due, rate });
 }
 
 /// One line gets most, so that the turn of its charges decides who is late.

@@ -4,6 +4,7 @@
 
 use super::author::Author;
 use super::due;
+use crate::yard::Order;
 
 fn replans(author: &mut Author) {
     for _ in 0..author.random.between(1, 3) {
@@ -37,15 +38,17 @@ fn as_in_the_cases(author: &mut Author) {
 
 /// Line 1's two long charges lean on the waiting one of line 2. A round starts
 /// that one at once, so it ends too early, and nothing of line 1 can give way:
-/// "If no placed charge of i is active in t: cause 1."
+/// "If no placed charge of i is active in t: cause 1." The same with all rates and the
+/// bound doubled.
 fn nothing_placed_there(author: &mut Author) {
     let long = author.random.between(4, 20) as u32;
     let short = author.random.between(2, u64::from(long) - 1) as u32;
-    let limit = author.random.between(3, 8) as u32;
-    author.open(limit, 100u32.div_ceil(limit));
+    let rate = author.random.pick(&[1, 1, 2]);
+    let limit = author.random.between(3 * u64::from(rate), 8);
+    due::open_with_bound(author, limit, rate.into());
     for (line, time) in [(1, long), (2, short), (2, long - short), (3, long), (1, long)] {
         let due = due::due(author, time);
-        author.order(line, time, due);
+        author.take(Order { line, time, due, rate });
     }
     let minutes = author.random.between(0, u64::from(short) - 1);
     author.move_on(minutes);
@@ -57,10 +60,11 @@ fn nothing_placed_there(author: &mut Author) {
     author.lines(allowance);
 }
 
+/// With the wider one there are charges of rate 2 as well.
 fn narrow(author: &mut Author) {
     let limit = author.random.between(2, 8);
-    let percent = 100u32.div_ceil(limit as u32) + author.random.below(3) as u32;
-    author.open(limit as u32, percent.min(100));
+    let bound = author.random.pick(&[1, 1, 2]);
+    due::open_with_bound(author, limit, bound);
 }
 
 pub fn write(author: &mut Author) {

@@ -5,10 +5,10 @@ use super::author::Author;
 use super::{due, mixed};
 use crate::protocol::LONGEST_LINE;
 
-const SAMPLES: [&str; 52] = [
+const SAMPLES: [&str; 53] = [
     "",
     "#",
-    "# commit 1 1 1 0",
+    "# commit 1 1 1 1 0",
     " ",
     " latest",
     "latest ",
@@ -35,20 +35,21 @@ const SAMPLES: [&str; 52] = [
     "order 1 10 600",
     "order 1 10 600 0",
     "preview",
-    "preview 1 10",
-    "preview 1 10 600 0",
-    "preview 1 10 x",
-    "preview 001 0000000000000002 600",
+    "preview 1 10 600",
+    "preview 1 10 600 1 0",
+    "preview 1 10 600 x",
+    "preview 001 0000000000000002 600 01",
     "commit",
-    "commit 1 10 600",
-    "commit 1 10 600 -1",
-    "commit 1 10 600 +0",
-    "commit 1 10 600 ?",
-    "commit 1 1.0 60 0",
-    "commit 1\t10 60 0",
-    "commit 4294967296 x 60 0",
-    "commit 1 10 60 4294967296",
-    "commit 1 10 60 0 0",
+    "commit 1 10 600 1",
+    "commit 1 10 600 1 -1",
+    "commit 1 10 600 1 +0",
+    "commit 1 10 600 1 ?",
+    "commit 1 1.0 60 1 0",
+    "commit 1\t10 60 1 0",
+    "commit 4294967296 x 60 1 0",
+    "commit 1 10 60 4294967296 x",
+    "commit 1 10 60 1 4294967296",
+    "commit 1 10 60 1 0 0",
     "move 1",
     "move 1 360 1",
     "move 0x1 360",
@@ -63,7 +64,7 @@ const SAMPLES: [&str; 52] = [
 
 fn broken(author: &mut Author) -> Vec<u8> {
     let mut line = match author.random.below(3) {
-        0 => b"commit 1 10 600 0".to_vec(),
+        0 => b"commit 1 10 600 1 0".to_vec(),
         1 => b"move 3 360".to_vec(),
         _ => b"offer 1 2 3".to_vec(),
     };

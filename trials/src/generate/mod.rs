@@ -18,6 +18,7 @@ mod mixed;
 mod offers;
 mod openings;
 mod plans;
+mod rates;
 mod rounds;
 mod spent;
 mod tickets;
@@ -35,7 +36,7 @@ pub struct Kind {
     write: fn(&mut Author),
 }
 
-pub const KINDS: [Kind; 16] = [
+pub const KINDS: [Kind; 17] = [
     Kind { name: "edges", share: 15, write: edges::write },
     Kind { name: "mixed", share: 24, write: mixed::write },
     Kind { name: "offers", share: 15, write: offers::write },
@@ -48,6 +49,7 @@ pub const KINDS: [Kind; 16] = [
     Kind { name: "lists", share: 3, write: lists::write },
     Kind { name: "hurry", share: 10, write: hurry::write },
     Kind { name: "commits", share: 15, write: commits::write },
+    Kind { name: "rates", share: 15, write: rates::write },
     // These are long and come once in a thousand, at turns of their own.
     Kind { name: "tickets", share: 0, write: tickets::write },
     Kind { name: "spent", share: 0, write: spent::write },

@@ -19,7 +19,7 @@ fn allowances(author: &mut Author) {
 pub fn write(author: &mut Author) {
     let limit = author.random.between(8, 60);
     let bound = author.random.between(1, 3).min(limit);
-    author.open(limit as u32, ((100 * bound + limit / 2) / limit) as u32);
+    due::open_with_bound(author, limit, bound);
     let longest = author.random.pick(&[3, 8, 20]);
     // Line 1 gets most, so its cap has to come down step by step.
     let crowd = author.random.between(40, 95);

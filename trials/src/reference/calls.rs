@@ -18,17 +18,20 @@ impl Station {
     /// The charge that an order asks for, with the clock in the place of its start,
     /// or the refusal: "Both meet the order's refusals".
     pub fn ordered(&self, order: Order) -> Result<Charge, Refusal> {
-        let Order { line, time, due } = order;
+        let Order { line, time, due, rate } = order;
         let (time, due) = (u64::from(time), u64::from(due));
+        let above = |most: u64| u64::from(rate) > most;
         refuse_first(&[
             (4, !(1..=3).contains(&line)),
             (5, !(1..=1_440).contains(&time)),
+            (17, rate != 1 && rate != 2),
+            (18, above(self.limit) || above(self.bound)),
             (6, due > 2_000_000),
             (13, self.charges.len() == PLACES),
             (14, self.next_ticket > 65_535),
         ])?;
         let (ticket, order) = (self.next_ticket, self.clock);
-        Ok(Charge { ticket, line, order, time, due, start: order })
+        Ok(Charge { ticket, line, order, time, due, rate, start: order })
     }
 
     /// "The start is the smallest s not below the clock with which the held plan and
@@ -116,11 +119,11 @@ impl Yard for Station {
 
     fn enquire(&self, ticket: u32) -> Result<Found, Refusal> {
         let charge = self.charges.iter().find(|charge| charge.ticket == ticket).ok_or(15u32)?;
-        let start = charge.start;
+        let Charge { start, rate, .. } = *charge;
         Ok(if charge.begun(self.clock) {
-            Found::Charging { start, end: charge.end() }
+            Found::Charging { start, end: charge.end(), rate }
         } else {
-            Found::Waiting { start }
+            Found::Waiting { start, rate }
         })
     }
 }

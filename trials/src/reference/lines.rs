@@ -44,7 +44,7 @@ impl Station {
     }
 
     /// Enough minutes for any round: a charge has room at the latest after all
-    /// others of its line, since no cap is ever below D, and D is 1 or more.
+    /// others of its line, since no cap is ever below D, and no rate is above D.
     fn minutes_of_a_round(&self) -> u64 {
         let waiting: u64 = self.waiting().iter().map(|charge| charge.time).sum();
         last_end(&self.begun()).max(self.clock) - self.clock + waiting
@@ -71,8 +71,8 @@ impl Station {
         counts.iter().position(|counts| !self.rules().balanced(counts))
     }
 
-    /// Whether a placed charge of the line is active there. A begun one is not
-    /// placed, so it does not count.
+    /// Whether a placed charge of the line is active there, of whatever rate. A begun
+    /// one is not placed, so it does not count.
     fn placed_there(&self, placed: &[Charge], line: usize, minute: usize) -> bool {
         let minute = self.clock + minute as u64;
         placed.iter().any(|charge| charge.line as usize == line + 1 && charge.active_in(minute))
@@ -80,12 +80,12 @@ impl Station {
 }
 
 /// The smallest start, counted from the clock, at which the charge has room in
-/// all its minutes: the first run of p minutes in a row with room for one more.
+/// all its minutes: the first run of p minutes in a row with room for its rate.
 fn first_room(counts: &[Counts], caps: &Caps, charge: &Charge) -> u64 {
     let line = charge.line as usize - 1;
     let mut in_a_row = 0;
     for minute in 0..caps.len() {
-        let itself_included = counts[minute][line] + 1;
+        let itself_included = counts[minute][line] + charge.weight();
         let has_room = itself_included <= caps[minute][line];
         in_a_row = if has_room { in_a_row + 1 } else { 0 };
         if in_a_row == charge.time {

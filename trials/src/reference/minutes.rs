@@ -1,6 +1,7 @@
-//! "The **count** of a line in a minute is the number of its active charges. A
-//! plan is **sound** when in every minute from the clock on each count is at most
-//! N and each two counts differ by at most D."
+//! "The **count** of a line in a minute is the number of its active charges"; "a charge
+//! of rate 2 counts as two wherever a line is counted" (N4). "A plan is **sound** when
+//! in every minute from the clock on each count is at most N and each two counts differ
+//! by at most D."
 //!
 //! Counts stand in an array with one place for each minute, the clock's minute
 //! first: minutes themselves can be near 100,000,000.
@@ -47,6 +48,6 @@ pub fn count_charge(counts: &mut [Counts], charge: &Charge, from: u64) {
     let line = charge.line as usize - 1;
     let until = charge.end().min(from + counts.len() as u64);
     for minute in charge.start.max(from)..until {
-        counts[(minute - from) as usize][line] += 1;
+        counts[(minute - from) as usize][line] += charge.weight();
     }
 }

@@ -21,7 +21,7 @@ pub fn smallest_start(plan: &[Charge], charge: &Charge, clock: u64, rules: Rules
     let without = Totals::of(counts.iter().map(|counts| !rules.sound_in(counts)));
     let with = Totals::of(counts.iter().map(|counts| {
         let mut counts = *counts;
-        counts[line] += 1;
+        counts[line] += charge.weight();
         !rules.sound_in(&counts)
     }));
     (clock..=last_trial).find(|start| {

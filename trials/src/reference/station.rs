@@ -1,6 +1,7 @@
 //! "A **station** holds a limit N, a percentage c, a bound D, a clock, the next
 //! ticket and up to 180 charges". "A **charge** has a ticket, a line, an order
-//! minute, a charging time p, a due minute d and a start s."
+//! minute, a charging time p, a due minute d and a start s." "Each order states a rate,
+//! 1 or 2" (N4).
 
 use super::minutes::Rules;
 
@@ -14,6 +15,7 @@ pub struct Charge {
     pub order: u64,
     pub time: u64,
     pub due: u64,
+    pub rate: u32,
     pub start: u64,
 }
 
@@ -36,6 +38,11 @@ impl Charge {
     /// "A charge whose end is at or below the clock is finished"
     pub fn finished(&self, clock: u64) -> bool {
         self.end() <= clock
+    }
+
+    /// "a charge of rate 2 counts as two wherever a line is counted" (N4)
+    pub fn weight(&self) -> u64 {
+        self.rate.into()
     }
 
     /// d − p: "A latest start may now be negative" (N1).

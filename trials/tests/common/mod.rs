@@ -3,6 +3,7 @@
 
 pub mod faulty;
 
+use faulty::{Error, Faulty};
 use trials::feed::Way;
 use trials::program::{Answering, Outcome};
 use trials::script::{self, answers_of, Line};
@@ -29,6 +30,14 @@ pub fn fast() -> trials::fast::Station {
 pub fn expect(text: &str, expected: &[&str]) {
     assert_eq!(answers(reference(), text), expected, "reference:\n{text}");
     assert_eq!(answers(fast(), text), expected, "fast:\n{text}");
+}
+
+/// The rules give the last answer, the faulty yard another one.
+pub fn caught(error: Error, text: &str, right: &str, wrong: &str) {
+    let expected = answers(reference(), text);
+    expect(text, &expected.iter().map(String::as_str).collect::<Vec<_>>());
+    assert_eq!(expected.last().map(String::as_str), Some(right));
+    assert_eq!(answers(Faulty::new(error), text).last().map(String::as_str), Some(wrong));
 }
 
 /// A yard in the place of a program.

@@ -1,7 +1,6 @@
 //! Previews and commits with an error in what is shown or taken.
 
 use super::{Error, Faulty};
-use trials::reference::minutes::counts;
 use trials::reference::{last_end, Charge, Station};
 use trials::yard::{Order, Refusal};
 
@@ -39,8 +38,7 @@ impl Faulty {
             return false;
         }
         let plan = [held.as_slice(), &[charge]].concat();
-        let counts = counts(&plan, *clock, last_end(&plan) - clock);
-        counts.iter().all(|counts| self.station.rules().sound_in(counts))
+        self.counts(&plan).iter().all(|counts| self.station.rules().sound_in(counts))
     }
 
     /// Refusal 16 before what the station holds is looked at, if that is the error.

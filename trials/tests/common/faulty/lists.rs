@@ -14,17 +14,27 @@ impl Faulty {
     }
 
     pub fn lines_list(&self, allowance: u32) -> (List, u32) {
-        self.with_wrong_keys().lines_list(allowance)
+        // Under a cap of D there is no room for a rate that should have been refused.
+        let Station { bound, .. } = self.station;
+        if self.station.waiting().iter().any(|charge| charge.weight() > bound) {
+            return (Err(NO_START), 1);
+        }
+        match self.error {
+            Error::CapsCountCharges | Error::PlacedChargeHidden | Error::OwnRounds => {
+                self.own_rounds(allowance)
+            }
+            _ => self.with_wrong_keys().lines_list(allowance),
+        }
     }
 
     /// The list of a replan by latest start that looks at a charge's own minutes.
     fn list_by_own_minutes(&self) -> Option<Vec<u64>> {
-        let rules = self.station.rules();
+        let (rules, clock) = (self.station.rules(), self.station.clock);
         let (mut plan, mut placed) = (self.station.begun(), Vec::new());
         for charge in latest_start_order(self.station.waiting()) {
-            let own = |start: usize| start..start + charge.time as usize;
-            let start = self.first_start(&plan, charge, |counts, start| {
-                counts[own(start)].iter().all(|counts| rules.sound_in(counts))
+            let start = self.first_start(&plan, charge, |plan, start| {
+                let own = (start - clock) as usize..(start - clock + charge.time) as usize;
+                self.counts(plan)[own].iter().all(|counts| rules.sound_in(counts))
             })?;
             plan.push(charge.starting_at(start));
             placed.push(charge.starting_at(start));

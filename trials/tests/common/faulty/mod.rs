@@ -6,6 +6,7 @@
 mod bounds;
 mod commits;
 mod lists;
+mod rounds;
 mod starts;
 
 use trials::reference::{Charge, List, Station};
@@ -56,6 +57,20 @@ pub enum Error {
     RoundedDownAndOpened,
     /// The right bound, but refused 3 by c × N below 100.
     RefusedBelowAHundred,
+    // N4, points with two rates
+    RateNotInTheBalance,
+    SecondHalfOnTheNextLine,
+    /// 18 for a rate above N alone.
+    RateAgainstTheLimitOnly,
+    /// 17 and 18 after 6.
+    RateAfterDue,
+    RateLostByAPlan,
+    RateNotShown,
+    CapsCountCharges,
+    /// A placed charge is not seen where the begun ones count for as much.
+    PlacedChargeHidden,
+    /// None of these, but the rounds are made as for the two before.
+    OwnRounds,
 }
 
 #[derive(Clone)]
@@ -95,6 +110,9 @@ impl Faulty {
     ) -> Result<Planned, Refusal> {
         let before = self.station.clone();
         let mut planned = self.with_clock(u64::MAX, call)?;
+        if self.error == Error::RateLostByAPlan && planned.cause == 0 {
+            self.station.charges.iter_mut().for_each(|charge| charge.rate = 1);
+        }
         if self.error == Error::AlwaysKeeps {
             planned = before.keep(7, planned.rounds);
             self.station = before;
@@ -107,7 +125,16 @@ impl Faulty {
 
     /// The charge that an order asks for, or the refusal.
     fn ordered(&self, order: Order) -> Result<Charge, Refusal> {
-        let mut charge = self.station.ordered(order)?;
+        let mut station = self.station.clone();
+        if self.error == Error::RateAgainstTheLimitOnly {
+            station.bound = station.limit;
+        }
+        let mut charge = match station.ordered(order) {
+            Err(17 | 18) if self.error == Error::RateAfterDue && order.due > 2_000_000 => {
+                return Err(6);
+            }
+            answer => answer?,
+        };
         let met = charge.order + charge.time;
         match self.error {
             Error::FullFromTheStart => return Err(13),
@@ -177,6 +204,10 @@ impl Yard for Faulty {
     }
 
     fn enquire(&self, ticket: u32) -> Result<Found, Refusal> {
-        self.clone().with_clock(u64::MAX, |faulty| faulty.station.enquire(ticket))
+        let mut faulty = self.clone();
+        if self.error == Error::RateNotShown {
+            faulty.station.charges.iter_mut().for_each(|charge| charge.rate = 1);
+        }
+        faulty.with_clock(u64::MAX, |faulty| faulty.station.enquire(ticket))
     }
 }

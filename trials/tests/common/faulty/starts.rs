@@ -1,26 +1,31 @@
 //! Starts of orders with an error in their search.
 
+use super::rounds::at_rate_one;
 use super::{Error, Faulty};
 use trials::reference::minutes::{counts, Counts, Rules};
 use trials::reference::search::smallest_start;
 use trials::reference::{last_end, Charge, Station};
 
 impl Faulty {
-    /// The first start at which the counts from the clock on pass a test that is
-    /// told where among them the charge starts.
+    /// The first start with which the plan passes a test, which is told the start too.
     pub fn first_start(
         &self,
         plan: &[Charge],
         charge: Charge,
-        passes: impl Fn(&[Counts], usize) -> bool,
+        passes: impl Fn(&[Charge], u64) -> bool,
     ) -> Option<u64> {
         let clock = self.station.clock;
         let last = last_end(plan).max(clock);
         (clock..=last).find(|start| {
             let with_it = [plan, &[charge.starting_at(*start)]].concat();
-            let counts = counts(&with_it, clock, last + charge.time - clock);
-            passes(&counts, (start - clock) as usize)
+            passes(&with_it, *start)
         })
+    }
+
+    /// The counts of a plan from the clock on.
+    pub fn counts(&self, plan: &[Charge]) -> Vec<Counts> {
+        let clock = self.station.clock;
+        counts(plan, clock, last_end(plan).max(clock) - clock)
     }
 
     /// The earliest start of an order. A plan that an error has made unsound may leave
@@ -28,6 +33,8 @@ impl Faulty {
     pub fn earliest(&self, charge: &Charge) -> u64 {
         let Station { clock, charges: held, .. } = &self.station;
         let rules = self.station.rules();
+        let within = |plan: &[Charge]| self.all(plan, |counts| rules.within_limit(counts));
+        let balanced = |plan: &[Charge]| self.all(plan, |counts| rules.balanced(counts));
         let start = match self.error {
             Error::QueuesBehindTheLastEnd => Some(last_end(held).max(*clock)),
             Error::OneStartForEverybody => Some(1_000),
@@ -36,25 +43,39 @@ impl Faulty {
                 let held: Vec<Charge> = held.iter().copied().map(with_its_end).collect();
                 smallest_start(&held, &with_its_end(*charge), *clock, rules)
             }
-            Error::BalanceOnlyAtTheStart => self.first_start(held, *charge, |counts, start| {
-                counts.iter().all(|counts| rules.within_limit(counts))
-                    && rules.balanced(&counts[start])
+            Error::BalanceOnlyAtTheStart => self.first_start(held, *charge, |plan, start| {
+                within(plan) && rules.balanced(&self.counts(plan)[(start - clock) as usize])
             }),
-            Error::NeighbouringLinesOnly => self.first_start(held, *charge, |counts, _| {
-                let sound = |counts: &Counts| {
-                    rules.within_limit(counts) && neighbours_balanced(counts, rules)
-                };
-                counts.iter().all(sound)
+            Error::NeighbouringLinesOnly => self.first_start(held, *charge, |plan, _| {
+                within(plan) && self.all(plan, |counts| neighbours_balanced(counts, rules))
+            }),
+            Error::RateNotInTheBalance => self.first_start(held, *charge, |plan, _| {
+                let plain: Vec<Charge> = plan.iter().copied().map(at_rate_one).collect();
+                within(plan) && balanced(&plain)
+            }),
+            Error::SecondHalfOnTheNextLine => self.first_start(held, *charge, |plan, _| {
+                let halves: Vec<Charge> = plan.iter().flat_map(|charge| halves(*charge)).collect();
+                within(&halves) && balanced(&halves)
             }),
             _ => smallest_start(held, charge, *clock, rules),
         };
         start.unwrap_or(*clock)
+    }
+
+    fn all(&self, plan: &[Charge], passes: impl Fn(&Counts) -> bool) -> bool {
+        self.counts(plan).iter().all(passes)
     }
 }
 
 fn with_its_end(mut charge: Charge) -> Charge {
     charge.time += 1;
     charge
+}
+
+/// Each point of the rate on a line of its own.
+fn halves(charge: Charge) -> Vec<Charge> {
+    let on = |point: u32| Charge { line: (charge.line - 1 + point) % 3 + 1, ..at_rate_one(charge) };
+    (0..charge.rate).map(on).collect()
 }
 
 fn neighbours_balanced(counts: &Counts, rules: Rules) -> bool {

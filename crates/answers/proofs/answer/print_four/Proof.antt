@@ -7,36 +7,18 @@ use Rattle.answers.proofs.answer.print_four.Tie as tie
 print-field-requires : tie.Need-print-field-requires
 print-field-requires c κs = search needs
 
-slice-aggregate-print-field : tie.Need-slice-aggregate-print-field
-slice-aggregate-print-field c = search needs
+slice-aggregate-print-three : tie.Need-slice-aggregate-print-three
+slice-aggregate-print-three c = search needs
 
-print-field-requires-2 : tie.Need-print-field-requires-2
-print-field-requires-2 c κs = search needs
-
-slice-aggregate-print-two : tie.Need-slice-aggregate-print-two
-slice-aggregate-print-two c = search needs
-
-slice-aggregate-print-two-2 : tie.Need-slice-aggregate-print-two-2
-slice-aggregate-print-two-2 c = search needs
-
-print-two-requires : tie.Need-print-two-requires
-print-two-requires c κs = search needs
+print-three-requires : tie.Need-print-three-requires
+print-three-requires c κs = search needs
 
 same-length : tie.Need-same-length
 same-length c = search needs
 
 returns : tie.Need-returns
-returns c = printed-then (c .before .before .before .before .before .before .before .before .before .before .before .before .before .print-field .ensures .0) (printed-then (c .before .before .before .before .before .before .before .before .print-field2 .ensures .0) (c .before .before .print-two .ensures))
+returns c = printed-then (c .before .before .before .before .before .before .before .print-field .ensures .0) (c .before .before .print-three .ensures)
 
 pub print-four-spec : {M : Type 1} → statement M
 print-four-spec =
-    tie.close
-    (tie.spec
-    print-field-requires
-    slice-aggregate-print-field
-    print-field-requires-2
-    slice-aggregate-print-two
-    slice-aggregate-print-two-2
-    print-two-requires
-    same-length
-    returns)
+    tie.close (tie.spec print-field-requires slice-aggregate-print-three print-three-requires same-length returns)

@@ -42,11 +42,17 @@ mul-time c = omega arith
 element-copy-out-time : tie.Need-element-copy-out-time Inv-loop μ-loop
 element-copy-out-time c = omega arith
 
+mul-rate : tie.Need-mul-rate Inv-loop μ-loop
+mul-rate c = omega arith
+
+element-copy-out-rate : tie.Need-element-copy-out-rate Inv-loop μ-loop
+element-copy-out-rate c = omega arith
+
 add-requires : tie.Need-add-requires Inv-loop μ-loop
 add-requires c κs =
-    let s = c .before .before .before .before .before .before .before .before .before .before .before in
-    let l = c .before .before .before .before .before .before .before .loop in
-    begun-can-add (s .args .before) (s .args .t1) (l .i) (l .inv .1) (s .pre .0) (s .pre .1) (c .before .before .before .before .before .before .loop-test .taken)
+    let s = c .before .before .before .before .before .before .before .before .before .before .before .before in
+    let l = c .before .before .before .before .before .before .before .before .loop in
+    begun-can-add (s .args .before) (s .args .t1) (l .i) (l .inv .1) (s .pre .0) (s .pre .1) (omega (arith, s .pre .2 (l .i) (c .before .before .before .before .before .before .before .loop-test .taken))) (c .before .before .before .before .before .before .before .loop-test .taken)
 
 add-i : tie.Need-add-i Inv-loop μ-loop
 add-i c = omega arith
@@ -61,7 +67,7 @@ loop-again c =
     ⊎-elim
     (λ w. (
       omega arith,
-      begun-on (s .args .before) (s .args .t1) (l .i) (l .inv .1) (w .0 .taken) (w .5 .ensures) (same-parts (w .6) (w .7) (w .8)),
+      begun-on (s .args .before) (s .args .t1) (l .i) (l .inv .1) (s .pre .2 (l .i) (c .before .before .loop-test .taken)) (w .0 .taken) (w .6 .ensures) (omega arith) (same-parts (w .7) (w .8) (w .9)),
     ))
     (λ w. (
       omega arith,
@@ -89,6 +95,8 @@ profile-before-spec =
     element-copy-out-line
     mul-time
     element-copy-out-time
+    mul-rate
+    element-copy-out-rate
     add-requires
     add-i
     loop-less

@@ -6,9 +6,9 @@ use Rattle.rules.specs.Load.{limits}
 use Rattle.rules.specs.Replan.{soundStart}
 use Rattle.profile.specs.Shows.{profileOf}
 use Rattle.planner.specs.Ready.{begunOf}
-use Rattle.planner.proofs.Showing.{listed-ends}
+use Rattle.planner.proofs.Showing.{listed-ends, listed-rates}
 use Rattle.planner.proofs.Queueing.{queue-latest-start}
-use Rattle.planner.proofs.Plans.{PlacedSoFar, placed-start, placed-end, next-below, next-can-start}
+use Rattle.planner.proofs.Plans.{PlacedSoFar, placed-start, placed-end, next-inside, next-below, next-rated, next-can-start}
 use Rattle.planner.proofs.Finding.{sound-stuck, sound-can-add, sound-placed}
 use Rattle.planner.proofs.Proposing.{latest-none, latest-starts}
 use Rattle.planner.proofs.latest.latest.Statement.{statement}
@@ -26,7 +26,7 @@ by-latest-start-requires : tie.Need-by-latest-start-requires Inv-loop μ-loop
 by-latest-start-requires c κs = search needs
 
 profile-before-requires : tie.Need-profile-before-requires Inv-loop μ-loop
-profile-before-requires c κs = (c .before .pre .listed .columns .few, listed-ends (c .before .pre .listed))
+profile-before-requires c κs = (c .before .pre .listed .columns .few, listed-ends (c .before .pre .listed), listed-rates (c .before .pre .listed))
 
 loop-holds : tie.Need-loop-holds Inv-loop μ-loop
 loop-holds c =
@@ -54,13 +54,22 @@ mul-time c = omega (arith, next-below (c .before .before .before .before .before
 element-copy-out-time : tie.Need-element-copy-out-time Inv-loop μ-loop
 element-copy-out-time c = omega (arith, next-below (c .before .before .before .before .before .before .before .before .pre .listed) (c .before .before .before .before .before .before .before .by-latest-start .ensures .places) (c .before .before .loop-test .taken))
 
+mul-rate : tie.Need-mul-rate Inv-loop μ-loop
+mul-rate c = omega (arith, next-below (c .before .before .before .before .before .before .before .before .before .pre .listed) (c .before .before .before .before .before .before .before .before .by-latest-start .ensures .places) (c .before .before .before .loop-test .taken))
+
+element-copy-out-rate : tie.Need-element-copy-out-rate Inv-loop μ-loop
+element-copy-out-rate c = omega (arith, next-below (c .before .before .before .before .before .before .before .before .before .pre .listed) (c .before .before .before .before .before .before .before .before .by-latest-start .ensures .places) (c .before .before .before .loop-test .taken))
+
 earliest-requires : tie.Need-earliest-requires Inv-loop μ-loop
 earliest-requires c κs =
-    let r = c .before .before .before .before .before .before .before .before .before .before .before .pre in (
-      next-can-start (r .listed) (queue-latest-start (r .listed) (c .before .before .before .before .before .before .before .before .before .before .by-latest-start .ensures)) (c .before .before .before .before .before .before .loop .inv .1)
-          (c .before .before .before .before .before .loop-test .taken),
-      r .some-limit,
-      r .some-bound,
+    let r = c .before .before .before .before .before .before .before .before .before .before .before .before .pre in
+    let u = queue-latest-start (r .listed) (c .before .before .before .before .before .before .before .before .before .before .before .by-latest-start .ensures) in
+    let low = c .before .before .before .before .before .before .loop-test .taken in
+    let inside = next-inside (r .listed) (u .places) low in (
+      next-can-start (r .listed) u (c .before .before .before .before .before .before .before .loop .inv .1) low,
+      next-rated (r .listed) (u .places) low,
+      r .within-limit _ inside,
+      r .within-bound _ inside,
     )
 
 enum-known-found : tie.Need-enum-known-found Inv-loop μ-loop
@@ -74,33 +83,33 @@ none-requires c κs = search needs
 
 returns : tie.Need-returns Inv-loop μ-loop
 returns c =
-    let r = c .before .before .before .before .before .before .before .before .before .before .before .before .before .before .before .pre in
-    let order = c .before .before .before .before .before .before .before .before .before .before .before .before .before .before .by-latest-start .ensures in
+    let r = c .before .before .before .before .before .before .before .before .before .before .before .before .before .before .before .before .pre in
+    let order = c .before .before .before .before .before .before .before .before .before .before .before .before .before .before .before .by-latest-start .ensures in
     latest-none _ _ order
-    (sound-stuck r (queue-latest-start (r .listed) order) (c .before .before .before .before .before .before .before .before .before .before .loop .inv .1) (c .before .before .before .before .before .before .before .before .before .loop-test .taken) _
+    (sound-stuck r (queue-latest-start (r .listed) order) (c .before .before .before .before .before .before .before .before .before .before .before .loop .inv .1) (c .before .before .before .before .before .before .before .before .before .before .loop-test .taken) _
     (c .before .before .before .earliest .ensures) (c .before .enum-told .given .1))
     (c .none .ensures .0)
     (c .none .ensures .1)
 
 add-requires : tie.Need-add-requires Inv-loop μ-loop
 add-requires c κs =
-    let r = c .before .before .before .before .before .before .before .before .before .before .before .before .before .before .before .before .before .pre in
-    sound-can-add r (queue-latest-start (r .listed) (c .before .before .before .before .before .before .before .before .before .before .before .before .before .before .before .before .by-latest-start .ensures)) (c .before .before .before .before .before .before .before .before .before .before .before .before .loop .inv .1)
-    (c .before .before .before .before .before .before .before .before .before .before .before .loop-test .taken) _ (c .before .before .before .before .before .earliest .ensures) (c .before .before .before .found .given .1)
+    let r = c .before .before .before .before .before .before .before .before .before .before .before .before .before .before .before .before .before .before .pre in
+    sound-can-add r (queue-latest-start (r .listed) (c .before .before .before .before .before .before .before .before .before .before .before .before .before .before .before .before .before .by-latest-start .ensures)) (c .before .before .before .before .before .before .before .before .before .before .before .before .before .loop .inv .1)
+    (c .before .before .before .before .before .before .before .before .before .before .before .before .loop-test .taken) _ (c .before .before .before .before .before .earliest .ensures) (c .before .before .before .found .given .1) (omega (arith, next-rated (r .listed) (c .before .before .before .before .before .before .before .before .before .before .before .before .before .before .before .before .before .by-latest-start .ensures .places) (c .before .before .before .before .before .before .before .before .before .before .before .before .loop-test .taken)))
 
 mul-by-place : tie.Need-mul-by-place Inv-loop μ-loop
-mul-by-place c = omega (arith, next-below (c .before .before .before .before .before .before .before .before .before .before .before .before .before .before .before .before .before .before .pre .listed) (c .before .before .before .before .before .before .before .before .before .before .before .before .before .before .before .before .before .by-latest-start .ensures .places) (c .before .before .before .before .before .before .before .before .before .before .before .before .loop-test .taken))
+mul-by-place c = omega (arith, next-below (c .before .before .before .before .before .before .before .before .before .before .before .before .before .before .before .before .before .before .before .pre .listed) (c .before .before .before .before .before .before .before .before .before .before .before .before .before .before .before .before .before .before .by-latest-start .ensures .places) (c .before .before .before .before .before .before .before .before .before .before .before .before .before .loop-test .taken))
 
 array-write-by-place : tie.Need-array-write-by-place Inv-loop μ-loop
-array-write-by-place c = omega (arith, next-below (c .before .before .before .before .before .before .before .before .before .before .before .before .before .before .before .before .before .before .pre .listed) (c .before .before .before .before .before .before .before .before .before .before .before .before .before .before .before .before .before .by-latest-start .ensures .places) (c .before .before .before .before .before .before .before .before .before .before .before .before .loop-test .taken))
+array-write-by-place c = omega (arith, next-below (c .before .before .before .before .before .before .before .before .before .before .before .before .before .before .before .before .before .before .before .pre .listed) (c .before .before .before .before .before .before .before .before .before .before .before .before .before .before .before .before .before .before .by-latest-start .ensures .places) (c .before .before .before .before .before .before .before .before .before .before .before .before .before .loop-test .taken))
 
 add-k : tie.Need-add-k Inv-loop μ-loop
 add-k c =
-    let r = c .before .before .before .before .before .before .before .before .before .before .before .before .before .before .before .before .before .before .pre in
+    let r = c .before .before .before .before .before .before .before .before .before .before .before .before .before .before .before .before .before .before .before .pre in
     omega (
       arith,
-      c .before .before .before .before .before .before .before .before .before .before .before .before .loop-test .taken,
-      queue-latest-start (r .listed) (c .before .before .before .before .before .before .before .before .before .before .before .before .before .before .before .before .before .by-latest-start .ensures) .room,
+      c .before .before .before .before .before .before .before .before .before .before .before .before .before .loop-test .taken,
+      queue-latest-start (r .listed) (c .before .before .before .before .before .before .before .before .before .before .before .before .before .before .before .before .before .before .by-latest-start .ensures) .room,
     )
 
 loop-less : tie.Need-loop-less Inv-loop μ-loop
@@ -108,10 +117,10 @@ loop-less c = omega arith
 
 loop-again : tie.Need-loop-again Inv-loop μ-loop
 loop-again c =
-    let r = c .before .before .before .before .before .before .before .before .before .before .before .before .before .before .before .before .before .before .pre in (
-      omega (arith, c .before .before .before .before .before .before .before .before .before .before .before .before .loop-test .taken),
-      sound-placed r (queue-latest-start (r .listed) (c .before .before .before .before .before .before .before .before .before .before .before .before .before .before .before .before .before .by-latest-start .ensures)) (c .before .before .before .before .before .before .before .before .before .before .before .before .before .loop .inv .1)
-          (c .before .before .before .before .before .before .before .before .before .before .before .before .loop-test .taken) _ (c .before .before .before .before .before .before .earliest .ensures) (c .before .before .before .before .found .given .1) (c .add .ensures),
+    let r = c .before .before .before .before .before .before .before .before .before .before .before .before .before .before .before .before .before .before .before .pre in (
+      omega (arith, c .before .before .before .before .before .before .before .before .before .before .before .before .before .loop-test .taken),
+      sound-placed r (queue-latest-start (r .listed) (c .before .before .before .before .before .before .before .before .before .before .before .before .before .before .before .before .before .before .by-latest-start .ensures)) (c .before .before .before .before .before .before .before .before .before .before .before .before .before .before .loop .inv .1)
+          (c .before .before .before .before .before .before .before .before .before .before .before .before .before .loop-test .taken) _ (c .before .before .before .before .before .before .earliest .ensures) (c .before .before .before .before .found .given .1) (c .add .ensures) (omega arith),
     )
 
 waiting-starts-requires : tie.Need-waiting-starts-requires Inv-loop μ-loop
@@ -140,6 +149,8 @@ latest-spec =
     element-copy-out-line
     mul-time
     element-copy-out-time
+    mul-rate
+    element-copy-out-rate
     earliest-requires
     enum-known-found
     enum-told

@@ -8,7 +8,7 @@ use Rattle.search.specs.Caps.{CapsShown}
 use Rattle.search.proofs.Lowerings.{can-cap}
 use Rattle.planner.specs.Ready.{begunOf}
 use Rattle.planner.proofs.Queueing.{queue-line-by-line, queue-whole}
-use Rattle.planner.proofs.Plans.{PlacedSoFar, placed-start, placed-end, next-inside, next-below, next-can-start}
+use Rattle.planner.proofs.Plans.{PlacedSoFar, placed-start, placed-end, next-inside, next-below, next-rated, next-can-start}
 use Rattle.planner.proofs.Finding.{capped-can-add, capped-placed}
 use Rattle.planner.proofs.lines.place_lines.Statement.{statement}
 use Rattle.planner.proofs.lines.place_lines.Tie as tie
@@ -48,44 +48,51 @@ mul-time c = omega (arith, next-below (c .before .before .before .before .before
 element-copy-out-time : tie.Need-element-copy-out-time Inv-loop μ-loop
 element-copy-out-time c = omega (arith, next-below (c .before .before .before .before .before .before .pre .0) (c .before .before .before .before .before .before .pre .2 .places) (c .before .before .loop-test .taken))
 
+mul-rate : tie.Need-mul-rate Inv-loop μ-loop
+mul-rate c = omega (arith, next-below (c .before .before .before .before .before .before .before .pre .0) (c .before .before .before .before .before .before .before .pre .2 .places) (c .before .before .before .loop-test .taken))
+
+element-copy-out-rate : tie.Need-element-copy-out-rate Inv-loop μ-loop
+element-copy-out-rate c = omega (arith, next-below (c .before .before .before .before .before .before .before .pre .0) (c .before .before .before .before .before .before .before .pre .2 .places) (c .before .before .before .loop-test .taken))
+
 earliest-under-requires : tie.Need-earliest-under-requires Inv-loop μ-loop
 earliest-under-requires c κs =
-    let s = c .before .before .before .before .before .before .before .before .before .before .before in
+    let s = c .before .before .before .before .before .before .before .before .before .before .before .before in
     let w = s .pre .4 in
     let u = queue-line-by-line (s .pre .0) (s .pre .2) in
-    let low = c .before .before .before .before .before .before .before .loop-test .taken in
-    let line = s .pre .0 .small _ (next-inside (s .pre .0) (u .places) low) .on-line in (
-      next-can-start (s .pre .0) u (c .before .before .before .before .before .before .before .before .loop .inv .1 (w .cap) (w .shown)) low,
+    let low = c .before .before .before .before .before .before .before .before .loop-test .taken in
+    let inside = next-inside (s .pre .0) (u .places) low in
+    let line = s .pre .0 .small _ inside .on-line in (
+      next-can-start (s .pre .0) u (c .before .before .before .before .before .before .before .before .before .loop .inv .1 (w .cap) (w .shown)) low,
       line,
-      can-cap (s .args .t5) (w .cap) _ (w .shown) line (w .some _),
+      can-cap (s .args .t5) (w .cap) _ _ (w .shown) line (w .enough _ inside _),
     )
 
 add-requires : tie.Need-add-requires Inv-loop μ-loop
 add-requires c κs =
-    let s = c .before .before .before .before .before .before .before .before .before .before .before .before .before .before in
+    let s = c .before .before .before .before .before .before .before .before .before .before .before .before .before .before .before in
     let w = s .pre .4 in
-    capped-can-add (w .shown) (s .pre .0) (queue-line-by-line (s .pre .0) (s .pre .2)) (c .before .before .before .before .before .before .before .before .before .before .before .loop .inv .1 (w .cap) (w .shown))
-    (c .before .before .before .before .before .before .before .before .before .before .loop-test .taken) (c .before .before .earliest-under .ensures)
+    capped-can-add (w .shown) (s .pre .0) (queue-line-by-line (s .pre .0) (s .pre .2)) (c .before .before .before .before .before .before .before .before .before .before .before .before .loop .inv .1 (w .cap) (w .shown))
+    (c .before .before .before .before .before .before .before .before .before .before .before .loop-test .taken) (c .before .before .earliest-under .ensures) (omega (arith, next-rated (s .pre .0) (s .pre .2 .places) (c .before .before .before .before .before .before .before .before .before .before .before .loop-test .taken)))
 
 mul-by-place : tie.Need-mul-by-place Inv-loop μ-loop
-mul-by-place c = omega (arith, next-below (c .before .before .before .before .before .before .before .before .before .before .before .before .before .before .before .pre .0) (c .before .before .before .before .before .before .before .before .before .before .before .before .before .before .before .pre .2 .places) (c .before .before .before .before .before .before .before .before .before .before .before .loop-test .taken))
+mul-by-place c = omega (arith, next-below (c .before .before .before .before .before .before .before .before .before .before .before .before .before .before .before .before .pre .0) (c .before .before .before .before .before .before .before .before .before .before .before .before .before .before .before .before .pre .2 .places) (c .before .before .before .before .before .before .before .before .before .before .before .before .loop-test .taken))
 
 array-write-by-place : tie.Need-array-write-by-place Inv-loop μ-loop
-array-write-by-place c = omega (arith, next-below (c .before .before .before .before .before .before .before .before .before .before .before .before .before .before .before .pre .0) (c .before .before .before .before .before .before .before .before .before .before .before .before .before .before .before .pre .2 .places) (c .before .before .before .before .before .before .before .before .before .before .before .loop-test .taken))
+array-write-by-place c = omega (arith, next-below (c .before .before .before .before .before .before .before .before .before .before .before .before .before .before .before .before .pre .0) (c .before .before .before .before .before .before .before .before .before .before .before .before .before .before .before .before .pre .2 .places) (c .before .before .before .before .before .before .before .before .before .before .before .before .loop-test .taken))
 
 add-k : tie.Need-add-k Inv-loop μ-loop
-add-k c = let s = c .before .before .before .before .before .before .before .before .before .before .before .before .before .before .before in omega (arith, c .before .before .before .before .before .before .before .before .before .before .before .loop-test .taken, queue-line-by-line (s .pre .0) (s .pre .2) .room)
+add-k c = let s = c .before .before .before .before .before .before .before .before .before .before .before .before .before .before .before .before in omega (arith, c .before .before .before .before .before .before .before .before .before .before .before .before .loop-test .taken, queue-line-by-line (s .pre .0) (s .pre .2) .room)
 
 loop-less : tie.Need-loop-less Inv-loop μ-loop
 loop-less c = omega arith
 
 loop-again : tie.Need-loop-again Inv-loop μ-loop
 loop-again c =
-    let s = c .before .before .before .before .before .before .before .before .before .before .before .before .before .before .before in (
-      omega (arith, c .before .before .before .before .before .before .before .before .before .before .before .loop-test .taken),
+    let s = c .before .before .before .before .before .before .before .before .before .before .before .before .before .before .before .before in (
+      omega (arith, c .before .before .before .before .before .before .before .before .before .before .before .before .loop-test .taken),
       λ cap shown.
-          capped-placed shown (s .pre .0) (queue-line-by-line (s .pre .0) (s .pre .2)) (c .before .before .before .before .before .before .before .before .before .before .before .before .loop .inv .1 cap shown)
-          (c .before .before .before .before .before .before .before .before .before .before .before .loop-test .taken) (c .before .before .before .earliest-under .ensures) (c .add .ensures),
+          capped-placed shown (s .pre .0) (queue-line-by-line (s .pre .0) (s .pre .2)) (c .before .before .before .before .before .before .before .before .before .before .before .before .before .loop .inv .1 cap shown)
+          (c .before .before .before .before .before .before .before .before .before .before .before .before .loop-test .taken) (c .before .before .before .earliest-under .ensures) (c .add .ensures) (omega arith),
     )
 
 returns : tie.Need-returns Inv-loop μ-loop
@@ -107,6 +114,8 @@ place-lines-spec =
     element-copy-out-line
     mul-time
     element-copy-out-time
+    mul-rate
+    element-copy-out-rate
     earliest-under-requires
     add-requires
     mul-by-place

@@ -3,7 +3,7 @@ use native.Mathlib.Omega.{arith}
 use Prim.Native.Nat.{_-_}
 use borrow.Author.Needs.{needs}
 use Rattle.search.proofs.Lowerings.{lowered-shows}
-use Rattle.planner.proofs.Showing.{listed-ends}
+use Rattle.planner.proofs.Showing.{listed-ends, listed-rates}
 use Rattle.planner.proofs.Counting.{Rounds, rounds-capped, rounds-start, rounds-done, rounds-spent, lowers-fit, rounds-next}
 use Rattle.planner.proofs.rounds.by_lines.Statement.{statement}
 use Rattle.planner.proofs.rounds.by_lines.Tie as tie
@@ -18,7 +18,7 @@ line-by-line-requires : tie.Need-line-by-line-requires Inv-loop μ-loop
 line-by-line-requires c κs = search needs
 
 profile-before-requires : tie.Need-profile-before-requires Inv-loop μ-loop
-profile-before-requires c κs = (c .before .pre .listed .columns .few, listed-ends (c .before .pre .listed))
+profile-before-requires c κs = (c .before .pre .listed .columns .few, listed-ends (c .before .pre .listed), listed-rates (c .before .pre .listed))
 
 new-requires : tie.Need-new-requires Inv-loop μ-loop
 new-requires c κs = search needs
@@ -54,7 +54,7 @@ loop-less : tie.Need-loop-less Inv-loop μ-loop
 loop-less c = omega arith
 
 loop-again : tie.Need-loop-again Inv-loop μ-loop
-loop-again c = rounds-next (c .before .before .before .before .before .before .before .loop .inv) (c .before .before .before .before .before .before .play .ensures) (c .before .before .before .outcome .given .1) (c .before .if1 .left) (lowered-shows (c .lower .ensures))
+loop-again c = rounds-next (c .before .before .before .before .before .before .before .loop .inv) (c .before .before .before .before .before .before .play .ensures) (c .before .before .before .outcome .given .1) (c .before .before .before .before .before .before .before .before .before .before .before .pre) (c .before .if1 .left) (lowered-shows (c .lower .ensures))
 
 pub by-lines-spec : {M : Type 1} → statement M
 by-lines-spec =

@@ -1,4 +1,4 @@
--- `profile::steps::raise` meets its contract. The invariant: the line has one more in the steps from i up to k.
+-- `profile::steps::raise` meets its contract. The invariant: the line has the rate more in the steps from i up to k.
 use Prim.Native.Nat.{_≤_, _-_}
 use mathlib.Core.Path.{_≡_, refl}
 use native.Mathlib.Omega.{arith}
@@ -9,13 +9,13 @@ use Rattle.profile.proofs.steps.raise.Statement.{statement}
 use Rattle.profile.proofs.steps.raise.Tie as tie
 
 abbrev Inv-loop : tie.InvT-loop
-Inv-loop counts₀ line i j k₀ counts k = (i ≤ k) × (k ≤ j) × RaisedIn counts₀ counts line i k
+Inv-loop counts₀ line rate i j k₀ counts k = (i ≤ k) × (k ≤ j) × RaisedIn counts₀ counts line rate i k
 
 abbrev μ-loop : tie.MeasureT-loop
-μ-loop counts₀ line i j k₀ counts k = j - k
+μ-loop counts₀ line rate i j k₀ counts k = j - k
 
 loop-holds : tie.Need-loop-holds Inv-loop μ-loop
-loop-holds c = (search needs, search needs, raised-none _ _ _ (c .pre .0))
+loop-holds c = (search needs, search needs, raised-none _ _ _ _ (c .pre .0))
 
 mul-p : tie.Need-mul-p Inv-loop μ-loop
 mul-p c = search needs

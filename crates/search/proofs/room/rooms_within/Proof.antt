@@ -10,10 +10,10 @@ use Rattle.search.proofs.room.rooms_within.Statement.{statement}
 use Rattle.search.proofs.room.rooms_within.Tie as tie
 
 abbrev Inv-loop : tie.InvT-loop
-Inv-loop counts n limit bound line rooms₀ a b c i₀ rooms i = (i ≤ n) × RoomsWithin counts i limit bound line rooms
+Inv-loop counts n limit bound line rate rooms₀ a b c i₀ rooms i = (i ≤ n) × RoomsWithin counts i limit bound line rate rooms
 
 abbrev μ-loop : tie.MeasureT-loop
-μ-loop counts n limit bound line rooms₀ a b c i₀ rooms i = n - i
+μ-loop counts n limit bound line rate rooms₀ a b c i₀ rooms i = n - i
 
 share-of-requires : tie.Need-share-of-requires Inv-loop μ-loop
 share-of-requires c κs = search needs
@@ -25,7 +25,7 @@ share-of-requires-3 : tie.Need-share-of-requires-3 Inv-loop μ-loop
 share-of-requires-3 c κs = search needs
 
 loop-holds : tie.Need-loop-holds Inv-loop μ-loop
-loop-holds c = (omega arith, within-none _ _ _ _ _ refl)
+loop-holds c = (omega arith, within-none _ _ _ _ _ _ refl)
 
 count-of-requires : tie.Need-count-of-requires Inv-loop μ-loop
 count-of-requires c κs = (omega arith, record { low = omega arith; high = omega arith })
@@ -68,7 +68,7 @@ returns c =
     let l = c .before in
     let a = c .before .before .before .before .before .args in
     let e : l .loop .i ≡ a .n = omega arith in
-    subst (λ (k : ℕ). RoomsWithin (a .counts .now) k (a .limit) (a .bound) (a .line) (l .loop .rooms)) e (l .loop .inv .1)
+    subst (λ (k : ℕ). RoomsWithin (a .counts .now) k (a .limit) (a .bound) (a .line) (a .rate) (l .loop .rooms)) e (l .loop .inv .1)
 
 pub rooms-within-spec : {M : Type 1} → statement M
 rooms-within-spec =

@@ -1,10 +1,14 @@
 -- `search::room::under` meets its contract.
 use borrow.Author.Needs.{needs}
+use Prim.Native.Nat.{_+_}
 use mathlib.Core.Path.{sym}
 use native.Mathlib.Omega.{arith}
 use Rattle.search.proofs.Lowerings.{past-end}
 use Rattle.search.proofs.room.under.Statement.{statement}
 use Rattle.search.proofs.room.under.Tie as tie
+
+add-k : tie.Need-add-k
+add-k c = search needs
 
 mul-result : tie.Need-mul-result
 mul-result c = search needs
@@ -25,12 +29,13 @@ returns : tie.Need-returns
 returns c = search needs
 
 returns-2 : tie.Need-returns-2
-returns-2 c = sym (past-end (c .before .args .caps .now) (c .before .args .line) (c .before .args .count) (c .before .pre .0) (c .before .pre .1) (omega arith))
+returns-2 c = sym (past-end (c .before .args .caps .now) (c .before .args .line) (c .before .args .count + c .before .args .rate) (c .before .pre .0) (c .before .pre .1) (omega arith))
 
 pub under-spec : {M : Type 1} → statement M
 under-spec =
     tie.close
     (tie.spec
+    add-k
     mul-result
     add-result
     sub-result

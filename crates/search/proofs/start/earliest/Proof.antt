@@ -14,7 +14,7 @@ element-copy-out-clock c = search needs
 rooms-within-requires : tie.Need-rooms-within-requires
 rooms-within-requires c κs =
     let can = c .before .pre .0 in
-    (can .formed .fits, small-step _ (can .formed) (can .small))
+    (can .formed .fits, small-step _ (can .formed) (can .small), c .before .pre .1)
 
 unsound-minutes-requires : tie.Need-unsound-minutes-requires
 unsound-minutes-requires c κs = (c .before .before .pre .0 .formed, c .before .before .pre .0 .empty)
@@ -28,7 +28,7 @@ search-requires c κs =
     let can = s .pre .0 in
     let b = c .before .reaching .ensures in
     start-search (c .before .before .before .rooms-within .result) can
-    (within-rests can (s .pre .1) (s .pre .2) (c .before .before .before .rooms-within .ensures))
+    (within-rests can (s .pre .2) (s .pre .3) (c .before .before .before .rooms-within .ensures))
     (omega (arith, b))
     (omega (arith, b, c .before .before .unsound-minutes .ensures .high, first-last can))
 

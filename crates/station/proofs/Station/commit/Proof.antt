@@ -26,21 +26,21 @@ module _ (c : tie.After-found2) where
   abbrev begun : tie.Start
   begun = c .before .before .before
 
-  free : NoneHolds (orderRefusals (view (begun .args .self)) (begun .args .line) (begun .args .time) (begun .args .due))
-  free = found-granted (begun .args .self) (begun .args .line) (begun .args .time) (begun .args .due) _ _ (c .found2 .given .1) (c .before .before .start-for .ensures) .0
+  free : NoneHolds (orderRefusals (view (begun .args .self)) (begun .args .line) (begun .args .time) (begun .args .due) (begun .args .rate))
+  free = found-granted (begun .args .self) (begun .args .line) (begun .args .time) (begun .args .due) (begun .args .rate) _ _ (c .found2 .given .1) (c .before .before .start-for .ensures) .0
 
-  found : startFor (view (begun .args .self)) (drawFor (view (begun .args .self)) (begun .args .line) (begun .args .time)) ≡ at (c .found2 .given .0 .0)
-  found = found-granted (begun .args .self) (begun .args .line) (begun .args .time) (begun .args .due) _ _ (c .found2 .given .1) (c .before .before .start-for .ensures) .1
+  found : startFor (view (begun .args .self)) (drawFor (view (begun .args .self)) (begun .args .line) (begun .args .time) (begun .args .rate)) ≡ at (c .found2 .given .0 .0)
+  found = found-granted (begun .args .self) (begun .args .line) (begun .args .time) (begun .args .due) (begun .args .rate) _ _ (c .found2 .given .1) (c .before .before .start-for .ensures) .1
 
-  granted : Orderable (begun .args .self) (begun .args .line) (begun .args .time) (begun .args .due)
-  granted = orderable (begun .args .self) (begun .args .line) (begun .args .time) (begun .args .due) free
+  granted : Orderable (begun .args .self) (begun .args .line) (begun .args .time) (begun .args .due) (begun .args .rate)
+  granted = orderable (begun .args .self) (begun .args .line) (begun .args .time) (begun .args .due) (begun .args .rate) free
 
 returns : tie.Need-returns
 returns c =
     let s = begun (c .before .before) in
     record {
       result =
-          sym (commit-other (view (s .args .self)) (s .args .line) (s .args .time) (s .args .due) (free (c .before .before)) _ (s .args .shown)
+          sym (commit-other (view (s .args .self)) (s .args .line) (s .args .time) (s .args .due) (s .args .rate) (free (c .before .before)) _ (s .args .shown)
           (found (c .before .before)) (λ e. omega (arith, e, c .if1 .taken)));
       valid = s .pre;
     }
@@ -58,7 +58,7 @@ returns-2 c =
     let s = c .before .before .before .before in
     record {
       result =
-          sym (commit-refused (view (s .args .self)) (s .args .line) (s .args .time) (s .args .due) _ (s .args .shown) (s .pre .state)
+          sym (commit-refused (view (s .args .self)) (s .args .line) (s .args .time) (s .args .due) (s .args .rate) _ (s .args .shown) (s .pre .state)
           (sym (ap previewAnswer (c .before .found .given .1)) ∙ c .before .before .before .start-for .ensures));
       valid = s .pre;
     }
@@ -67,9 +67,9 @@ returns-3 : tie.Need-returns-3
 returns-3 c =
     let f = c .before .before .before .before in
     let s = begun f in
-    call-gives (s .args .self) (commit (s .args .line) (s .args .time) (s .args .due) (s .args .shown)) _
+    call-gives (s .args .self) (commit (s .args .line) (s .args .time) (s .args .due) (s .args .rate) (s .args .shown)) _
     (committedStation (s .args .self) (c .push .result)) _ (s .pre) (c .push .ensures .columns)
-    (call-committed (s .args .self) (s .args .line) (s .args .time) (s .args .due) _ (s .args .shown) (c .push .result)
+    (call-committed (s .args .self) (s .args .line) (s .args .time) (s .args .due) (s .args .rate) _ (s .args .shown) (c .push .result)
     (free f) (found f) (omega (arith, c .before .before .if1 .left)) (c .push .ensures))
 
 pub commit-spec : {M : Type 1} → statement M

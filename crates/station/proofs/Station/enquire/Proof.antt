@@ -69,20 +69,26 @@ mul-time c = omega (arith, low (c .before .before))
 element-copy-out-time : tie.Need-element-copy-out-time
 element-copy-out-time c = omega (arith, low (c .before .before))
 
-add-t17 : tie.Need-add-t17
-add-t17 c =
-    let s = small (c .before .before .before .before .before) in
+mul-rate : tie.Need-mul-rate
+mul-rate c = omega (arith, low (c .before .before .before))
+
+element-copy-out-rate : tie.Need-element-copy-out-rate
+element-copy-out-rate c = omega (arith, low (c .before .before .before))
+
+add-t20 : tie.Need-add-t20
+add-t20 c =
+    let s = small (c .before .before .before .before .before .before) in
     omega (arith, s .start-most, s .time-most)
 
 returns-2 : tie.Need-returns-2
 returns-2 c =
-    let f = c .before .before .before .before .before in
+    let f = c .before .before .before .before .before .before in
     let s = f .before .before .before .before .args .self in
     says f (told-charging (s .clock) (chargeAt (s .charges) (place f)) (c .if1 .taken))
 
 returns-3 : tie.Need-returns-3
 returns-3 c =
-    let f = c .before .before .before .before .before in
+    let f = c .before .before .before .before .before .before in
     let s = f .before .before .before .before .args .self in
     says f (told-waiting (s .clock) (chargeAt (s .charges) (place f)) (c .if1 .left))
 
@@ -98,6 +104,8 @@ enquire-spec =
     element-copy-out-start
     mul-time
     element-copy-out-time
-    add-t17
+    mul-rate
+    element-copy-out-rate
+    add-t20
     returns-2
     returns-3)

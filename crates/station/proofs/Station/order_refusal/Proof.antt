@@ -25,15 +25,31 @@ returns-5 c =
 
 returns-6 : tie.Need-returns-6
 returns-6 c =
-    simp (le-ltb _ _ (c .before .before .before .before .before .if1 .left), le-ltb _ _ (c .before .before .before .before .if2 .left), le-ltb _ _ (c .before .before .before .if3 .left), le-ltb _ _ (c .before .before .if4 .left), le-ltb _ _ (c .before .if5 .left), length-tabulate, le-leb _ _ (c .if6 .taken))
+    simp (le-ltb _ _ (c .before .before .before .before .before .if1 .left), le-ltb _ _ (c .before .before .before .before .if2 .left), le-ltb _ _ (c .before .before .before .if3 .left), le-ltb _ _ (c .before .before .if4 .left), le-ltb _ _ (c .before .if5 .left), lt-ltb _ _ (c .if6 .taken))
 
 returns-7 : tie.Need-returns-7
 returns-7 c =
-    simp (le-ltb _ _ (c .before .before .before .before .before .before .before .if1 .left), le-ltb _ _ (c .before .before .before .before .before .before .if2 .left), le-ltb _ _ (c .before .before .before .before .before .if3 .left), le-ltb _ _ (c .before .before .before .before .if4 .left), le-ltb _ _ (c .before .before .before .if5 .left), length-tabulate, lt-leb _ _ (c .before .before .if6 .left), lt-ltb _ _ (c .if7 .taken))
+    simp (le-ltb _ _ (c .before .before .before .before .before .before .before .if1 .left), le-ltb _ _ (c .before .before .before .before .before .before .if2 .left), le-ltb _ _ (c .before .before .before .before .before .if3 .left), le-ltb _ _ (c .before .before .before .before .if4 .left), le-ltb _ _ (c .before .before .before .if5 .left), le-ltb _ _ (c .before .before .if6 .left), lt-ltb _ _ (c .if7 .taken))
 
 returns-8 : tie.Need-returns-8
 returns-8 c =
-    simp (le-ltb _ _ (c .before .before .before .before .before .before .before .if1 .left), le-ltb _ _ (c .before .before .before .before .before .before .if2 .left), le-ltb _ _ (c .before .before .before .before .before .if3 .left), le-ltb _ _ (c .before .before .before .before .if4 .left), le-ltb _ _ (c .before .before .before .if5 .left), length-tabulate, lt-leb _ _ (c .before .before .if6 .left), le-ltb _ _ (c .if7 .left))
+    simp (le-ltb _ _ (c .before .before .before .before .before .before .before .before .before .if1 .left), le-ltb _ _ (c .before .before .before .before .before .before .before .before .if2 .left), le-ltb _ _ (c .before .before .before .before .before .before .before .if3 .left), le-ltb _ _ (c .before .before .before .before .before .before .if4 .left), le-ltb _ _ (c .before .before .before .before .before .if5 .left), le-ltb _ _ (c .before .before .before .before .if6 .left), le-ltb _ _ (c .before .before .if7 .left), lt-ltb _ _ (c .if8 .taken))
+
+returns-9 : tie.Need-returns-9
+returns-9 c =
+    simp (le-ltb _ _ (c .before .before .before .before .before .before .before .before .before .before .if1 .left), le-ltb _ _ (c .before .before .before .before .before .before .before .before .before .if2 .left), le-ltb _ _ (c .before .before .before .before .before .before .before .before .if3 .left), le-ltb _ _ (c .before .before .before .before .before .before .before .if4 .left), le-ltb _ _ (c .before .before .before .before .before .before .if5 .left), le-ltb _ _ (c .before .before .before .before .before .if6 .left), le-ltb _ _ (c .before .before .before .if7 .left), le-ltb _ _ (c .before .if8 .left), lt-ltb _ _ (c .if9 .taken))
+
+returns-10 : tie.Need-returns-10
+returns-10 c =
+    simp (le-ltb _ _ (c .before .before .before .before .before .before .before .before .before .before .before .before .if1 .left), le-ltb _ _ (c .before .before .before .before .before .before .before .before .before .before .before .if2 .left), le-ltb _ _ (c .before .before .before .before .before .before .before .before .before .before .if3 .left), le-ltb _ _ (c .before .before .before .before .before .before .before .before .before .if4 .left), le-ltb _ _ (c .before .before .before .before .before .before .before .before .if5 .left), le-ltb _ _ (c .before .before .before .before .before .before .before .if6 .left), le-ltb _ _ (c .before .before .before .before .before .if7 .left), le-ltb _ _ (c .before .before .before .if8 .left), le-ltb _ _ (c .before .before .if9 .left), length-tabulate, le-leb _ _ (c .if10 .taken))
+
+returns-11 : tie.Need-returns-11
+returns-11 c =
+    simp (le-ltb _ _ (c .before .before .before .before .before .before .before .before .before .before .before .before .before .before .if1 .left), le-ltb _ _ (c .before .before .before .before .before .before .before .before .before .before .before .before .before .if2 .left), le-ltb _ _ (c .before .before .before .before .before .before .before .before .before .before .before .before .if3 .left), le-ltb _ _ (c .before .before .before .before .before .before .before .before .before .before .before .if4 .left), le-ltb _ _ (c .before .before .before .before .before .before .before .before .before .before .if5 .left), le-ltb _ _ (c .before .before .before .before .before .before .before .before .before .if6 .left), le-ltb _ _ (c .before .before .before .before .before .before .before .if7 .left), le-ltb _ _ (c .before .before .before .before .before .if8 .left), le-ltb _ _ (c .before .before .before .before .if9 .left), length-tabulate, lt-leb _ _ (c .before .before .if10 .left), lt-ltb _ _ (c .if11 .taken))
+
+returns-12 : tie.Need-returns-12
+returns-12 c =
+    simp (le-ltb _ _ (c .before .before .before .before .before .before .before .before .before .before .before .before .before .before .if1 .left), le-ltb _ _ (c .before .before .before .before .before .before .before .before .before .before .before .before .before .if2 .left), le-ltb _ _ (c .before .before .before .before .before .before .before .before .before .before .before .before .if3 .left), le-ltb _ _ (c .before .before .before .before .before .before .before .before .before .before .before .if4 .left), le-ltb _ _ (c .before .before .before .before .before .before .before .before .before .before .if5 .left), le-ltb _ _ (c .before .before .before .before .before .before .before .before .before .if6 .left), le-ltb _ _ (c .before .before .before .before .before .before .before .if7 .left), le-ltb _ _ (c .before .before .before .before .before .if8 .left), le-ltb _ _ (c .before .before .before .before .if9 .left), length-tabulate, lt-leb _ _ (c .before .before .if10 .left), le-ltb _ _ (c .if11 .left))
 
 pub order-refusal-spec : {M : Type 1} → statement M
 order-refusal-spec =
@@ -46,4 +62,8 @@ order-refusal-spec =
     returns-5
     returns-6
     returns-7
-    returns-8)
+    returns-8
+    returns-9
+    returns-10
+    returns-11
+    returns-12)

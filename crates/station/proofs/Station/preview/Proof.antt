@@ -11,7 +11,7 @@ returns : tie.Need-returns
 returns c =
     let s = c .before in
     record {
-      result = preview-stays (s .args .self) (s .args .line) (s .args .time) (s .args .due) _ (c .start-for .ensures);
+      result = preview-stays (s .args .self) (s .args .line) (s .args .time) (s .args .due) (s .args .rate) _ (c .start-for .ensures);
       valid = s .pre;
     }
 

@@ -6,7 +6,7 @@ use Rattle.rules.proofs.Granted.{refusals-none}
 use Rattle.station.specs.View.{view}
 use Rattle.profile.specs.Shows.{foundAt}
 use Rattle.search.proofs.Starts.{earliest-shows}
-use Rattle.station.proofs.Ordered.{ends-fit, all-shown, Orderable, orderable, can-search, shown-refused, shown-found}
+use Rattle.station.proofs.Ordered.{ends-fit, rates-fit, all-shown, Orderable, orderable, can-search, shown-refused, shown-found}
 use borrow.Author.Needs.{needs}
 use Rattle.station.proofs.Station.start_for.Statement.{statement}
 use Rattle.station.proofs.Station.start_for.Tie as tie
@@ -17,7 +17,7 @@ order-refusal-requires c κs = search needs
 returns : tie.Need-returns
 returns c =
     let s = c .before .before in
-    shown-refused (s .args .self) (s .args .line) (s .args .time) (s .args .due)
+    shown-refused (s .args .self) (s .args .line) (s .args .time) (s .args .due) (s .args .rate)
     (c .before .order-refusal .result) (c .before .order-refusal .ensures) (c .if1 .taken)
 
 -- where the order is not refused
@@ -25,23 +25,24 @@ module _ (c : tie.Else1) where
   none : c .before .order-refusal .result ≡ 0
   none = omega (arith, c .if1 .left)
 
-  granted : Orderable (c .before .before .args .self) (c .before .before .args .line) (c .before .before .args .time) (c .before .before .args .due)
+  granted : Orderable (c .before .before .args .self) (c .before .before .args .line) (c .before .before .args .time) (c .before .before .args .due) (c .before .before .args .rate)
   granted =
       let s = c .before .before in
-      orderable (s .args .self) (s .args .line) (s .args .time) (s .args .due)
-      (refusals-none (view (s .args .self)) (preview (s .args .line) (s .args .time) (s .args .due)) (sym (c .before .order-refusal .ensures) ∙ none))
+      orderable (s .args .self) (s .args .line) (s .args .time) (s .args .due) (s .args .rate)
+      (refusals-none (view (s .args .self)) (preview (s .args .line) (s .args .time) (s .args .due) (s .args .rate)) (sym (c .before .order-refusal .ensures) ∙ none))
 
 profile-before-requires : tie.Need-profile-before-requires
 profile-before-requires c κs =
     let s = c .before .before .before in
-    (s .pre .columns .few, ends-fit (s .args .self) (s .pre))
+    (s .pre .columns .few, ends-fit (s .args .self) (s .pre), rates-fit (s .args .self) (s .pre))
 
 earliest-requires : tie.Need-earliest-requires
 earliest-requires c κs =
     let s = c .before .before .before .before .before .before .before in (
       can-search (s .args .self) (c .before .before .before .profile-before .result) _ (s .args .time) (s .pre) (all-shown (s .args .self) _ _ (s .pre) (c .before .before .before .profile-before .ensures)) (omega (arith, s .pre .state .clock-high)) (granted (c .before .before .before .before .before) .time-most),
-      s .pre .state .limit-low,
-      s .pre .state .bound-low,
+      granted (c .before .before .before .before .before) .is-rate,
+      granted (c .before .before .before .before .before) .within-limit,
+      granted (c .before .before .before .before .before) .within-bound,
     )
 
 enum-known-found : tie.Need-enum-known-found
@@ -55,7 +56,7 @@ returns-2 c =
     let s = c .before .before .before .before .before .before .before .before .before .before in
     let a = c .before .before in
     let r = c .before .before .before .before .before .before .before .before .before .order-refusal in
-    shown-found (s .args .self) (s .args .line) (s .args .time) (s .args .due) (r .result) nothing (r .ensures)
+    shown-found (s .args .self) (s .args .line) (s .args .time) (s .args .due) (s .args .rate) (r .result) nothing (r .ensures)
     (none (c .before .before .before .before .before .before .before .before))
     (earliest-shows (a .earliest .ensures) _ _ (all-shown (s .args .self) _ _ (s .pre) (a .before .before .before .before .profile-before .ensures))
     ∙ ap foundAt (c .enum-told .given .1))
@@ -66,7 +67,7 @@ returns-3 c =
     let found = c .before in
     let a = found .before .before in
     let r = c .before .before .before .before .before .before .before .before .before .before .order-refusal in
-    shown-found (s .args .self) (s .args .line) (s .args .time) (s .args .due) (r .result) (at _) (r .ensures)
+    shown-found (s .args .self) (s .args .line) (s .args .time) (s .args .due) (s .args .rate) (r .result) (at _) (r .ensures)
     (none (c .before .before .before .before .before .before .before .before .before))
     (earliest-shows (a .earliest .ensures) _ _ (all-shown (s .args .self) _ _ (s .pre) (a .before .before .before .before .profile-before .ensures))
     ∙ ap foundAt (found .found .given .1))

@@ -1,0 +1,171 @@
+//! The comparison finds every faulty yard, and the checker of demand 3 those that break
+//! it.
+
+mod common;
+
+use common::faulty::{Error, Faulty};
+use common::Inside;
+use trials::compare::{compare, Choice};
+use trials::fill::{fill, unfill};
+use trials::script::Line;
+use trials::{demand, generate, script};
+
+/// With the kind of scripts that finds them, and how many lines are left at most.
+const FAULTY: [(&str, usize, &[Error]); 6] = [
+    (
+        "leaning",
+        13,
+        &[
+            Error::BalanceOnlyAtTheStart,
+            Error::BegunTakenAsSound,
+            Error::WaitingIgnored,
+            Error::CountedInTheMinuteOfTheEnd,
+            Error::StartAtTheClockIsBegun,
+            Error::NeighbouringLinesOnly,
+            Error::AlwaysKeeps,
+            Error::SpentAfterNoRound,
+            Error::InventedRounds,
+            Error::QueuesBehindTheLastEnd,
+            Error::ReportsOnlyOnce,
+            Error::FullFromTheStart,
+            Error::OneStartForEverybody,
+        ],
+    ),
+    (
+        "hurry",
+        9,
+        &[
+            Error::LatestStartCutAtZero,
+            Error::LatestStartUnsigned,
+            Error::HigherTicketFirst,
+            Error::LatenessFromTheClock,
+            Error::HurryRefused6,
+            Error::HurryRefused7,
+        ],
+    ),
+    (
+        "commits",
+        6,
+        &[
+            Error::TakesAnySoundStart,
+            Error::GivesTheEarliestStart,
+            Error::TakesTheStartShownBefore,
+            Error::PreviewTakesATicket,
+            Error::PreviewShowsTheLastEnd,
+        ],
+    ),
+    // A full yard and one commit more.
+    ("full", 182, &[Error::StartBeforePlaces]),
+    (
+        "openings",
+        1,
+        &[
+            Error::HalfUp,
+            Error::HalfDown,
+            Error::RoundedUp,
+            Error::RoundedDown,
+            Error::RoundedDownAndOpened,
+            Error::RefusedBelowAHundred,
+        ],
+    ),
+    (
+        "rates",
+        9,
+        &[
+            Error::RateNotInTheBalance,
+            Error::SecondHalfOnTheNextLine,
+            Error::RateAgainstTheLimitOnly,
+            Error::RateAfterDue,
+            Error::RateLostByAPlan,
+            Error::RateNotShown,
+            Error::CapsCountCharges,
+            Error::PlacedChargeHidden,
+        ],
+    ),
+];
+
+fn choice(kind: &str, scripts: u64) -> Choice<'_> {
+    Choice { scripts, seed: 7, kind: Some(kind), ..Choice::default() }
+}
+
+#[test]
+fn the_comparison_finds_every_faulty_yard() {
+    for (kind, most, errors) in FAULTY {
+        for error in errors {
+            let faulty = Inside(|| Faulty::new(*error));
+            // All scripts of openings are alike, and long.
+            let scripts = if kind == "openings" { 1 } else { 80 };
+            let failure =
+                compare(&faulty, &choice(kind, scripts)).expect_err(&format!("{error:?}"));
+            let lines = failure.lines.len();
+            assert!(lines <= most, "{error:?} is left with {lines} lines");
+            assert!(failure.what.contains("should be"), "{error:?}: {}", failure.what);
+        }
+    }
+}
+
+/// The rounds that the tests make by themselves are those of the rules, where no error
+/// is put into them.
+#[test]
+fn own_rounds_without_an_error() {
+    for kind in ["leaning", "rates"] {
+        let yard = Inside(|| Faulty::new(Error::OwnRounds));
+        let found = compare(&yard, &choice(kind, 40)).map_err(|failure| failure.what);
+        assert_eq!(found.map(|summary| summary.scripts), Ok(41), "{kind}");
+    }
+}
+
+/// Demand 3 alone rejects yards with unsound plans, changed reports or one start
+/// for everybody, and accepts those that are sound but useless: "a replan that
+/// always keeps", "an order that always queues", "a station full from the start". A
+/// script is run as it stands, and with the starts that the yard itself would show. It
+/// may take more orders than the reference, so more tickets are asked for at the end.
+#[test]
+fn demand_3_finds_what_it_should() {
+    let sound = [
+        Error::None,
+        Error::AlwaysKeeps,
+        Error::SpentAfterNoRound,
+        Error::InventedRounds,
+        Error::QueuesBehindTheLastEnd,
+        Error::FullFromTheStart,
+        Error::TakesAnySoundStart,
+        Error::GivesTheEarliestStart,
+        Error::PreviewShowsTheLastEnd,
+        Error::CapsCountCharges,
+    ];
+    let unsound = [
+        Error::BalanceOnlyAtTheStart,
+        Error::WaitingIgnored,
+        Error::StartAtTheClockIsBegun,
+        Error::NeighbouringLinesOnly,
+        Error::ReportsOnlyOnce,
+        Error::OneStartForEverybody,
+        Error::TakesTheStartShownBefore,
+        Error::PreviewTakesATicket,
+        Error::RateNotInTheBalance,
+        Error::SecondHalfOnTheNextLine,
+        Error::RateAgainstTheLimitOnly,
+        Error::RateLostByAPlan,
+        Error::RateNotShown,
+    ];
+    let breaks = |lines: &[Line], error: Error| {
+        demand::check(lines, &script::answers_of(Faulty::new(error), lines)).is_err()
+    };
+    let fails = |kind: &str, error: Error| {
+        (0..40).any(|number| {
+            let mut lines = generate::script_of_kind(kind, 3, number).unwrap().lines;
+            lines.extend((1..200).map(|ticket| format!("enquire {ticket}").into_bytes()));
+            let own = fill(Faulty::new(error), &unfill(&lines));
+            breaks(&lines, error) || breaks(&own, error)
+        })
+    };
+    let found =
+        |error: Error| ["leaning", "commits", "rates"].iter().any(|kind| fails(kind, error));
+    for error in sound {
+        assert!(!found(error), "{error:?}");
+    }
+    for error in unsound {
+        assert!(found(error), "{error:?}");
+    }
+}

@@ -1,0 +1,129 @@
+//! The wrong programs of each request, as faulty yards, each with a short script in which
+//! it answers otherwise than the rules.
+
+mod common;
+
+use common::faulty::Error;
+use common::{caught, lines, reference};
+use trials::fill::fill;
+use trials::script;
+
+/// N1. Latest starts 0, -3, 4 and -10: the order of the integers is tickets 4, 2, 1, 3.
+#[test]
+fn latest_starts_below_zero() {
+    let queue =
+        "open 1 100\ncommit 1 40 40 1 0\ncommit 1 10 7 1 40\ncommit 1 20 24 1 50\ncommit 1 10 0 1 70";
+    for replan in ["latest", "lines 1"] {
+        let text = format!("{queue}\n{replan}\nenquire 4");
+        caught(Error::LatestStartCutAtZero, &text, "waiting 0 1", "waiting 50 1");
+        // Negative ones last would be later than the held plan, so ticket 4 stays last.
+        caught(Error::LatestStartUnsigned, &text, "waiting 0 1", "waiting 70 1");
+    }
+}
+
+/// N1. Two latest starts of -3.
+#[test]
+fn equal_latest_starts_below_zero() {
+    let queue = "open 1 100\ncommit 1 20 60 1 0\ncommit 1 10 7 1 20\ncommit 1 13 10 1 30";
+    for replan in ["latest", "lines 1"] {
+        let text = format!("{queue}\n{replan}\nenquire 2");
+        caught(Error::HigherTicketFirst, &text, "waiting 0 1", "waiting 13 1");
+    }
+}
+
+/// N1. "its lateness counts from the due minute given", be it 0 at a late clock.
+#[test]
+fn lateness_from_the_due_minute_given() {
+    let text = "open 1 100\nmove 500 360\ncommit 1 10 0 1 500\nlatest";
+    caught(Error::LatenessFromTheClock, text, "plan 7 510 510 0", "plan 7 0 0 0");
+    let text = "open 1 100\nmove 500 360\ncommit 1 10 509 1 500";
+    caught(Error::HurryRefused6, text, "ticket 1 start 500", "refused 6");
+    caught(Error::HurryRefused7, text, "ticket 1 start 500", "refused 7");
+}
+
+/// N2. Minute 1 is sound and not the earliest; minute 0 is gone after a move.
+#[test]
+fn commits_with_another_start() {
+    let text = "open 1 100\ncommit 2 9 60 1 0\ncommit 1 10 60 1 1";
+    caught(Error::TakesAnySoundStart, text, "refused 16", "ticket 2 start 1");
+    caught(Error::GivesTheEarliestStart, text, "refused 16", "ticket 2 start 0");
+    let text = "open 1 100\npreview 1 10 60 1\nmove 1 360\ncommit 1 10 60 1 0";
+    caught(Error::TakesTheStartShownBefore, text, "refused 16", "ticket 1 start 0");
+}
+
+/// N2. "changes nothing", and shows "the start it would give".
+#[test]
+fn previews_that_are_no_previews() {
+    let text = "open 1 100\npreview 1 10 60 1\ncommit 1 10 60 1 0";
+    caught(Error::PreviewTakesATicket, text, "ticket 1 start 0", "ticket 2 start 0");
+    let text = "open 1 100\ncommit 1 10 60 1 0\npreview 2 10 60 1";
+    caught(Error::PreviewShowsTheLastEnd, text, "start 0", "start 10");
+}
+
+/// N2. "16, after 14": a full yard is refused 13 whatever start was shown.
+#[test]
+fn a_full_yard_whatever_was_shown() {
+    let text = format!("open 60 100\n{}commit 1 5 60 1 7", "commit 1 1 9 1 ?\n".repeat(180));
+    let filled = script::join(&fill(reference(), &lines(&text)));
+    let text = script::show(&filled);
+    caught(Error::StartBeforePlaces, text.trim_end(), "refused 13", "refused 16");
+}
+
+/// N3. 1.5 and 4.5 are the halves at which up and down go wrong, 0.99 and 1.2 are
+/// nearer to 1.
+#[test]
+fn bounds_rounded_otherwise() {
+    caught(Error::HalfUp, "open 30 15", "open 0 4", "open 0 5");
+    caught(Error::HalfUp, "open 10 5", "refused 3", "open 0 1");
+    caught(Error::HalfDown, "open 30 5", "open 0 2", "open 0 1");
+    caught(Error::RoundedUp, "open 6 20", "open 0 1", "open 0 2");
+    caught(Error::RoundedUp, "open 50 1", "refused 3", "open 0 1");
+    caught(Error::RoundedDown, "open 9 11", "open 0 1", "refused 3");
+    caught(Error::RoundedDownAndOpened, "open 9 11", "open 0 1", "open 0 0");
+    caught(Error::RefusedBelowAHundred, "open 17 3", "open 0 1", "refused 3");
+}
+
+/// N4. A charge of rate 2 leaves its line two ahead, so with D = 2 one of rate 1 has to
+/// wait for its end.
+#[test]
+fn rates_counted_otherwise() {
+    let text = "open 4 50\ncommit 1 10 60 2 0\npreview 1 10 60 1";
+    caught(Error::RateNotInTheBalance, text, "start 10", "start 0");
+    caught(Error::SecondHalfOnTheNextLine, text, "start 10", "start 0");
+}
+
+/// N4. "18, after 17, rate above N or above D", and both after 5 and before 6.
+#[test]
+fn rates_refused_otherwise() {
+    let text = "open 2 50\npreview 1 10 60 2";
+    caught(Error::RateAgainstTheLimitOnly, text, "refused 18", "start 0");
+    let text = "open 2 50\npreview 1 10 2000001 2";
+    caught(Error::RateAfterDue, text, "refused 18", "refused 6");
+    let text = "open 2 50\npreview 1 10 2000001 3";
+    caught(Error::RateAfterDue, text, "refused 17", "refused 6");
+}
+
+/// N4. "Enquiries show the rate", also after a plan was taken.
+#[test]
+fn rates_that_get_lost() {
+    let h = "open 2 100\ncommit 1 10 60 2 0\ncommit 1 10 15 2 10\n";
+    let text = format!("{h}latest\nenquire 1");
+    caught(Error::RateLostByAPlan, &text, "waiting 10 2", "waiting 10 1");
+    caught(Error::RateNotShown, &format!("{h}enquire 1"), "waiting 0 2", "waiting 0 1");
+}
+
+/// N4. Two charges of rate 2 in one minute are four points; the cap becomes 2, which has
+/// room for one of them.
+#[test]
+fn caps_that_count_charges() {
+    let text = "open 4 50\ncommit 1 10 60 2 0\ncommit 1 10 60 2 10\nlines 2";
+    caught(Error::CapsCountCharges, text, "plan 7 0 0 2", "plan 2 0 0 2");
+}
+
+/// N4. In minute 1 line 1 has two charges, a begun one that counts as two and a placed
+/// one.
+#[test]
+fn a_placed_charge_beside_a_begun_one() {
+    let text = "open 3 67\ncommit 1 10 60 2 0\ncommit 1 5 60 1 10\nmove 1 360\nlines 2";
+    caught(Error::PlacedChargeHidden, text, "plan 7 0 0 2", "plan 1 0 0 1");
+}
