@@ -23,4 +23,3 @@ pub mod Changes
 pub mod Restarts
 pub mod Validity
 pub mod Shown
-pub mod Earlier

@@ -6,7 +6,6 @@ pub mod Priority
 pub mod Replan
 pub mod Judgement
 pub mod Calls
-pub mod Earlier
 pub mod Valid
 pub mod Entry
 pub mod CasesAToL
