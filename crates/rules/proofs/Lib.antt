@@ -12,6 +12,10 @@ pub mod Rounds
 pub mod Tickets
 pub mod ThenTicket
 pub mod LatestStarts
+pub mod Weights
+pub mod Fitting
+pub mod Picking
+pub mod Foremost
 pub mod Queues
 pub mod Reporting
 pub mod Ends
@@ -19,7 +23,3 @@ pub mod Changes
 pub mod Restarts
 pub mod Validity
 pub mod Shown
-pub mod Earlier
-pub mod Unrated
-pub mod UnratedPlans
-pub mod RateOne

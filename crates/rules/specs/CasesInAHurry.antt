@@ -17,7 +17,7 @@ equalBelowZero = commit 1 10 60 1 0 ∷ commit 1 5 0 1 10 ∷ commit 1 10 5 1 15
 abbrev pub casesInAHurry : List Case
 casesInAHurry =
     replanned belowZero replanLatest (0 ∷ 20 ∷ 24 ∷ 34 ∷ []) (planned 0 91 63 0) (26 ∷ 12 ∷ 16 ∷ 0 ∷ [])
-    ∷ replanned belowZero (replanLines 1) (0 ∷ 20 ∷ 24 ∷ 34 ∷ []) (planned 0 91 63 1) (26 ∷ 12 ∷ 16 ∷ 0 ∷ [])
+    ∷ replanned belowZero (replanLines 1) (0 ∷ 20 ∷ 24 ∷ 34 ∷ []) (planned 0 91 53 1) (26 ∷ 0 ∷ 4 ∷ 14 ∷ [])
     ∷ replanned equalBelowZero replanLatest (0 ∷ 10 ∷ 15 ∷ []) (planned 0 35 15 0) (15 ∷ 0 ∷ 5 ∷ [])
     ∷ replanned equalBelowZero (replanLines 1) (0 ∷ 10 ∷ 15 ∷ []) (planned 0 35 15 1) (15 ∷ 0 ∷ 5 ∷ [])
     -- At clock 3 a charge of 10 minutes ends at 13 or later: due minutes 12, 3, 2 and 0 are taken like 13.

@@ -2,11 +2,10 @@ pub mod Basics
 pub mod Load
 pub mod Charge
 pub mod Search
+pub mod Priority
 pub mod Replan
 pub mod Judgement
 pub mod Calls
-pub mod Earlier
-pub mod Unrated
 pub mod Valid
 pub mod Entry
 pub mod CasesAToL
