@@ -3,6 +3,7 @@ pub mod Walking
 pub mod Restarting
 pub mod Members
 pub mod Sorting
+pub mod Removing
 pub mod SignedBits
 pub mod Comparing
 pub mod Passing

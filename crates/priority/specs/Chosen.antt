@@ -7,6 +7,7 @@ use mathlib.Core.List.{List}
 use lib.Dec.{leb, eqb}
 use lib.ListN.{getD}
 use Rattle.rules.specs.Priority.{weightOf}
+use Rattle.priority.specs.declared.choice.Weighed.{Weighed}
 
 -- what the place of the j-th charge left has in a column
 abbrev pub numberOf : List ℕ → List ℕ → ℕ → ℕ
@@ -24,6 +25,18 @@ fitsRun times rates left one two j = leb (numberOf times left j) (runFor one two
 abbrev pub weightAt : List ℕ → List ℕ → List ℕ → ℕ → ℕ → ℕ → ℕ → ℕ
 weightAt times dues left number total start j =
     weightOf (256 * (numberOf dues left j - (start + numberOf times left j)) * number / total)
+
+-- what weighing the j-th charge asks
+pub record CanWeigh (dues left : List ℕ) (number total j : ℕ) : Type 0 where
+  pub low : j < 180
+  pub inside : getD left j 0 < 180
+  pub due-most : numberOf dues left j ≤ 2000000
+  pub number-most : number ≤ 180
+  pub total-low : 1 ≤ total
+
+pub record WeighedAt (times dues left : List ℕ) (number total start j : ℕ) (r : Weighed) : Type 0 where
+  pub time-is : r .time ≡ numberOf times left j
+  pub weight-is : r .weight ≡ weightAt times dues left number total start j
 
 -- a is heavier for its time than b, or it is as heavy and stands before it
 abbrev pub Ahead : (ℕ → ℕ) → (ℕ → ℕ) → ℕ → ℕ → Type 0

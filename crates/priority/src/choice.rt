@@ -2,8 +2,9 @@
 use crate::urgency;
 use charges::PLACES;
 ghost use mathlib.Core.Path.{_≡_};
-ghost use Prim.Native.Nat.{_≤_};
-ghost use Rattle.priority.specs.Chosen.{runFor, FirstFitting, CanFit, CanChoose, Choice};
+ghost use Prim.Native.Nat.{_*_, _≤_};
+ghost use lib.Dec.{ltb};
+ghost use Rattle.priority.specs.Chosen.{runFor, FirstFitting, CanFit, CanWeigh, WeighedAt, CanChoose, Choice};
 
 fn run_for(one: u32, two: u32, rate: u32) -> u32
     ensures { λ r. ⌜ r ≡ runFor one two rate ⌝ }
@@ -34,9 +35,43 @@ pub fn fitting<'a>(
     n
 }
 
+// The time of a charge and what it weighs.
+pub struct Weighed {
+    pub time: u32,
+    pub weight: u32,
+}
+
+// The j-th charge at a start.
+fn weigh<'a>(
+    times: &'a [u32; PLACES],
+    dues: &'a [u32; PLACES],
+    left: &'a [usize; PLACES],
+    number: u32,
+    total: u32,
+    start: u32,
+    j: usize,
+) -> Weighed
+    requires { ⌜ CanWeigh (now dues) (now left) number total j ⌝ }
+    ensures { λ r. ⌜ WeighedAt (now (times .entry)) (now (dues .entry)) (now (left .entry)) number total start j r ⌝ }
+{
+    let i = left[j];
+    let time = times[i];
+    let weight = urgency(dues[i], time, start, number, total);
+    Weighed { time, weight }
+}
+
+// Whether weight / time is larger than the other's: unrounded, by products.
+pub fn heavier(weight: u32, time: u32, other_weight: u32, other_time: u32) -> bool
+    ensures { λ r. ⌜ r ≡ ltb («other_weight» * time) (weight * «other_time») ⌝ }
+{
+    let x = other_weight as u64 * time as u64;
+    let y = weight as u64 * other_time as u64;
+    x < y
+}
+
 // "among those that fit there takes the one with the largest weight/p, unrounded, then the smaller d − p, then the smaller
-// ticket"; n where none fits. Weights fall along the order: where even the shortest time would not make the next one
-// heavier for its time, no later one is.
+// ticket"; n where none fits. Weights fall along the order: where the next one would not be heavier for its time even if it
+// were as short as the shortest, no later one is.
 pub fn choose<'a>(
     times: &'a [u32; PLACES],
     dues: &'a [u32; PLACES],
@@ -57,21 +92,16 @@ pub fn choose<'a>(
     if n <= best {
         return n;
     }
-    let b = left[best];
-    let mut time = times[b];
-    let mut weight = urgency(dues[b], time, start, number, total);
+    let mut taken = weigh(times, dues, left, number, total, start, best);
     let mut j = fitting(times, rates, left, n, one, two, best + 1);
     while j < n {
-        let i = left[j];
-        let next = times[i];
-        let heavy = urgency(dues[i], next, start, number, total);
-        if heavy as u64 * time as u64 <= weight as u64 * shortest as u64 {
+        let next = weigh(times, dues, left, number, total, start, j);
+        if !heavier(next.weight, shortest, taken.weight, taken.time) {
             return best;
         }
-        if weight as u64 * (next as u64) < heavy as u64 * time as u64 {
+        if heavier(next.weight, next.time, taken.weight, taken.time) {
             best = j;
-            time = next;
-            weight = heavy;
+            taken = next;
         }
         j = fitting(times, rates, left, n, one, two, j + 1);
     }

@@ -73,6 +73,13 @@ const WEIGHTS: [u32; 512] = [
     383525, 377532, 371633, 365826, 360109, 354482, 348943, 343490,
 ];
 
+fn entry(k: usize) -> u32
+    requires { ⌜ k < 512 ⌝ }
+    ensures { λ r. ⌜ r ≡ weightOf k ⌝ }
+{
+    WEIGHTS[k]
+}
+
 // "and the weight is 0 beyond"
 pub fn weight(k: u64) -> u32
     ensures { λ r. ⌜ (r ≡ weightOf k) × (r ≤ 1073741824) ⌝ }
@@ -80,7 +87,7 @@ pub fn weight(k: u64) -> u32
     if 511 < k {
         return 0;
     }
-    WEIGHTS[k as usize]
+    entry(k as usize)
 }
 
 // "m = max(0, d − start − p)"
@@ -98,5 +105,9 @@ pub fn urgency(due: u32, time: u32, start: u32, number: u32, total: u32) -> u32
     ensures { λ r. ⌜ (r ≡ weightOf (256 * (due - (start + time)) * number / total)) × (r ≤ 1073741824) ⌝ }
 {
     let m = slack(due, start, time);
+    // Late already: nothing to divide.
+    if m == 0 {
+        return weight(0);
+    }
     weight(256 * m * number as u64 / total as u64)
 }
