@@ -1,5 +1,6 @@
 // The priority of replan by lines: what a charge weighs at a start, and the charge that is taken there.
 pub mod choice;
+pub mod crowd;
 
 ghost use mathlib.Core.Path.{_≡_};
 ghost use Prim.Native.Nat.{_+_, _-_, _*_, _/_, _<_, _≤_};
