@@ -11,8 +11,8 @@ use Rattle.priority.specs.Crowds.{sumOf, ShortTimes, Longer, LongestOf, 
 
 -- The sum
 
-pub sum-more : (f : ℕ → ℕ) {k s : ℕ} → s ≡ sumOf f k → s + f k ≡ sumOf f (k + 1)
-sum-more f {k} e = rw (add-one k) (ap (λ (x : ℕ). x + f k) e)
+pub sum-more : (f : ℕ → ℕ) (k : ℕ) {s : ℕ} → s ≡ sumOf f k → s + f k ≡ sumOf f (k + 1)
+sum-more f k e = rw (add-one k) (ap (λ (x : ℕ). x + f k) e)
 
 pub sum-most : (f : ℕ → ℕ) (n k : ℕ) → ((j : ℕ) → j < n → f j ≤ 1440) → k ≤ n → sumOf f k ≤ 1440 * k
 sum-most f n zero h l = omega arith
