@@ -1,4 +1,5 @@
 pub mod Placing
+pub mod Nexts
 pub mod Counting
 pub mod Collecting
 pub mod Causes
