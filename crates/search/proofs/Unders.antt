@@ -1,23 +1,23 @@
 -- Where one more load fits under a cap: the smallest start, and the run of minutes with room.
 use Prim.Native.Nat.{ℕ, zero, suc, _+_, _-_, min, _≤_, _<_}
 use mathlib.Core.Path.{_≡_, refl, sym, _∙_, ap}
-use mathlib.Core.Bool.{Bool, true, false, true≢false}
+use mathlib.Core.Bool.{Bool, false, true≢false}
 use mathlib.Core.List.{List}
 use native.Mathlib.Omega.{arith}
-use borrow.Author.Tests.{le-leb, leb-true}
+use borrow.Author.Tests.{le-leb}
 use lib.Dec.{leb}
 use lib.ListN.{length, set}
 use Rattle.rules.specs.Basics.{runOf}
 use Rattle.rules.specs.Load.{draw, Load, IsLine, count}
 use Rattle.rules.specs.Search.{Caps, roomFor, fitsUnder}
 use Rattle.rules.proofs.Ranges.{fails}
-use Rattle.rules.proofs.Searches.{under-at, under-all}
+use Rattle.rules.proofs.Searches.{under-at}
 use Rattle.rules.proofs.Fitting.{run-is, fits-run}
 use Rattle.profile.specs.Steps.{mostSteps, In}
 use Rattle.profile.specs.Shows.{lineOf, levelOf, firstMinute, lastMinute, Shows}
 use Rattle.profile.specs.declared.Profile.{Profile}
 use Rattle.profile.proofs.Levels.{level-in, Place, step-of}
-use Rattle.search.specs.Rooms.{hasRoom, roomAt, FailsAt, Least, CanSearch}
+use Rattle.search.specs.Rooms.{hasRoom, roomAt, FailsAt, Misses, Least, CanSearch}
 use Rattle.search.specs.Starts.{CanStart}
 use Rattle.search.specs.Caps.{capsOf, CapsShown, RoomsUnder, roomUnder, CanCap, EarliestStartUnder}
 use Rattle.search.specs.declared.caps.LineCaps.{LineCaps}
@@ -118,19 +118,12 @@ module _ {p : Profile} {c : LineCaps} {line : ℕ} (h : IsLine line) {clock : �
       ∙ ap (leb time)
       (run-same (roomFor cap xs line rate) (roomUnder p c line rate) most from (λ t a. sym (room-shows t (omega arith))))
 
-  module _ {time start r : ℕ} (low : clock ≤ start) (m : Least (roomUnder p c line rate) time start r) where
-    pub least-fits : fitsUnder cap xs (draw line time rate) r ≡ true
-    least-fits =
-        under-all cap xs (draw line time rate) r
-        (λ t a b.
-        leb-true (count xs line t + rate) (cap line t) (sym (room-shows t (omega (arith, m .low))) ∙ m .passes t a b))
-
-    pub least-fails : (u : ℕ) → start ≤ u → u < r → fitsUnder cap xs (draw line time rate) u ≡ false
-    least-fails u a b =
-        let x = m .failed u a b in
-        fails (fitsUnder cap xs (draw line time rate) u)
-        (λ e.
-        true≢false
-        (sym (le-leb (count xs line (x .minute) + rate) (cap line (x .minute)) (under-at cap xs (draw line time rate) u e (x .minute) (x .low) (x .high)))
-        ∙ sym (room-shows (x .minute) (omega (arith, x .low)))
-        ∙ x .fails))
+  -- it does not fit where one of its minutes has no room
+  pub misses-fails : (time u : ℕ) → clock ≤ u → Misses (roomUnder p c line rate) time u → fitsUnder cap xs (draw line time rate) u ≡ false
+  misses-fails time u a x =
+      fails (fitsUnder cap xs (draw line time rate) u)
+      (λ e.
+      true≢false
+      (sym (le-leb (count xs line (x .minute) + rate) (cap line (x .minute)) (under-at cap xs (draw line time rate) u e (x .minute) (x .low) (x .high)))
+      ∙ sym (room-shows (x .minute) (omega (arith, x .low)))
+      ∙ x .fails))
