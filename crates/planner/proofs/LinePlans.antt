@@ -16,7 +16,7 @@ use Rattle.rules.specs.Search.{Caps, added}
 use Rattle.rules.specs.Priority.{crowdOf, Pick, chosen, fitsAt, picked, totalTime, withoutTicket}
 use Rattle.rules.specs.Replan.{Placed, all, placeOn, onLine}
 use Rattle.rules.proofs.Ranges.{below-or-not}
-use Rattle.rules.proofs.Lists.{each-append, length-tabulate, length-keep}
+use Rattle.rules.proofs.Lists.{each-append, each-tabulate, length-tabulate, length-keep}
 use Rattle.rules.proofs.LatestStarts.{latest-start-sums}
 use Rattle.rules.proofs.ThenTicket.{ThenTicket, ticket-true}
 use Rattle.rules.proofs.Fitting.{NoneBelow, none-below-stays}
@@ -24,7 +24,7 @@ use Rattle.charges.specs.declared.Charges.{Charges}
 use Rattle.charges.specs.Arrays.{chargeAt, chargesOf}
 use Rattle.charges.specs.Held.{Listed}
 use Rattle.charges.specs.declared.places.Places.{Places}
-use Rattle.charges.specs.Places.{placesOf, Inside, isOnLine, Lists, Removed}
+use Rattle.charges.specs.Places.{placeAt, placesOf, Inside, isOnLine, Lists, Ordered, Removed}
 use Rattle.charges.proofs.Storing.{zeros}
 use Rattle.profile.specs.declared.Profile.{Profile}
 use Rattle.profile.specs.Shows.{Shows, LoadAdded, CanAdd}
@@ -139,6 +139,14 @@ pub record LineSoFar (cap : Caps) (clock : ℕ) (c : Charges) (line : ℕ) (left
   pub some : 0 < n → 1 ≤ q .total
   pub one : LongestOf (c .times) (c .rates) left n 1 (q .«longest_one»)
   pub two : LongestOf (c .times) (c .rates) left n 2 (q .«longest_two»)
+
+-- the queue has places of held charges
+pub queue-inside : {c : Charges} {xs : List Charge} {queue : Places} → Listed c → Ordered c xs queue → Inside queue
+queue-inside {c} {xs} {queue} h o =
+    record {
+      few = omega (arith, o .places .few, h .columns .few);
+      below = each-tabulate (λ i. i < 180) (placeAt queue) (queue .count) 0 (λ i a b. omega (arith, o .places .inside i (omega arith), h .columns .few));
+    }
 
 -- what the numbers of those left meet
 module _ {c : Charges} {line : ℕ} {left : List ℕ} {n : ℕ} {rest : List Charge} (h : Listed c) (v : Left c line left n rest) where
