@@ -14,9 +14,10 @@ use Rattle.rules.specs.CasesAtEdges.{casesAtEdges}
 use Rattle.rules.specs.CasesInAHurry.{casesInAHurry}
 use Rattle.rules.specs.CasesPreviewed.{casesPreviewed}
 use Rattle.rules.specs.CasesOfTwoRates.{casesOfTwoRates}
+use Rattle.rules.specs.CasesOfPriority.{casesOfPriority}
 
 abbrev pub cases : List Case
-cases = casesAToL ++ casesAtEdges ++ casesInAHurry ++ casesPreviewed ++ casesOfTwoRates
+cases = casesAToL ++ casesAtEdges ++ casesInAHurry ++ casesPreviewed ++ casesOfTwoRates ++ casesOfPriority
 
 pub cases-hold : map computed cases ≡ cases
 unfolding limited balanced sound earliest firstUnbalanced placeAll latest fading weights weightOf firstFit picked placeOn round roundsFrom byLines judged opening previewing committing moving offering replanningLatest replanningLines enquiring
