@@ -32,10 +32,22 @@ casesOfPriority =
     -- One place beyond the table: n is 2 and P is 21. m is 21 and 20, so k is 10752 / 21 = 512, exactly, and 10240 / 21 = 487. The
     -- weight of ticket 1 is 0, so ticket 2 goes first. E(512) would be 338122, far above E(487) / 20 = 501272 / 20.
     ∷ shown (commit 1 1 22 1 0 ∷ commit 1 20 40 1 1 ∷ []) (0 ∷ 1 ∷ []) 0 (20 ∷ 0 ∷ [])
-    -- The last place of the table: n is 3 and P is 257. m is 171, 1944 and 100, so k is 131328 / 257 = 511, beyond the table, and
-    -- 76800 / 257 = 298. E(511) = 343490 is above E(298) / 200 = 9834448 / 200, so ticket 1 goes first, then ticket 3. With a weight of 0
-    -- for 511 ticket 3 would go before it.
-    ∷ shown (commit 1 1 172 1 0 ∷ commit 1 56 2000 1 1 ∷ commit 1 200 300 1 57 ∷ []) (0 ∷ 1 ∷ 57 ∷ []) 0 (0 ∷ 201 ∷ 1 ∷ [])
+    -- The last place of the table: N is 3, tickets 3 and 5 are of rate 2 and do not stand side by side, ticket 4 of rate 1 stands beside
+    -- each. On line 1 n is 3 and P is 257; m is 171, 1872 and 100, so k is 131328 / 257 = 511, beyond the table, and 76800 / 257 = 298.
+    -- E(511) = 343490 is above E(298) / 128 = 9834448 / 128: ticket 3 goes first, and the starts are as before. With a weight of 0 for
+    -- 511 ticket 5 would start at 0 and ticket 3 at 128. Line 2 is as in case h.
+    ∷ case 3 100 3
+    (commit 2 10 60 2 0
+    ∷ commit 2 10 15 2 10
+    ∷ commit 1 1 172 2 0
+    ∷ commit 1 128 2000 1 0
+    ∷ commit 1 128 228 2 1
+    ∷ replanLines 1
+    ∷ enquire 3
+    ∷ enquire 4
+    ∷ enquire 5
+    ∷ [])
+    (startsFrom 1 (0 ∷ 10 ∷ 0 ∷ 0 ∷ 1 ∷ []) ++ map gives (planned 0 5 0 1 ∷ waiting 0 2 ∷ waiting 0 1 ∷ waiting 1 2 ∷ []))
     -- n and P stay 3 and 23 while placing. Ticket 2, with m of 0, goes first. At 10 m is 10 and 12, so k is 7680 / 23 = 333 and
     -- 9216 / 23 = 400: E(333) / 10 = 5667207 / 10 is below E(400) / 3 = 1972982 / 3, and ticket 3 goes next. With 2 and 13 it would be
     -- 393 and 472, and E(393) / 10 = 2202926 / 10 is above E(472) / 3 = 634849 / 3.
