@@ -18,7 +18,7 @@ use Rattle.rules.proofs.LatestStarts.{latest-start-sums, latest-start-o
 
 -- weights over times, compared by products
 
-ratio-onwards :
+pub ratio-onwards :
     (ux tx ud td uc tc : ℕ) → 1 ≤ td → ux * td ≤ ud * tx → ud * tc ≤ uc * td → ux * tc ≤ uc * tx
 ratio-onwards ux tx ud td uc tc h p q =
     let first : ux * td * tc ≤ ud * tx * tc = mul-le-mul-right tc p in
