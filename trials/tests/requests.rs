@@ -11,24 +11,31 @@ use trials::script;
 /// N1. Latest starts 0, -3, 4 and -10: the order of the integers is tickets 4, 2, 1, 3.
 #[test]
 fn latest_starts_below_zero() {
-    let queue =
-        "open 1 100\ncommit 1 40 40 1 0\ncommit 1 10 7 1 40\ncommit 1 20 24 1 50\ncommit 1 10 0 1 70";
-    for replan in ["latest", "lines 1"] {
-        let text = format!("{queue}\n{replan}\nenquire 4");
-        caught(Error::LatestStartCutAtZero, &text, "waiting 0 1", "waiting 50 1");
-        // Negative ones last would be later than the held plan, so ticket 4 stays last.
-        caught(Error::LatestStartUnsigned, &text, "waiting 0 1", "waiting 70 1");
-    }
+    let text = "open 1 100\ncommit 1 40 40 1 0\ncommit 1 10 7 1 40\ncommit 1 20 24 1 50\n\
+                commit 1 10 0 1 70\nlatest\nenquire 4";
+    caught(Error::LatestStartCutAtZero, text, "waiting 0 1", "waiting 50 1");
+    // Negative ones last would be later than the held plan, so ticket 4 stays last.
+    caught(Error::LatestStartUnsigned, text, "waiting 0 1", "waiting 70 1");
+}
+
+/// N1, N5. By lines d − p decides between equal times that cannot wait: 0, -3 and -10.
+#[test]
+fn latest_starts_below_zero_by_lines() {
+    let text = "open 1 100\ncommit 1 10 110 1 0\ncommit 1 10 10 1 10\ncommit 1 10 7 1 20\n\
+                commit 1 10 0 1 30\nlines 1\nenquire 4";
+    caught(Error::LatestStartCutAtZero, text, "waiting 0 1", "waiting 20 1");
+    caught(Error::LatestStartUnsigned, text, "waiting 0 1", "waiting 10 1");
 }
 
 /// N1. Two latest starts of -3.
 #[test]
 fn equal_latest_starts_below_zero() {
-    let queue = "open 1 100\ncommit 1 20 60 1 0\ncommit 1 10 7 1 20\ncommit 1 13 10 1 30";
-    for replan in ["latest", "lines 1"] {
-        let text = format!("{queue}\n{replan}\nenquire 2");
-        caught(Error::HigherTicketFirst, &text, "waiting 0 1", "waiting 13 1");
-    }
+    let text = "open 1 100\ncommit 1 20 60 1 0\ncommit 1 10 7 1 20\ncommit 1 13 10 1 30\n\
+                latest\nenquire 2";
+    caught(Error::HigherTicketFirst, text, "waiting 0 1", "waiting 13 1");
+    let text = "open 1 100\ncommit 1 10 110 1 0\ncommit 1 10 7 1 10\ncommit 1 10 7 1 20\n\
+                lines 1\nenquire 2";
+    caught(Error::HigherTicketFirst, text, "waiting 0 1", "waiting 10 1");
 }
 
 /// N1. "its lateness counts from the due minute given", be it 0 at a late clock.
