@@ -87,9 +87,7 @@ impl Station {
             }
             let room = [1, 2].map(|rate| match shortest_of_rate[usize::from(rate) - 1] {
                 NEVER => 0,
-                _ => profile.run_from(start, crowd.longest, |counts| {
-                    caps.room(counts[line], rate)
-                }),
+                _ => profile.run_from(start, crowd.longest, |counts| caps.room(counts[line], rate)),
             });
             let chosen = unplaced.remove(foremost(&unplaced, room));
             profile.add(Load { line, rate: chosen.rate, from: start, until: start + chosen.time });

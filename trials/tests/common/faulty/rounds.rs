@@ -35,7 +35,10 @@ impl Faulty {
     /// The waiting charges with the starts that the caps give them.
     fn placed(&self, begun: &[Charge], waiting: &[Charge], caps: &[Counts]) -> Vec<Charge> {
         let own = |line| waiting.iter().copied().filter(move |charge| charge.line == line);
-        [1, 2, 3].into_iter().flat_map(|line| self.line_placed(begun, own(line).collect(), caps)).collect()
+        [1, 2, 3]
+            .into_iter()
+            .flat_map(|line| self.line_placed(begun, own(line).collect(), caps))
+            .collect()
     }
 
     /// Those of one line. The smallest start never falls, so it is looked for from the
