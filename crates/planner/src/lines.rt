@@ -53,7 +53,21 @@ pub fn place_line(
     let mut from = clock;
     let mut held = steps;
     while 0 < n {
-        let taken = next_charge(&*at, &*counts, held, &caps.caps, line, &charges.times, &charges.dues, &charges.rates, &left, n, crowd, least, from);
+        let taken = next_charge(
+            &*at,
+            &*counts,
+            held,
+            &caps.caps,
+            line,
+            &charges.times,
+            &charges.dues,
+            &charges.rates,
+            &left,
+            n,
+            crowd,
+            least,
+            from,
+        );
         let j = taken.place;
         let i = left[j];
         let time = charges.times[i];
@@ -85,7 +99,18 @@ pub fn place_lines(
     let mut by_place = [0; PLACES];
     let mut line = 0;
     while line < 3 {
-        steps = place_line(&mut at, &mut counts, &mut by_place, steps, charges, clock, queue, caps, line, line + 1);
+        steps = place_line(
+            &mut at,
+            &mut counts,
+            &mut by_place,
+            steps,
+            charges,
+            clock,
+            queue,
+            caps,
+            line,
+            line + 1,
+        );
         line += 1;
     }
     let profile = Profile { steps, at, counts };

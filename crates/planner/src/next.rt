@@ -89,7 +89,19 @@ fn chosen_at<'a>(
     let two = run_under(at, counts, steps, caps, line, 2, crowd.longest_two, start);
     let number = crowd.number;
     let total = crowd.total;
-    choose(times, dues, rates, left, n, number, total, least, start, one, two)
+    choose(
+        times,
+        dues,
+        rates,
+        left,
+        n,
+        number,
+        total,
+        least,
+        start,
+        one,
+        two,
+    )
 }
 
 // The smallest start of a charge of the rate and the time, not below `from`; no minute where the time is none.
@@ -151,7 +163,21 @@ pub fn next_charge<'a>(
     requires { ⌜ CanNext (profileOf steps (now at) (now counts)) (capsIn (now caps)) line (now times) (now dues) (now rates) (now left) n crowd least from ⌝ }
     ensures { λ r. ⌜ NextIs (profileOf steps (now (at .entry)) (now (counts .entry))) (capsIn (now (caps .entry))) line (now (times .entry)) (now (dues .entry)) (now (rates .entry)) (now (left .entry)) n crowd from r ⌝ }
 {
-    let here = chosen_at(at, counts, steps, caps, line, times, dues, rates, left, n, crowd, least, from);
+    let here = chosen_at(
+        at,
+        counts,
+        steps,
+        caps,
+        line,
+        times,
+        dues,
+        rates,
+        left,
+        n,
+        crowd,
+        least,
+        from,
+    );
     if here < n {
         return Next {
             start: from,
@@ -163,7 +189,21 @@ pub fn next_charge<'a>(
     let two = shortest(times, rates, left, n, 2);
     let start = next_start(at, counts, steps, caps, line, one, two, from);
     let short = shorter(one, two);
-    let place = chosen_at(at, counts, steps, caps, line, times, dues, rates, left, n, crowd, short, start);
+    let place = chosen_at(
+        at,
+        counts,
+        steps,
+        caps,
+        line,
+        times,
+        dues,
+        rates,
+        left,
+        n,
+        crowd,
+        short,
+        start,
+    );
     Next {
         start,
         place,
