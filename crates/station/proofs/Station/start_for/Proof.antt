@@ -5,6 +5,7 @@ use Rattle.rules.specs.Calls.{preview}
 use Rattle.rules.proofs.Granted.{refusals-none}
 use Rattle.station.specs.View.{view}
 use Rattle.profile.specs.Shows.{foundAt}
+use Rattle.search.specs.Starts.{EarliestStart}
 use Rattle.search.proofs.Starts.{earliest-shows}
 use Rattle.station.proofs.Ordered.{ends-fit, rates-fit, all-shown, Orderable, orderable, can-search, shown-refused, shown-found}
 use borrow.Author.Needs.{needs}
@@ -45,6 +46,14 @@ earliest-requires c κs =
       granted (c .before .before .before .before .before) .within-bound,
     )
 
+-- where the search has ended: what it found is the smallest start
+module _ (c : tie.After-earliest) where
+  abbrev asked : tie.Start
+  asked = c .before .before .before .before .before .before .before .before
+
+  smallest : EarliestStart (c .before .before .before .before .profile-before .result) (asked .args .self .limit) (asked .args .self .bound) (asked .args .line) (asked .args .time) (asked .args .rate) (c .earliest .result)
+  smallest = search (c .earliest .ensures)
+
 enum-known-found : tie.Need-enum-known-found
 enum-known-found c = search needs
 
@@ -58,7 +67,7 @@ returns-2 c =
     let r = c .before .before .before .before .before .before .before .before .before .order-refusal in
     shown-found (s .args .self) (s .args .line) (s .args .time) (s .args .due) (s .args .rate) (r .result) nothing (r .ensures)
     (none (c .before .before .before .before .before .before .before .before))
-    (earliest-shows (a .earliest .ensures) _ _ (all-shown (s .args .self) _ _ (s .pre) (a .before .before .before .before .profile-before .ensures))
+    (earliest-shows (smallest a) _ _ (all-shown (s .args .self) _ _ (s .pre) (a .before .before .before .before .profile-before .ensures))
     ∙ ap foundAt (c .enum-told .given .1))
 
 returns-3 : tie.Need-returns-3
@@ -69,7 +78,7 @@ returns-3 c =
     let r = c .before .before .before .before .before .before .before .before .before .before .order-refusal in
     shown-found (s .args .self) (s .args .line) (s .args .time) (s .args .due) (s .args .rate) (r .result) (at _) (r .ensures)
     (none (c .before .before .before .before .before .before .before .before .before))
-    (earliest-shows (a .earliest .ensures) _ _ (all-shown (s .args .self) _ _ (s .pre) (a .before .before .before .before .profile-before .ensures))
+    (earliest-shows (smallest a) _ _ (all-shown (s .args .self) _ _ (s .pre) (a .before .before .before .before .profile-before .ensures))
     ∙ ap foundAt (found .found .given .1))
 
 pub start-for-spec : {M : Type 1} → statement M
