@@ -85,13 +85,13 @@ returns-2 : tie.Need-returns-2
 returns-2 c =
     let f = c .before .before .before .before .before .before in
     let s = f .before .before .before .before .args .self in
-    says f (told-charging (s .clock) (chargeAt (s .charges) (place f)) (c .if1 .taken)) (search)
+    says f (told-charging (s .clock) (chargeAt (s .charges) (place f)) (omega (arith, c .if1 .taken))) (search)
 
 returns-3 : tie.Need-returns-3
 returns-3 c =
     let f = c .before .before .before .before .before .before in
     let s = f .before .before .before .before .args .self in
-    says f (told-waiting (s .clock) (chargeAt (s .charges) (place f)) (c .if1 .left)) (search)
+    says f (told-waiting (s .clock) (chargeAt (s .charges) (place f)) (omega (arith, c .if1 .left))) (search)
 
 pub enquire-spec : {M : Type 1} → statement M
 enquire-spec =
