@@ -11,8 +11,8 @@ use Rattle.rules.specs.Judgement.{judged}
 use Rattle.rules.specs.Calls.{offering, replanningLatest, replanningLines}
 use Rattle.excluded.specs.Same.{every}
 use Rattle.excluded.specs.Breaks.{Exactly, aloneIn}
-use Rattle.excluded.specs.FieldsBetter.{Merit, not-before-clock, limit, balance, no-later, less-late, merits, rank, Plan, Merits, merited}
-use Rattle.excluded.specs.FieldsTwoPlans.{Field, waiting-starts, begun-same, charges-same, station-same, unchanged, answer, same-list, fields, place, Trial, Holds, tested}
+use Rattle.excluded.specs.FieldsBetter.{Merit, not-before-clock, limit, balance, no-later, less-late, rank, Plan, Merits, merited}
+use Rattle.excluded.specs.FieldsTwoPlans.{Field, waiting-starts, begun-same, charges-same, station-same, unchanged, answer, same-list, place, Trial, Holds, tested}
 use Rattle.excluded.specs.BreaksTwoPlans.{agreesPlan, plans, agrees, wrongEntries, entries}
 use Rattle.excluded.proofs.Breaks.{each-exactly}
 use Rattle.excluded.proofs.TestsBetter.{better-tested}
