@@ -67,7 +67,7 @@ returns-2 c =
     let r = c .before .before .before .before .before .before .before .before .before .order-refusal in
     shown-found (s .args .self) (s .args .line) (s .args .time) (s .args .due) (s .args .rate) (r .result) nothing (r .ensures)
     (none (c .before .before .before .before .before .before .before .before))
-    (earliest-shows (smallest a) _ _ (all-shown (s .args .self) _ _ (s .pre) (a .before .before .before .before .profile-before .ensures))
+    (earliest-shows (smallest a) _ _ (all-shown (s .args .self) (a .before .before .before .before .profile-before .result) (s .args .self .clock) (s .pre) (search (a .before .before .before .before .profile-before .ensures)))
     ∙ ap foundAt (c .enum-told .given .1))
 
 returns-3 : tie.Need-returns-3
@@ -78,7 +78,7 @@ returns-3 c =
     let r = c .before .before .before .before .before .before .before .before .before .before .order-refusal in
     shown-found (s .args .self) (s .args .line) (s .args .time) (s .args .due) (s .args .rate) (r .result) (at _) (r .ensures)
     (none (c .before .before .before .before .before .before .before .before .before))
-    (earliest-shows (smallest a) _ _ (all-shown (s .args .self) _ _ (s .pre) (a .before .before .before .before .profile-before .ensures))
+    (earliest-shows (smallest a) _ _ (all-shown (s .args .self) (a .before .before .before .before .profile-before .result) (s .args .self .clock) (s .pre) (search (a .before .before .before .before .profile-before .ensures)))
     ∙ ap foundAt (found .found .given .1))
 
 pub start-for-spec : {M : Type 1} → statement M
