@@ -127,15 +127,19 @@ commit 1 20 24 1 50
 commit 1 10 0 1 70
 ";
 
+/// By latest start tickets 4, 2, 1, 3. By lines (N5) tickets 4 and 2 are the shortest of
+/// those that cannot wait, and the smaller d − p goes first; in minute 20 neither of the
+/// others can wait, and ticket 3 is the shorter one.
 #[test]
 fn n1_latest_starts_below_zero_come_before_zero() {
     let asked = "enquire 4\nenquire 2\nenquire 1\nenquire 3";
     let mut expected =
         vec!["open 0 1", "ticket 1 start 0", "ticket 2 start 40", "ticket 3 start 50"];
     expected.push("ticket 4 start 70");
-    let starts = ["waiting 0 1", "waiting 10 1", "waiting 20 1", "waiting 60 1"];
-    for (replan, plan) in [("latest", "plan 0 169 99 0"), ("lines 1", "plan 0 169 99 1")] {
-        let expected = [&expected[..], &[plan], &starts].concat();
+    let latest = ["plan 0 169 99 0", "waiting 0 1", "waiting 10 1", "waiting 20 1", "waiting 60 1"];
+    let lines = ["plan 0 169 79 1", "waiting 0 1", "waiting 10 1", "waiting 40 1", "waiting 20 1"];
+    for (replan, answers) in [("latest", latest), ("lines 1", lines)] {
+        let expected = [&expected[..], &answers].concat();
         expect(&format!("{HURRY}{replan}\n{asked}"), &expected);
     }
 }
@@ -196,6 +200,80 @@ fn n4_a_cap_two_lower() {
     let opened = ["open 0 2", "ticket 1 start 0", "ticket 2 start 10"];
     expect(&format!("{k}lines 2"), &[&opened[..], &["plan 7 0 0 2"]].concat());
     expect(&format!("{k}lines 1"), &[&opened[..], &["plan 2 0 0 1"]].concat());
+}
+
+/// N5. The lines of a queue on one point, by lines with allowance 1: orders as (p, d), the
+/// lateness before and after, and the starts.
+fn n5(orders: &[(u64, u64)], before: u64, after: u64, starts: &[u64]) {
+    let mut text = "open 1 100\n".to_string();
+    let mut expected = vec!["open 0 1".to_string()];
+    let mut start = 0;
+    for (place, (time, due)) in orders.iter().enumerate() {
+        text += &format!("commit 1 {time} {due} 1 {start}\n");
+        expected.push(format!("ticket {} start {start}", place + 1));
+        start += time;
+    }
+    text += "lines 1\n";
+    expected.push(format!("plan 0 {before} {after} 1"));
+    for (place, start) in starts.iter().enumerate() {
+        text += &format!("enquire {}\n", place + 1);
+        expected.push(format!("waiting {start} 1"));
+    }
+    expect(&text, &expected.iter().map(String::as_str).collect::<Vec<_>>());
+}
+
+/// N5. n 2 and P 110: ticket 2 has k 93, and E(93) / 10 is more than twice E(0) / 100. By
+/// latest start the long one, which is due at once, keeps its place.
+#[test]
+fn n5_a_short_charge_with_slack_before_a_long_urgent_one() {
+    n5(&[(100, 100), (10, 30)], 80, 10, &[10, 0]);
+    let text = "open 1 100\ncommit 1 100 100 1 0\ncommit 1 10 30 1 100\nlatest";
+    expect(text, &["open 0 1", "ticket 1 start 0", "ticket 2 start 100", "plan 7 80 80 0"]);
+}
+
+/// N5. The short one has k 1,280, weight 0.
+#[test]
+fn n5_a_long_urgent_charge_before_a_short_one_with_slack() {
+    n5(&[(10, 110), (30, 30)], 10, 0, &[30, 0]);
+}
+
+/// N5. n 3 and P 427: E(1) / 63 and E(0) / 64 are both 2^24, so the smaller d − p goes first,
+/// which is ticket 3; ticket 1 has weight 0.
+#[test]
+fn n5_equal_weights_over_p_go_by_latest_start() {
+    n5(&[(300, 2_000), (63, 64), (64, 64)], 662, 63, &[127, 64, 0]);
+}
+
+#[test]
+fn n5_equal_charges_go_by_ticket() {
+    n5(&[(50, 2_000), (10, 12), (10, 12)], 106, 8, &[20, 0, 10]);
+}
+
+/// N5. n 5 and P 50: slack of 20 and more has weight 0, so at 0 all five go by d − p, and
+/// at 10 all four that are left.
+#[test]
+fn n5_weights_of_nothing_go_by_latest_start() {
+    let orders = [(10, 55), (10, 50), (10, 45), (10, 40), (10, 35)];
+    n5(&orders, 15, 0, &[40, 30, 20, 10, 0]);
+}
+
+/// N5. Latest starts 4, -3, 0 and -10: whatever they are, none of tickets 2 to 4 can wait,
+/// so the shorter ones go first.
+#[test]
+fn n5_drivers_in_a_hurry_go_by_their_times() {
+    n5(&[(20, 24), (4, 1), (10, 10), (12, 2)], 91, 53, &[26, 0, 4, 14]);
+}
+
+/// N5. Ticket 2 is the most urgent, but in minute 1 there is one point for it, and it needs
+/// two. Ticket 3 fits there.
+#[test]
+fn n5_the_most_urgent_charge_does_not_fit() {
+    let text = "open 2 100\ncommit 1 20 60 1 0\nmove 1 360\ncommit 1 10 10 2 20\n\
+                commit 1 30 31 1 30\nlines 1\nenquire 2\nenquire 3";
+    let mut expected = vec!["open 0 2", "ticket 1 start 0", "moved 1 dropped 0 1 0"];
+    expected.extend(["ticket 2 start 20", "ticket 3 start 30", "plan 0 49 31 1"]);
+    expected.extend(["waiting 31 2", "waiting 1 1"]);
+    expect(text, &expected);
 }
 
 /// The files in scripts/ and the answers beside them.

@@ -11,7 +11,7 @@ use trials::script::Line;
 use trials::{demand, generate, script};
 
 /// With the kind of scripts that finds them, and how many lines are left at most.
-const FAULTY: [(&str, usize, &[Error]); 6] = [
+const FAULTY: [(&str, usize, &[Error]); 8] = [
     (
         "leaning",
         13,
@@ -82,6 +82,26 @@ const FAULTY: [(&str, usize, &[Error]); 6] = [
             Error::PlacedChargeHidden,
         ],
     ),
+    (
+        "priority",
+        9,
+        &[
+            Error::NumbersShrink,
+            Error::SlackNotCutOff,
+            Error::LatestStartBeforeWeight,
+            Error::ChargeChosenFirst,
+        ],
+    ),
+    (
+        "weights",
+        9,
+        &[
+            Error::WeightRounded,
+            Error::OneWrongNumber,
+            Error::TableOnePlaceTooFar,
+            Error::TableTooLong,
+        ],
+    ),
 ];
 
 fn choice(kind: &str, scripts: u64) -> Choice<'_> {
@@ -108,7 +128,7 @@ fn the_comparison_finds_every_faulty_yard() {
 /// is put into them.
 #[test]
 fn own_rounds_without_an_error() {
-    for kind in ["leaning", "rates"] {
+    for kind in ["leaning", "rates", "priority", "weights"] {
         let yard = Inside(|| Faulty::new(Error::OwnRounds));
         let found = compare(&yard, &choice(kind, 40)).map_err(|failure| failure.what);
         assert_eq!(found.map(|summary| summary.scripts), Ok(41), "{kind}");
@@ -133,6 +153,9 @@ fn demand_3_finds_what_it_should() {
         Error::GivesTheEarliestStart,
         Error::PreviewShowsTheLastEnd,
         Error::CapsCountCharges,
+        Error::NumbersShrink,
+        Error::LatestStartBeforeWeight,
+        Error::ChargeChosenFirst,
     ];
     let unsound = [
         Error::BalanceOnlyAtTheStart,

@@ -10,6 +10,7 @@ use trials::coverage::coverage;
 use trials::generate;
 use trials::interpret::Interpreter;
 use trials::protocol::{read_call, Call, LONGEST_LINE};
+use trials::reference::Station;
 use trials::script;
 use trials::shrink::shrink;
 
@@ -184,6 +185,49 @@ fn rates_of_all_sorts_occur() {
             assert!(seen.contains(&(bound, rate)), "{bound} {rate}: {seen:?}");
         }
     }
+}
+
+/// N5: where a replan by lines begins, charges of all places of the table and beyond, times
+/// that differ much, equal charges, and 180 of one line.
+#[test]
+fn weights_of_all_sorts_occur() {
+    let mut seen = BTreeSet::new();
+    for (kind, scripts) in [("priority", 60), ("weights", 60)] {
+        for number in 0..scripts {
+            let mut yard = Interpreter::new(reference());
+            for line in generate::script_of_kind(kind, 1, number).unwrap().lines {
+                if let Ok(Some(Call::Lines { .. })) = read_call(&line) {
+                    (1..=3).for_each(|line| sorts_of_weights(yard.yard(), line, &mut seen));
+                }
+                yard.answer(&line, &mut Vec::new());
+            }
+        }
+    }
+    assert_eq!(seen.len(), 10, "{seen:?}");
+}
+
+fn sorts_of_weights(station: &Station, line: u32, seen: &mut BTreeSet<&'static str>) {
+    let mut own = station.waiting();
+    own.retain(|charge| charge.line == line);
+    let time: u64 = own.iter().map(|charge| charge.time).sum();
+    for charge in &own {
+        let slack = charge.latest_start() - station.clock as i64;
+        let k = 256 * slack * own.len() as i64 / time as i64;
+        seen.extend((slack < 0).then_some("too late"));
+        seen.extend((slack == 0).then_some("just in time"));
+        seen.extend((0 < k && k < 511).then_some("inside the table"));
+        seen.extend((k == 511).then_some("the last of the table"));
+        seen.extend((k == 512).then_some("just behind the table"));
+        seen.extend((k > 50_000).then_some("far behind the table"));
+    }
+    let times = || own.iter().map(|charge| charge.time);
+    let (least, most) = (times().min().unwrap_or(0), times().max().unwrap_or(0));
+    seen.extend((most > 20 * least).then_some("mixed times"));
+    seen.extend((own.len() == 180).then_some("180 of one line"));
+    let alike = own.windows(2).all(|two| (two[0].time, two[0].due) == (two[1].time, two[1].due));
+    seen.extend((alike && own.len() > 5).then_some("equal ones"));
+    let rates: BTreeSet<u32> = own.iter().map(|charge| charge.rate).collect();
+    seen.extend((rates.len() == 2).then_some("both rates"));
 }
 
 #[test]

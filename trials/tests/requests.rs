@@ -11,24 +11,31 @@ use trials::script;
 /// N1. Latest starts 0, -3, 4 and -10: the order of the integers is tickets 4, 2, 1, 3.
 #[test]
 fn latest_starts_below_zero() {
-    let queue =
-        "open 1 100\ncommit 1 40 40 1 0\ncommit 1 10 7 1 40\ncommit 1 20 24 1 50\ncommit 1 10 0 1 70";
-    for replan in ["latest", "lines 1"] {
-        let text = format!("{queue}\n{replan}\nenquire 4");
-        caught(Error::LatestStartCutAtZero, &text, "waiting 0 1", "waiting 50 1");
-        // Negative ones last would be later than the held plan, so ticket 4 stays last.
-        caught(Error::LatestStartUnsigned, &text, "waiting 0 1", "waiting 70 1");
-    }
+    let text = "open 1 100\ncommit 1 40 40 1 0\ncommit 1 10 7 1 40\ncommit 1 20 24 1 50\n\
+                commit 1 10 0 1 70\nlatest\nenquire 4";
+    caught(Error::LatestStartCutAtZero, text, "waiting 0 1", "waiting 50 1");
+    // Negative ones last would be later than the held plan, so ticket 4 stays last.
+    caught(Error::LatestStartUnsigned, text, "waiting 0 1", "waiting 70 1");
+}
+
+/// N1, N5. By lines d − p decides between equal times that cannot wait: 0, -3 and -10.
+#[test]
+fn latest_starts_below_zero_by_lines() {
+    let text = "open 1 100\ncommit 1 10 110 1 0\ncommit 1 10 10 1 10\ncommit 1 10 7 1 20\n\
+                commit 1 10 0 1 30\nlines 1\nenquire 4";
+    caught(Error::LatestStartCutAtZero, text, "waiting 0 1", "waiting 20 1");
+    caught(Error::LatestStartUnsigned, text, "waiting 0 1", "waiting 10 1");
 }
 
 /// N1. Two latest starts of -3.
 #[test]
 fn equal_latest_starts_below_zero() {
-    let queue = "open 1 100\ncommit 1 20 60 1 0\ncommit 1 10 7 1 20\ncommit 1 13 10 1 30";
-    for replan in ["latest", "lines 1"] {
-        let text = format!("{queue}\n{replan}\nenquire 2");
-        caught(Error::HigherTicketFirst, &text, "waiting 0 1", "waiting 13 1");
-    }
+    let text = "open 1 100\ncommit 1 20 60 1 0\ncommit 1 10 7 1 20\ncommit 1 13 10 1 30\n\
+                latest\nenquire 2";
+    caught(Error::HigherTicketFirst, text, "waiting 0 1", "waiting 13 1");
+    let text = "open 1 100\ncommit 1 10 110 1 0\ncommit 1 10 7 1 10\ncommit 1 10 7 1 20\n\
+                lines 1\nenquire 2";
+    caught(Error::HigherTicketFirst, text, "waiting 0 1", "waiting 10 1");
 }
 
 /// N1. "its lateness counts from the due minute given", be it 0 at a late clock.
@@ -126,4 +133,50 @@ fn caps_that_count_charges() {
 fn a_placed_charge_beside_a_begun_one() {
     let text = "open 3 67\ncommit 1 10 60 2 0\ncommit 1 5 60 1 10\nmove 1 360\nlines 2";
     caught(Error::PlacedChargeHidden, text, "plan 7 0 0 2", "plan 1 0 0 1");
+}
+
+/// N5. Ticket 2 cannot wait any more than ticket 1, but is shorter; with its slack not cut
+/// off it would be the last.
+#[test]
+fn weights_worked_out_otherwise() {
+    let text = "open 1 100\ncommit 3 2 0 1 0\ncommit 3 1 0 1 2\nlines 1";
+    caught(Error::SlackNotCutOff, text, "plan 0 5 4 1", "plan 7 5 5 1");
+    // After ticket 2 is placed n is still 3 and P 19, so that ticket 3 is weighed as before.
+    let text = "open 1 100\ncommit 3 15 0 1 0\ncommit 3 3 0 1 15\ncommit 3 1 9 1 18\nlines 1";
+    caught(Error::NumbersShrink, text, "plan 0 43 31 1", "plan 0 43 22 1");
+}
+
+/// N5. A short charge with slack before a long urgent one; and a charge of rate 2 that is
+/// the most urgent but does not fit beside a begun one.
+#[test]
+fn charges_chosen_otherwise() {
+    let text = "open 1 100\ncommit 1 100 100 1 0\ncommit 1 10 30 1 100\nlines 1";
+    caught(Error::LatestStartBeforeWeight, text, "plan 0 80 10 1", "plan 7 80 80 1");
+    let text = "open 2 100\ncommit 1 20 60 1 0\nmove 1 360\ncommit 1 10 10 2 20\n\
+                commit 1 30 31 1 30\nlines 1";
+    caught(Error::ChargeChosenFirst, text, "plan 0 49 31 1", "plan 7 49 49 1");
+}
+
+/// N5. With n 3 and P 3,062 tickets 2 and 3 have k 437 and 434: E(437) / 1,166 is larger than
+/// E(434) / 1,223 by less than one, and d - p is smaller for ticket 3.
+#[test]
+fn weights_over_p_are_not_rounded() {
+    let text = "open 1 100\ncommit 2 673 3861 1 0\ncommit 2 1166 2912 1 673\n\
+                commit 2 1223 2957 1 1839\nlines 1000\nenquire 2";
+    caught(Error::WeightRounded, text, "waiting 0 1", "waiting 1223 1");
+}
+
+/// N5. A k of 100; and tickets with a k of 511 and of 512, the last of the table and the first
+/// behind it.
+#[test]
+fn tables_with_other_numbers() {
+    let text = "open 1 100\nmove 1 360\ncommit 3 22 123 1 1\ncommit 3 396 0 1 23\n\
+                commit 3 222 0 1 419\ncommit 3 74 98 1 641\ncommit 3 554 0 1 715\nlines 1\nenquire 1";
+    caught(Error::OneWrongNumber, text, "waiting 1 1", "waiting 75 1");
+    let text = "open 1 100\ncommit 3 158 2201 1 0\ncommit 3 1382 3436 1 158\n\
+                commit 3 1153 2690 1 1540\ncommit 3 1394 2985 1 2693\nlines 1000\nenquire 1";
+    caught(Error::TableOnePlaceTooFar, text, "waiting 0 1", "waiting 1153 1");
+    let text = "open 1 100\ncommit 3 158 2198 1 0\ncommit 3 1369 3389 1 158\n\
+                commit 3 1153 2689 1 1527\ncommit 3 1393 3072 1 2680\nlines 1\nenquire 1";
+    caught(Error::TableTooLong, text, "waiting 1153 1", "waiting 0 1");
 }

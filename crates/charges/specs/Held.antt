@@ -12,6 +12,7 @@ Rising c = (i : ℕ) → i + 1 < c .held → chargeAt c i .ticket < chargeAt c (
 -- "No held time reaches 100,000,000."
 pub record Small (x : Charge) : Type 0 where
   pub on-line : IsLine (x .line)
+  pub time-low : 1 ≤ x .time
   pub time-most : x .time ≤ 1440
   pub due-most : x .due ≤ 2000000
   pub start-most : x .start < 100000000

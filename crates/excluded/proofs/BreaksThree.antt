@@ -4,7 +4,7 @@ use mathlib.Core.Bool.{true}
 use mathlib.Core.List.{List, [], _∷_, map}
 use Rattle.rules.specs.Basics.{Each}
 use Rattle.rules.specs.Load.{limited, balanced, sound}
-use Rattle.rules.specs.Search.{earliest, earliestUnder}
+use Rattle.rules.specs.Search.{earliest}
 use Rattle.rules.specs.Replan.{placeAll, latest}
 use Rattle.rules.specs.Judgement.{judged}
 use Rattle.rules.specs.Calls.{settings, State, Call, opening, previewing, committing, moving, offering, replanningLatest, enquiring, step}
@@ -24,7 +24,7 @@ use Rattle.excluded.proofs.TestsThree.{three-tested}
 
 -- the checker computes every test on every list
 pub entries-hold : every agrees wrongEntries ≡ true
-unfolding limited balanced sound earliest earliestUnder placeAll latest judged opening previewing committing moving offering replanningLatest enquiring
+unfolding limited balanced sound earliest placeAll latest judged opening previewing committing moving offering replanningLatest enquiring
 entries-hold = refl
 
 first-opened : every (λ (e : Breach). isOpened (e .thing .first)) wrongEntries ≡ true

@@ -6,15 +6,16 @@ use native.Mathlib.Omega.{arith}
 use lib.ListN.{length}
 use Rattle.rules.specs.Load.{count, limited, balanced, sound}
 use Rattle.rules.specs.Charge.{Charge, loadsOf, lastEnd}
-use Rattle.rules.specs.Search.{earliest, earliestUnder, firstUnbalanced}
-use Rattle.rules.specs.Replan.{starts, placeAll, latest, round, roundsFrom, byLines}
+use Rattle.rules.specs.Search.{earliest, firstUnbalanced}
+use Rattle.rules.specs.Priority.{fading, weights, weightOf, firstFit, picked}
+use Rattle.rules.specs.Replan.{starts, placeAll, latest, placeOn, round, roundsFrom, byLines}
 use Rattle.rules.specs.Judgement.{restarted, judged}
 use Rattle.rules.specs.CasesAToL.{ordersH}
 use Rattle.rules.specs.Calls.{settings, State, planned, offer, offering, step}
 use Rattle.guarantee.specs.Past.{Gives}
 use Rattle.guarantee.specs.DemandTwo.{Better, Taken, GivenStarts, DemandTwo}
-use Rattle.excluded.specs.WrongPlans.{untested, neverTaken, offerCleared, takenLater, begunPutOff, lineChanged, rateLost, takenForTicket, keptForTicket, alwaysKept, spentAfterNone, roundsInvented}
-use Rattle.excluded.specs.Stations.{station, stationFour, stationH, stationHTwo, stationRated, waitingSince, begunAndWaiting}
+use Rattle.excluded.specs.WrongPlans.{untested, neverTaken, offerCleared, takenLater, begunPutOff, lineChanged, rateLost, takenForTicket, keptForTicket, alwaysKept, spentAfterNone, byLatestStartInLines, roundsInvented}
+use Rattle.excluded.specs.Stations.{station, stationFour, stationH, stationShort, stationHTwo, stationRated, waitingSince, begunAndWaiting}
 use Rattle.excluded.specs.BreaksTwoPlans.{offerJ}
 use Rattle.guarantee.proofs.DemandTwo.{not-taken, demand-two}
 use Rattle.excluded.proofs.Refuting.{line-one, line-two}
@@ -150,14 +151,22 @@ always-kept d =
 
 -- `answer`: case l, one round, cause 7
 spent-after-none : DemandTwo spentAfterNone station → ⊥
-unfolding limited balanced sound earliest earliestUnder firstUnbalanced placeAll round roundsFrom byLines judged
+unfolding limited balanced sound earliest firstUnbalanced fading weights weightOf firstFit picked placeOn round roundsFrom byLines judged
 spent-after-none d =
     let h : planned 2 0 0 0 ≡ planned 7 0 0 1 = d .replans-lines 1 .answer (refl, tt) in
     let z : _≡_ {A = ℕ} 2 7 = cc in
     omega arith
 
+-- `answer`: by lines the short charge goes first, and the plan is taken
+latest-start-in-lines : DemandTwo byLatestStartInLines stationShort → ⊥
+unfolding limited balanced sound earliest firstUnbalanced placeAll latest fading weights weightOf firstFit picked placeOn round roundsFrom byLines judged
+latest-start-in-lines d =
+    let h : planned 7 8 8 1 ≡ planned 0 8 8 1 = d .replans-lines 1 .answer (refl, tt) in
+    let z : _≡_ {A = ℕ} 7 0 = cc in
+    omega arith
+
 rounds-invented : DemandTwo roundsInvented station → ⊥
-unfolding limited balanced sound earliest earliestUnder firstUnbalanced placeAll round roundsFrom byLines judged
+unfolding limited balanced sound earliest firstUnbalanced fading weights weightOf firstFit picked placeOn round roundsFrom byLines judged
 rounds-invented d =
     let h : planned 7 0 0 3 ≡ planned 7 0 0 1 = d .replans-lines 3 .answer (refl, tt) in
     let z : _≡_ {A = ℕ} 3 1 = cc in

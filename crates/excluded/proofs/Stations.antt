@@ -7,7 +7,7 @@ use Rattle.rules.specs.CasesAToL.{ordersH}
 use Rattle.rules.specs.Entry.{lentList}
 use Rattle.rules.specs.Calls.{Settings, settings, State, Call, commit, move, opening, committing, moving}
 use Rattle.guarantee.specs.Demands.{reached}
-use Rattle.excluded.specs.Stations.{station, stationFive, stationThree, stationFour, stationTwo, stationH, stationHTwo, stationRated, waitingSince, begunAndWaiting}
+use Rattle.excluded.specs.Stations.{station, stationFive, stationThree, stationFour, stationTwo, stationH, stationHTwo, stationShort, stationRated, waitingSince, begunAndWaiting}
 use Rattle.excluded.proofs.Same.{same-state}
 
 abbrev Reached : Settings → List Call → State → Type 0
@@ -46,6 +46,10 @@ h-reached = same-state (reached (settings 1 100) ordersH) stationH .0 refl
 h-two-reached : Reached (settings 2 50) ordersH stationHTwo
 unfolding limited balanced sound earliest opening committing
 h-two-reached = same-state (reached (settings 2 50) ordersH) stationHTwo .0 refl
+
+short-reached : Reached (settings 1 100) (commit 1 20 30 1 0 ∷ commit 1 2 14 1 20 ∷ []) stationShort
+unfolding limited balanced sound earliest opening committing
+short-reached = same-state (reached (settings 1 100) (commit 1 20 30 1 0 ∷ commit 1 2 14 1 20 ∷ [])) stationShort .0 refl
 
 rated-reached : Reached (settings 4 50) (commit 1 10 60 2 0 ∷ commit 1 10 60 2 10 ∷ commit 1 10 25 1 20 ∷ []) stationRated
 unfolding limited balanced sound earliest opening committing

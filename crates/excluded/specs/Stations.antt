@@ -48,6 +48,10 @@ stationH = standing 1 100 0 3 heldH
 abbrev pub stationHTwo : State
 stationHTwo = standing 2 50 0 3 heldH
 
+-- a charge of 20 minutes from 0 on, and behind it one of 2 minutes, due at 14
+abbrev pub stationShort : State
+stationShort = standing 1 100 0 3 (held 1 1 20 30 0 ∷ held 2 1 2 14 20 ∷ [])
+
 -- N = 4, D = 2: two charges of rate 2 and one of rate 1, on line 1 from 0, 10 and 20
 abbrev pub stationRated : State
 stationRated = standing 4 50 0 4 (heldAt 1 1 10 60 2 0 ∷ heldAt 2 1 10 60 2 10 ∷ held 3 1 10 25 20 ∷ [])

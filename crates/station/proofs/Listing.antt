@@ -66,6 +66,7 @@ valid-listed s v =
         let f : ValidCharge (limits (s .limit) (s .bound)) (s .clock) (s .next) (chargeAt (s .charges) i) = held-valid s v i h in
         record {
           on-line = f .line;
+          time-low = f .time-low;
           time-most = f .time-high;
           due-most = f .due-high;
           is-rate = f .rate;

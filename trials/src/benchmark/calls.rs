@@ -100,6 +100,16 @@ pub fn typical_lines(held: usize) -> Measured {
     Measured::kept(states::peak(held), lines_call())
 }
 
+/// One round with 180 waiting, spread over the lines or all on one.
+pub fn one_round(spread: bool) -> Measured {
+    Measured::kept(states::one_round(spread), lines_call())
+}
+
+/// One round with 180 waiting on one line, all equal.
+pub fn all_equal() -> Measured {
+    Measured::kept(states::all_equal(), lines_call())
+}
+
 /// The held plan, offered again.
 pub fn typical_offer(held: usize) -> Measured {
     let mut first = states::peak(held);
@@ -171,6 +181,15 @@ mod tests {
             let answers = answers_of(Station::fresh(1, 100), &measured.scripts(2)[0]);
             let refused = answers.iter().find(|answer| answer.starts_with(b"refused"));
             assert_eq!(refused.map(|answer| show(answer)), None);
+        }
+    }
+
+    #[test]
+    fn rounds_that_are_the_last() {
+        for measured in [one_round(true), one_round(false), all_equal()] {
+            assert_eq!(measured.rounds, 1);
+            let answers = answers_of(Station::fresh(1, 100), &measured.scripts(2)[0]);
+            assert!(show(&answers[answers.len() - 1]).starts_with("plan 7 "));
         }
     }
 

@@ -13,7 +13,7 @@ fn row(table: &mut Table, title: &str, cost: &Cost, parts: f64) {
     table.row(cells);
 }
 
-/// A replan by lines has a second row, shared out among its rounds.
+/// A replan by lines of several rounds has a second row, shared out among them.
 fn rows(table: &mut Table, title: &str, measured: &Measured, pair: &Pair) -> Result<(), String> {
     let cost = measured.cost(pair)?;
     if measured.rounds == 0 {
@@ -21,7 +21,9 @@ fn rows(table: &mut Table, title: &str, measured: &Measured, pair: &Pair) -> Res
         return Ok(());
     }
     let rounds = measured.rounds;
-    row(table, &format!("{title}, {rounds} rounds"), &cost, 1.0);
+    if rounds > 1 {
+        row(table, &format!("{title}, {rounds} rounds"), &cost, 1.0);
+    }
     row(table, &format!("{title}, one round"), &cost, rounds as f64);
     Ok(())
 }
@@ -36,6 +38,9 @@ pub fn print(pair: &Pair) -> Result<(), String> {
         ("replan by latest start, typical", calls::typical_latest(HELD)),
         ("replan by latest start, worst", calls::worst_latest()),
         ("replan by lines, typical", calls::typical_lines(HELD)),
+        ("replan by lines, 180 spread", calls::one_round(true)),
+        ("replan by lines, 180 on one line", calls::one_round(false)),
+        ("replan by lines, 180 equal ones on one line", calls::all_equal()),
         ("replan by lines, worst", calls::worst_lines()?),
     ];
     let mut table = Table::new(&["call", "program µs", "Rust µs", "ratio"]);

@@ -7,9 +7,11 @@
 //! - `station`: the station and its calls
 //! - `plan`: the common test of a plan, and the replan by latest start
 //! - `lines`: the replan by lines with caps as arrays of minutes
+//! - `priority`: which charge of a line is taken at a start
 
 mod lines;
 mod plan;
+mod priority;
 mod profile;
 mod station;
 

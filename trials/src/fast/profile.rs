@@ -114,6 +114,19 @@ impl Profile {
         }
     }
 
+    /// How many minutes in a row have room from `start` on, up to `most`.
+    pub fn run_from(&self, start: u32, most: u32, room: impl Fn([u16; 3]) -> u32) -> u32 {
+        let mut step = self.step_of(start);
+        loop {
+            let until = self.until(step);
+            let room_until = room(self.counts[step]).min(until);
+            if room_until < until || room_until - start >= most {
+                return room_until.saturating_sub(start).min(most);
+            }
+            step += 1;
+        }
+    }
+
     /// The smallest start from `least` on at which one more load of the line and the
     /// rate leaves its own minutes sound.
     pub fn earliest(&self, line: usize, rate: u16, time: u32, least: u32, rules: Rules) -> u32 {

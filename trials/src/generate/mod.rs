@@ -18,11 +18,13 @@ mod mixed;
 mod offers;
 mod openings;
 mod plans;
+mod priority;
 mod rates;
 mod rounds;
 mod spent;
 mod tickets;
 mod unopened;
+mod weights;
 
 use crate::random::Random;
 use crate::script::Script;
@@ -36,7 +38,7 @@ pub struct Kind {
     write: fn(&mut Author),
 }
 
-pub const KINDS: [Kind; 17] = [
+pub const KINDS: [Kind; 19] = [
     Kind { name: "edges", share: 15, write: edges::write },
     Kind { name: "mixed", share: 24, write: mixed::write },
     Kind { name: "offers", share: 15, write: offers::write },
@@ -50,6 +52,8 @@ pub const KINDS: [Kind; 17] = [
     Kind { name: "hurry", share: 10, write: hurry::write },
     Kind { name: "commits", share: 15, write: commits::write },
     Kind { name: "rates", share: 15, write: rates::write },
+    Kind { name: "priority", share: 12, write: priority::write },
+    Kind { name: "weights", share: 5, write: weights::write },
     // These are long and come once in a thousand, at turns of their own.
     Kind { name: "tickets", share: 0, write: tickets::write },
     Kind { name: "spent", share: 0, write: spent::write },

@@ -1,11 +1,11 @@
 //! "Allowance spent" with the largest allowance: a yard of 60, 2 with 180 waiting
-//! charges that needs more than 1,000 rounds. Such yards are rare; this one was
-//! found by trying seeds.
+//! charges that needs more than 1,000 rounds. Of 600 seeds 26 give such a yard; this is
+//! the first of them.
 
 use super::author::Author;
 use crate::random::Random;
 
-const SEED: u64 = 6_073;
+const SEED: u64 = 11;
 
 pub fn write(author: &mut Author) {
     author.open(60, 2);

@@ -1,12 +1,16 @@
 //! "Each line has a cap for every minute, N at first. One round: with no waiting
-//! charge placed, for each line, 1 to 3 in turn, take its waiting charges by
-//! d − p, then ticket, and give each the smallest start, not below the clock, with
-//! the line's count, itself included, at or below the cap in all its minutes. Then
-//! find the first minute t in which two counts differ by more than D".
+//! charge placed, for each line, 1 to 3 in turn", its waiting charges are placed: "In a
+//! line, replan by lines now finds the smallest start at which any unplaced charge
+//! fits, and among those that fit there takes the one with the largest weight/p,
+//! unrounded, then the smaller d − p, then the smaller ticket" (N5). One fits where the
+//! start is not below the clock "with the line's count, itself included, at or below the
+//! cap in all its minutes. Then find the first minute t in which two counts differ by
+//! more than D".
 
 use super::judge::{List, ALLOWANCE_SPENT, NO_START};
-use super::latest::{in_ticket_order, latest_start_order};
+use super::latest::in_ticket_order;
 use super::minutes::{count_charge, counts, Counts};
+use super::priority::Crowd;
 use super::station::{last_end, Charge, Station};
 
 /// The caps of the three lines in one minute; minutes as in the counts.
@@ -54,15 +58,29 @@ impl Station {
         let mut counts = counts(&self.begun(), self.clock, caps.len() as u64);
         let mut placed = Vec::new();
         for line in 1..=3 {
-            let mut waiting = latest_start_order(self.waiting());
-            waiting.retain(|charge| charge.line == line);
-            for charge in waiting {
-                let start = self.clock + first_room(&counts, caps, &charge);
-                count_charge(&mut counts, &charge.starting_at(start), self.clock);
-                placed.push(charge.starting_at(start));
+            let mut unplaced = self.waiting();
+            unplaced.retain(|charge| charge.line == line);
+            let crowd = Crowd::of(&unplaced);
+            while !unplaced.is_empty() {
+                let room = Room { counts: &counts, caps, line: line as usize - 1 };
+                let start = room.start_of_any(&unplaced);
+                let place = self.next_at(start, &room, &unplaced, crowd);
+                let charge = unplaced.remove(place).starting_at(self.clock + start);
+                count_charge(&mut counts, &charge, self.clock);
+                placed.push(charge);
             }
         }
         Round { placed, counts }
+    }
+
+    /// The place of the unplaced charge that is taken at this start: "among those that
+    /// fit there".
+    fn next_at(&self, start: u64, room: &Room, unplaced: &[Charge], crowd: Crowd) -> usize {
+        let fitting = (0..unplaced.len()).filter(|place| room.fits(&unplaced[*place], start));
+        let minute = self.clock + start;
+        fitting
+            .min_by(|one, other| crowd.turn(minute, &unplaced[*one], &unplaced[*other]))
+            .expect("one fits at the smallest start")
     }
 
     /// "the first minute t in which two counts differ by more than D, from the
@@ -79,20 +97,50 @@ impl Station {
     }
 }
 
-/// The smallest start, counted from the clock, at which the charge has room in
-/// all its minutes: the first run of p minutes in a row with room for its rate.
-fn first_room(counts: &[Counts], caps: &Caps, charge: &Charge) -> u64 {
-    let line = charge.line as usize - 1;
-    let mut in_a_row = 0;
-    for minute in 0..caps.len() {
-        let itself_included = counts[minute][line] + charge.weight();
-        let has_room = itself_included <= caps[minute][line];
-        in_a_row = if has_room { in_a_row + 1 } else { 0 };
-        if in_a_row == charge.time {
-            return minute as u64 + 1 - charge.time;
-        }
+/// What one line has left under its cap. Starts are counted from the clock.
+struct Room<'a> {
+    counts: &'a [Counts],
+    caps: &'a Caps,
+    /// Place 0 to 2.
+    line: usize,
+}
+
+impl Room<'_> {
+    /// "with the line's count, itself included, at or below the cap", in one minute
+    fn has_room(&self, weight: u64, minute: usize) -> bool {
+        self.counts[minute][self.line] + weight <= self.caps[minute][self.line]
     }
-    unreachable!("the minutes after the line's last end have room")
+
+    /// "in all its minutes"
+    fn fits(&self, charge: &Charge, start: u64) -> bool {
+        let mut minutes = start..start + charge.time;
+        minutes.all(|minute| self.has_room(charge.weight(), minute as usize))
+    }
+
+    /// "the smallest start at which any unplaced charge fits". Where one fits, every
+    /// shorter one of its rate does, so the shortest of each rate stand for all.
+    fn start_of_any(&self, unplaced: &[Charge]) -> u64 {
+        let shortest = |rate| {
+            let of_rate = unplaced.iter().filter(move |charge| charge.rate == rate);
+            of_rate.min_by_key(|charge| charge.time)
+        };
+        let starts = [1, 2].into_iter().filter_map(shortest).map(|charge| self.first_of(charge));
+        starts.min().expect("a charge is unplaced")
+    }
+
+    /// The smallest start at which this charge fits: the first run of p minutes in a row
+    /// with room for its rate.
+    fn first_of(&self, charge: &Charge) -> u64 {
+        let mut in_a_row = 0;
+        for minute in 0..self.caps.len() {
+            let has_room = self.has_room(charge.weight(), minute);
+            in_a_row = if has_room { in_a_row + 1 } else { 0 };
+            if in_a_row == charge.time {
+                return minute as u64 + 1 - charge.time;
+            }
+        }
+        unreachable!("the minutes after the line's last end have room")
+    }
 }
 
 /// "i is the line with the largest count in t and j the one with the smallest,

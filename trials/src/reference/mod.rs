@@ -7,6 +7,7 @@
 //! - `search`: the smallest start
 //! - `judge`: the test that offers and both replans end with
 //! - `latest`, `lines`: the two replans
+//! - `priority`: which charge of a line is taken at a start (N5)
 //! - `calls`: the calls with their refusals
 
 mod calls;
@@ -14,6 +15,7 @@ mod judge;
 mod latest;
 mod lines;
 pub mod minutes;
+pub mod priority;
 pub mod search;
 mod station;
 

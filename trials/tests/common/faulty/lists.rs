@@ -5,11 +5,33 @@ use trials::reference::{in_ticket_order, latest_start_order, Charge, List, Stati
 
 const NO_START: u32 = 1;
 
+/// Errors that lie inside the rounds of a replan by lines.
+const OF_OWN_ROUNDS: [Error; 14] = [
+    Error::LatestStartCutAtZero,
+    Error::LatestStartUnsigned,
+    Error::HigherTicketFirst,
+    Error::CapsCountCharges,
+    Error::PlacedChargeHidden,
+    Error::WeightRounded,
+    Error::NumbersShrink,
+    Error::SlackNotCutOff,
+    Error::LatestStartBeforeWeight,
+    Error::ChargeChosenFirst,
+    Error::OneWrongNumber,
+    Error::TableOnePlaceTooFar,
+    Error::TableTooLong,
+    Error::OwnRounds,
+];
+
 impl Faulty {
     pub fn latest_list(&self) -> List {
         match self.error {
             Error::BegunTakenAsSound => self.list_by_own_minutes().ok_or(NO_START),
-            _ => self.with_wrong_keys().latest_list(),
+            _ => {
+                let mut waiting = self.station.waiting();
+                waiting.sort_by_key(|charge| turn(self.error, charge));
+                self.station.place_in_turn(&waiting).ok_or(NO_START)
+            }
         }
     }
 
@@ -19,11 +41,9 @@ impl Faulty {
         if self.station.waiting().iter().any(|charge| charge.weight() > bound) {
             return (Err(NO_START), 1);
         }
-        match self.error {
-            Error::CapsCountCharges | Error::PlacedChargeHidden | Error::OwnRounds => {
-                self.own_rounds(allowance)
-            }
-            _ => self.with_wrong_keys().lines_list(allowance),
+        match OF_OWN_ROUNDS.contains(&self.error) {
+            true => self.own_rounds(allowance),
+            false => self.station.lines_list(allowance),
         }
     }
 
@@ -41,31 +61,15 @@ impl Faulty {
         }
         Some(in_ticket_order(placed))
     }
-
-    /// The station with such due minutes that the reference takes the charges in
-    /// the order of the wrong keys. Only the list is made with it.
-    fn with_wrong_keys(&self) -> Station {
-        let mut station = self.station.clone();
-        for charge in &mut station.charges {
-            if let Some(key) = wrong_key(self.error, charge) {
-                charge.due = key + charge.time;
-            }
-        }
-        station
-    }
 }
 
-/// What charges are ordered by instead of d − p, where the error is about it.
-fn wrong_key(error: Error, charge: &Charge) -> Option<u64> {
-    let latest_start = charge.latest_start();
-    let ticket = u64::from(charge.ticket);
+/// By d − p, then ticket, where the error is not about it.
+pub fn turn(error: Error, charge: &Charge) -> (i64, i64) {
+    let (latest_start, ticket) = (charge.latest_start(), i64::from(charge.ticket));
     match error {
-        Error::LatestStartCutAtZero => Some(latest_start.max(0) as u64),
-        Error::LatestStartUnsigned => Some(u64::from(latest_start as u32)),
-        Error::HigherTicketFirst if latest_start < 0 => {
-            Some(((latest_start + 2_000) as u64) << 20 | ((1 << 20) - ticket))
-        }
-        Error::HigherTicketFirst => Some(((latest_start + 2_000) as u64) << 20),
-        _ => None,
+        Error::LatestStartCutAtZero => (latest_start.max(0), ticket),
+        Error::LatestStartUnsigned => (i64::from(latest_start as u32), ticket),
+        Error::HigherTicketFirst if latest_start < 0 => (latest_start, -ticket),
+        _ => (latest_start, ticket),
     }
 }

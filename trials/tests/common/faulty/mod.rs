@@ -6,6 +6,7 @@
 mod bounds;
 mod commits;
 mod lists;
+mod priority;
 mod rounds;
 mod starts;
 
@@ -69,7 +70,21 @@ pub enum Error {
     CapsCountCharges,
     /// A placed charge is not seen where the begun ones count for as much.
     PlacedChargeHidden,
-    /// None of these, but the rounds are made as for the two before.
+    // N5, the paper's own priority
+    WeightRounded,
+    /// n and P of the charges that are still unplaced.
+    NumbersShrink,
+    /// A slack below zero becomes a huge one.
+    SlackNotCutOff,
+    LatestStartBeforeWeight,
+    /// The largest weight / p of all that are unplaced, and then its own smallest start.
+    ChargeChosenFirst,
+    OneWrongNumber,
+    /// E(k + 1) for E(k), so that 511 has none.
+    TableOnePlaceTooFar,
+    /// A number for k = 512.
+    TableTooLong,
+    /// None of these, but the rounds are made as for those in which the error lies.
     OwnRounds,
 }
 

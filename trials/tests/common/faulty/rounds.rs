@@ -2,8 +2,8 @@
 //! `Error::OwnRounds` is none: with it they are the reference's.
 
 use super::{Error, Faulty};
-use trials::reference::minutes::{counts, Counts};
-use trials::reference::{in_ticket_order, last_end, latest_start_order, Charge, List};
+use trials::reference::minutes::{count_charge, counts, Counts};
+use trials::reference::{in_ticket_order, last_end, Charge, List};
 
 const NO_START: u32 = 1;
 const ALLOWANCE_SPENT: u32 = 2;
@@ -34,30 +34,53 @@ impl Faulty {
 
     /// The waiting charges with the starts that the caps give them.
     fn placed(&self, begun: &[Charge], waiting: &[Charge], caps: &[Counts]) -> Vec<Charge> {
-        let (clock, length) = (self.station.clock, caps.len() as u64);
-        let mut plan = begun.to_vec();
-        for line in 1..=3 {
-            let own = waiting.iter().copied().filter(|charge| charge.line == line);
-            for charge in latest_start_order(own.collect()) {
-                let fits = |start: &u64| {
-                    let with_it = [plan.as_slice(), &[charge.starting_at(*start)]].concat();
-                    let counts = counts(&self.as_capped(&with_it), clock, length);
-                    let place = line as usize - 1;
-                    let minutes = (start - clock) as usize..(start - clock + charge.time) as usize;
-                    minutes.into_iter().all(|minute| counts[minute][place] <= caps[minute][place])
-                };
-                let start = (clock..).find(fits).expect("there is room after all others");
-                plan.push(charge.starting_at(start));
-            }
+        let own = |line| waiting.iter().copied().filter(move |charge| charge.line == line);
+        [1, 2, 3]
+            .into_iter()
+            .flat_map(|line| self.line_placed(begun, own(line).collect(), caps))
+            .collect()
+    }
+
+    /// Those of one line. The smallest start never falls, so it is looked for from the
+    /// last one on.
+    fn line_placed(&self, begun: &[Charge], own: Vec<Charge>, caps: &[Counts]) -> Vec<Charge> {
+        let clock = self.station.clock;
+        let mut counts = counts(&self.as_capped(begun), clock, caps.len() as u64);
+        let (mut unplaced, mut placed, mut start) = (own.clone(), Vec::new(), clock);
+        while !unplaced.is_empty() {
+            let fits = |charge: &Charge, start: u64| {
+                let (line, weight) = (charge.line as usize - 1, self.capped(*charge).weight());
+                let mut minutes = start - clock..start - clock + charge.time;
+                minutes.all(|minute| {
+                    counts[minute as usize][line] + weight <= caps[minute as usize][line]
+                })
+            };
+            let any_fits = |start: &u64| unplaced.iter().any(|charge| fits(charge, *start));
+            start = (start..).find(any_fits).expect("there is room after all others");
+            let mut chosen = self.chosen(&own, &unplaced, start, |charge| fits(charge, start));
+            chosen.start = match self.error {
+                Error::ChargeChosenFirst => {
+                    let own_start = (clock..).find(|start| fits(&chosen, *start));
+                    own_start.expect("there is room after all others")
+                }
+                _ => start,
+            };
+            unplaced.retain(|charge| charge.ticket != chosen.ticket);
+            count_charge(&mut counts, &self.capped(chosen), clock);
+            placed.push(chosen);
         }
-        plan.split_off(begun.len())
+        placed
     }
 
     /// The charges as the caps count them.
     fn as_capped(&self, plan: &[Charge]) -> Vec<Charge> {
+        plan.iter().map(|charge| self.capped(*charge)).collect()
+    }
+
+    fn capped(&self, charge: Charge) -> Charge {
         match self.error {
-            Error::CapsCountCharges => plan.iter().copied().map(at_rate_one).collect(),
-            _ => plan.to_vec(),
+            Error::CapsCountCharges => at_rate_one(charge),
+            _ => charge,
         }
     }
 
