@@ -4,6 +4,7 @@ use mathlib.Core.List.{List, [], _∷_, _++_, map}
 use Rattle.rules.specs.Load.{limited, balanced, sound}
 use Rattle.rules.specs.Charge.{waitingCharges}
 use Rattle.rules.specs.Search.{earliest, earliestUnder, firstUnbalanced}
+use Rattle.rules.specs.Candidate.{testedBy}
 use Rattle.rules.specs.Replan.{byLatestStart, placeAll, latest, round, roundsFrom, byLines}
 use Rattle.rules.specs.Judgement.{judged}
 use Rattle.rules.specs.Calls.{settings, State, refused, committed, opening, preview, commit, run, previewing, committing, moving, offering, replanningLatest, replanningLines, enquiring}
@@ -13,6 +14,7 @@ use Rattle.rules.specs.CasesAtEdges.{casesAtEdges}
 use Rattle.rules.specs.CasesInAHurry.{casesInAHurry}
 use Rattle.rules.specs.CasesPreviewed.{casesPreviewed}
 use Rattle.rules.specs.CasesOfTwoRates.{casesOfTwoRates}
+use Rattle.rules.specs.CasesOnBusyEvenings.{testedIn, casesOnBusyEvenings}
 
 abbrev pub cases : List Case
 cases = casesAToL ++ casesAtEdges ++ casesInAHurry ++ casesPreviewed ++ casesOfTwoRates
@@ -20,6 +22,11 @@ cases = casesAToL ++ casesAtEdges ++ casesInAHurry ++ casesPreviewed ++ casesOfT
 pub cases-hold : map computed cases ≡ cases
 unfolding limited balanced sound earliest earliestUnder firstUnbalanced placeAll latest round roundsFrom byLines judged opening previewing committing moving offering replanningLatest replanningLines enquiring
 cases-hold = refl
+
+-- the test of a candidate start, of which no call shows the number of minutes
+pub candidates-hold : map testedIn casesOnBusyEvenings ≡ casesOnBusyEvenings
+unfolding limited balanced testedBy
+candidates-hold = refl
 
 -- the station of case g before its replan
 abbrev stateG : State
