@@ -1,97 +1,80 @@
+-- `search::candidate::test_start` meets its contract. The invariant: every minute before t passes, and t lies in step i.
+use Prim.Native.Nat.{_+_, _-_}
+use mathlib.Core.Path.{refl}
+use native.Mathlib.Omega.{arith}
+use borrow.Author.Needs.{needs}
+use borrow.Author.Tests.{not-true, not-false}
+use Rattle.profile.specs.Shows.{profileOf}
+use Rattle.profile.proofs.Lines.{line-one, line-two, line-three}
+use Rattle.search.proofs.Candidates.{Testing, test-begin, test-inside, test-small, test-passes, test-stops, test-on}
 use Rattle.search.proofs.candidate.test_start.Statement.{statement}
 use Rattle.search.proofs.candidate.test_start.Tie as tie
-use Rattle.search.proofs.candidate.test_start.Reads as reads
-use Rattle.search.proofs.candidate.test_start.Lts as lts
-use Rattle.profile.proofs.counts.count_of.Reads as count-of-reads
-use Rattle.search.proofs.room.share_of.Reads as share-of-reads
-use Rattle.search.proofs.room.sound.Reads as sound-reads
-use Rattle.search.proofs.walk.end_of.Reads as end-of-reads
 
 abbrev Inv-loop : tie.InvT-loop
-Inv-loop at counts n limits draw start step a b c until i₀ t₀ i t = ?
+Inv-loop at counts n limits draw start step a b c until i₀ t₀ i t = Testing (profileOf n at counts) limits draw start (start + draw .time) i t
 
 abbrev μ-loop : tie.MeasureT-loop
-μ-loop at counts n limits draw start step a b c until i₀ t₀ i t = ?
+μ-loop at counts n limits draw start step a b c until i₀ t₀ i t = n - i
 
--- src/candidate.rt:46:9
 share-of-requires : tie.Need-share-of-requires Inv-loop μ-loop
-share-of-requires c κs = ?
+share-of-requires c κs = search needs
 
--- src/candidate.rt:47:9
 share-of-requires-2 : tie.Need-share-of-requires-2 Inv-loop μ-loop
-share-of-requires-2 c κs = ?
+share-of-requires-2 c κs = search needs
 
--- src/candidate.rt:48:9
 share-of-requires-3 : tie.Need-share-of-requires-3 Inv-loop μ-loop
-share-of-requires-3 c κs = ?
+share-of-requires-3 c κs = search needs
 
--- src/candidate.rt:49:17
 add-until : tie.Need-add-until Inv-loop μ-loop
-add-until c = ?
+add-until c = omega (arith, c .before .before .before .before .pre .ends-fit)
 
--- src/candidate.rt:52:5
 loop-holds : tie.Need-loop-holds Inv-loop μ-loop
-loop-holds c = ?
+loop-holds c = test-begin _ (c .before .before .before .before .pre)
 
--- src/candidate.rt:53:17
 count-of-requires : tie.Need-count-of-requires Inv-loop μ-loop
-count-of-requires c κs = ?
+count-of-requires c κs = (omega (arith, test-inside (c .before .before .before .before .before .before .pre) refl (c .before .loop .inv) (omega (arith, c .loop-test .taken))), record { low = omega arith; high = omega arith })
 
--- src/candidate.rt:53:17
 add-x : tie.Need-add-x Inv-loop μ-loop
-add-x c = ?
+add-x c = omega (arith, test-small (c .before .before .before .before .before .before .before .pre) refl (c .before .before .loop .inv) (omega (arith, c .before .loop-test .taken)) 1 line-one, c .count-of .ensures, c .before .before .before .before .before .before .share-of .ensures .1, c .before .before .before .before .before .before .before .pre .is-rate .high)
 
--- src/candidate.rt:54:17
 count-of-requires-2 : tie.Need-count-of-requires-2 Inv-loop μ-loop
-count-of-requires-2 c κs = ?
+count-of-requires-2 c κs = (omega (arith, test-inside (c .before .before .before .before .before .before .before .pre) refl (c .before .before .loop .inv) (omega (arith, c .before .loop-test .taken))), record { low = omega arith; high = omega arith })
 
--- src/candidate.rt:54:17
 add-y : tie.Need-add-y Inv-loop μ-loop
-add-y c = ?
+add-y c = omega (arith, test-small (c .before .before .before .before .before .before .before .before .pre) refl (c .before .before .before .loop .inv) (omega (arith, c .before .before .loop-test .taken)) 2 line-two, c .count-of2 .ensures, c .before .before .before .before .before .before .share-of2 .ensures .1, c .before .before .before .before .before .before .before .before .pre .is-rate .high)
 
--- src/candidate.rt:55:17
 count-of-requires-3 : tie.Need-count-of-requires-3 Inv-loop μ-loop
-count-of-requires-3 c κs = ?
+count-of-requires-3 c κs = (omega (arith, test-inside (c .before .before .before .before .before .before .before .before .pre) refl (c .before .before .before .loop .inv) (omega (arith, c .before .before .loop-test .taken))), record { low = omega arith; high = omega arith })
 
--- src/candidate.rt:55:17
 add-z : tie.Need-add-z Inv-loop μ-loop
-add-z c = ?
+add-z c = omega (arith, test-small (c .before .before .before .before .before .before .before .before .before .pre) refl (c .before .before .before .before .loop .inv) (omega (arith, c .before .before .before .loop-test .taken)) 3 line-three, c .count-of3 .ensures, c .before .before .before .before .before .before .share-of3 .ensures .1, c .before .before .before .before .before .before .before .before .before .pre .is-rate .high)
 
--- src/candidate.rt:56:13
 sound-requires : tie.Need-sound-requires Inv-loop μ-loop
-sound-requires c κs = ?
+sound-requires c κs = search needs
 
--- src/candidate.rt:59:25
 sub-t20 : tie.Need-sub-t20 Inv-loop μ-loop
-sub-t20 c = ?
+sub-t20 c = omega (arith, test-inside (c .before .before .before .before .before .before .before .before .before .before .before .pre) refl (c .before .before .before .before .before .before .loop .inv) (omega (arith, c .before .before .before .before .before .loop-test .taken)))
 
--- src/candidate.rt:59:25
 add-t21 : tie.Need-add-t21 Inv-loop μ-loop
-add-t21 c = ?
+add-t21 c = omega (arith, test-inside (c .before .before .before .before .before .before .before .before .before .before .before .pre) refl (c .before .before .before .before .before .before .loop .inv) (omega (arith, c .before .before .before .before .before .loop-test .taken)), c .before .before .before .before .before .before .before .before .before .before .before .pre .ends-fit)
 
--- src/candidate.rt:57:13
 returns : tie.Need-returns Inv-loop μ-loop
-returns c = ?
+returns c = test-stops (c .before .before .before .before .before .before .before .before .before .before .before .pre) refl (c .before .before .before .before .before .before .loop .inv) (omega (arith, c .before .before .before .before .before .loop-test .taken)) (omega (arith, c .before .before .before .before .count-of .ensures, c .before .before .before .before .before .before .before .before .before .before .share-of .ensures .0)) (omega (arith, c .before .before .before .count-of2 .ensures, c .before .before .before .before .before .before .before .before .before .share-of2 .ensures .0)) (omega (arith, c .before .before .count-of3 .ensures, c .before .before .before .before .before .before .before .before .share-of3 .ensures .0)) (c .before .sound .ensures) (not-true _ (c .if1 .taken)) (omega arith)
 
--- src/candidate.rt:63:9
 end-of-requires : tie.Need-end-of-requires Inv-loop μ-loop
-end-of-requires c κs = ?
+end-of-requires c κs = let h = test-inside (c .before .before .before .before .before .before .before .before .before .before .before .pre) refl (c .before .before .before .before .before .before .loop .inv) (omega (arith, c .before .before .before .before .before .loop-test .taken)) in (h .0, h .1)
 
--- src/candidate.rt:64:9
 add-i : tie.Need-add-i Inv-loop μ-loop
-add-i c = ?
+add-i c = omega (arith, test-inside (c .before .before .before .before .before .before .before .before .before .before .before .before .pre) refl (c .before .before .before .before .before .before .before .loop .inv) (omega (arith, c .before .before .before .before .before .before .loop-test .taken)))
 
--- src/candidate.rt:52:5
 loop-less : tie.Need-loop-less Inv-loop μ-loop
-loop-less c = ?
+loop-less c = omega (arith, test-inside (c .before .before .before .before .before .before .before .before .before .before .before .before .pre) refl (c .before .before .before .before .before .before .before .loop .inv) (omega (arith, c .before .before .before .before .before .before .loop-test .taken)))
 
--- src/candidate.rt:52:5
 loop-again : tie.Need-loop-again Inv-loop μ-loop
-loop-again c = ?
+loop-again c = test-on (c .before .before .before .before .before .before .before .before .before .before .before .before .pre) refl (c .before .before .before .before .before .before .before .loop .inv) (omega (arith, c .before .before .before .before .before .before .loop-test .taken)) (omega (arith, c .before .before .before .before .before .count-of .ensures, c .before .before .before .before .before .before .before .before .before .before .before .share-of .ensures .0)) (omega (arith, c .before .before .before .before .count-of2 .ensures, c .before .before .before .before .before .before .before .before .before .before .share-of2 .ensures .0)) (omega (arith, c .before .before .before .count-of3 .ensures, c .before .before .before .before .before .before .before .before .before .share-of3 .ensures .0)) (c .before .before .sound .ensures) (not-false _ (c .before .if1 .left)) (c .end-of .ensures)
 
--- src/candidate.rt:34:1
 returns-2 : tie.Need-returns-2 Inv-loop μ-loop
-returns-2 c = ?
+returns-2 c = test-passes (c .before .before .before .before .before .before .pre) refl (c .before .loop .inv) (omega (arith, c .loop-test .left)) (omega arith)
 
 pub test-start-spec : {M : Type 1} → statement M
 test-start-spec =
