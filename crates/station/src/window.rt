@@ -18,9 +18,6 @@ ghost use Rattle.profile.specs.Shows.{profileOf};
 ghost use Rattle.station.specs.View.{view, Valid};
 ghost use Rattle.station.specs.Windows.{CanAddStarted, StartedAdded, Fits};
 
-// So many times as far as it reached from the clock a window goes on where it has shown no start.
-const WIDER: u32 = 3;
-
 // Whether a start is not before `low` and before `high`.
 fn is_between(low: u32, high: u32, start: u32) -> bool
     ensures { λ r. ⌜ r ≡ (leb low start && ltb start high) ⌝ }
@@ -55,7 +52,8 @@ fn add_started(
 
 impl Station {
     // The smallest start with which the held plan and what is drawn are sound together. The first window ends with a charge
-    // that starts at the clock; a window that shows no start is widened by the charges that begin in what is added to it.
+    // that starts at the clock. Where it shows no start, the charges that begin in the next are added, which reaches at least
+    // twice as far.
     pub fn earliest_start(self, draw: Draw) -> u32
         requires { ⌜ Valid self × Fits self draw ⌝ }
         ensures { λ r. ⌜ startFor (view self) (drawOf draw) ≡ found r ⌝ }
@@ -79,7 +77,7 @@ impl Station {
                 return start;
             }
             low = until;
-            until = start + draw.time + WIDER * (until - clock);
+            until = start + draw.time + (until - clock);
         }
     }
 }

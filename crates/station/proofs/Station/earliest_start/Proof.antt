@@ -53,10 +53,6 @@ sub-until : tie.Need-sub-until Inv-loop μ-loop
 sub-until c =
     omega (arith, seeking-most (c .before .before .before .before .before .before .before .before .before .before .before .before .before .before .pre .0) (c .before .before .before .before .before .before .before .before .before .before .before .before .before .before .pre .1) (c .before .before .before .before .before .before .before .before .before .loop .inv) (c .before .before .before .before .before .before .add-started .ensures) (c .before .before .before .first-fitting .ensures), last-held _ (c .before .before .before .before .before .before .before .before .before .before .before .before .before .before .pre .0), c .before .before .before .before .before .before .before .before .before .before .before .before .before .before .pre .0 .state .clock-high, c .before .before .before .before .before .before .before .before .before .before .before .before .before .before .pre .1 .time-most, c .before .if1 .left, c .before .before .before .before .before .before .before .before .before .loop .inv .wide, c .before .before .before .before .before .before .before .before .before .loop .inv .from)
 
-mul-until : tie.Need-mul-until Inv-loop μ-loop
-mul-until c =
-    omega (arith, seeking-most (c .before .before .before .before .before .before .before .before .before .before .before .before .before .before .pre .0) (c .before .before .before .before .before .before .before .before .before .before .before .before .before .before .pre .1) (c .before .before .before .before .before .before .before .before .before .loop .inv) (c .before .before .before .before .before .before .add-started .ensures) (c .before .before .before .first-fitting .ensures), last-held _ (c .before .before .before .before .before .before .before .before .before .before .before .before .before .before .pre .0), c .before .before .before .before .before .before .before .before .before .before .before .before .before .before .pre .0 .state .clock-high, c .before .before .before .before .before .before .before .before .before .before .before .before .before .before .pre .1 .time-most, c .before .if1 .left, c .before .before .before .before .before .before .before .before .before .loop .inv .wide, c .before .before .before .before .before .before .before .before .before .loop .inv .from)
-
 add-until-3 : tie.Need-add-until-3 Inv-loop μ-loop
 add-until-3 c =
     omega (arith, seeking-most (c .before .before .before .before .before .before .before .before .before .before .before .before .before .before .pre .0) (c .before .before .before .before .before .before .before .before .before .before .before .before .before .before .pre .1) (c .before .before .before .before .before .before .before .before .before .loop .inv) (c .before .before .before .before .before .before .add-started .ensures) (c .before .before .before .first-fitting .ensures), last-held _ (c .before .before .before .before .before .before .before .before .before .before .before .before .before .before .pre .0), c .before .before .before .before .before .before .before .before .before .before .before .before .before .before .pre .0 .state .clock-high, c .before .before .before .before .before .before .before .before .before .before .before .before .before .before .pre .1 .time-most, c .before .if1 .left, c .before .before .before .before .before .before .before .before .before .loop .inv .wide, c .before .before .before .before .before .before .before .before .before .loop .inv .from)
@@ -84,7 +80,6 @@ earliest-start-spec =
     returns
     add-until-2
     sub-until
-    mul-until
     add-until-3
     loop-less
     loop-again)
