@@ -95,15 +95,16 @@ module _ {p : Profile} {y : Limits} {a : Draw} {start step i t until : ℕ} (can
         last = omega (arith, w .low)
 
     -- it goes on with the next step
-    pub test-on : {end : ℕ} → r ≡ true → End (p .at) (p .steps) i until end → Testing p y a start until (i + 1) end
-    test-on {end} g q =
-        record {
+    pub test-on : {end u : ℕ} → r ≡ true → End (p .at) (p .steps) i until end → u ≡ end → Testing p y a start until (i + 1) u
+    test-on {end} g q same =
+        rw same
+        (record {
           low = ⊎-elim (λ c. absurd (back c)) (λ c. omega (arith, w .low)) (below-or-not end t);
           here = λ c.
               let k = q .next c in
               subst (λ (x : ℕ). In (p .at) (p .steps) (i + 1) x) (sym (k .1)) (at-step (p .at) (p .steps) (i + 1) (can .formed .rises) (k .0));
           passed = λ u c d. ⊎-elim (λ b. w .passed u c b) (λ b. here-is g u (within u b d)) (below-or-not u t);
-        }
+        })
       where
         within : (u : ℕ) → t ≤ u → u < end → In (p .at) (p .steps) i u
         within u b d = in-more u (can .formed .rises) (w .here more) b (λ h. omega (arith, q .within h))

@@ -17,7 +17,6 @@ use Rattle.station.specs.declared.Station.{Station}
 use Rattle.station.specs.declared.order.PreviewAnswer.{PreviewAnswer}
 use Rattle.station.specs.declared.order.PreviewAnswer.the-variants.{Previewed}
 use Rattle.station.specs.View.{view}
-use Rattle.station.specs.Windows.{Fits}
 use Rattle.station.specs.Answers.{giving, previewAnswer}
 use Rattle.station.proofs.Refusing.{call-refused, call-granted}
 
@@ -43,17 +42,6 @@ orderable s line time due rate e =
       within-bound = g .within-bound;
       room = omega (arith, g .room, length-tabulate (chargeAt (s .charges)) (s .charges .held) 0);
       tickets-left = g .ticket-left;
-    }
-
--- what a search for its start asks
-pub order-fits : {s : Station} {line time due rate : ℕ} → Orderable s line time due rate → Fits s (record { line = line; time = time; rate = rate })
-order-fits g =
-    record {
-      some = g .some;
-      time-most = g .time-most;
-      is-rate = g .is-rate;
-      within-limit = g .within-limit;
-      within-bound = g .within-bound;
     }
 
 -- What is answered

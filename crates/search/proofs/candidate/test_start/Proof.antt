@@ -71,7 +71,7 @@ loop-less : tie.Need-loop-less Inv-loop μ-loop
 loop-less c = omega (arith, test-inside (c .before .before .before .before .before .before .before .before .before .before .before .before .pre) refl (c .before .before .before .before .before .before .before .loop .inv) (omega (arith, c .before .before .before .before .before .before .loop-test .taken)))
 
 loop-again : tie.Need-loop-again Inv-loop μ-loop
-loop-again c = test-on (c .before .before .before .before .before .before .before .before .before .before .before .before .pre) refl (c .before .before .before .before .before .before .before .loop .inv) (omega (arith, c .before .before .before .before .before .before .loop-test .taken)) (omega (arith, c .before .before .before .before .before .count-of .ensures, c .before .before .before .before .before .before .before .before .before .before .before .share-of .ensures .0)) (omega (arith, c .before .before .before .before .count-of2 .ensures, c .before .before .before .before .before .before .before .before .before .before .share-of2 .ensures .0)) (omega (arith, c .before .before .before .count-of3 .ensures, c .before .before .before .before .before .before .before .before .before .share-of3 .ensures .0)) (c .before .before .sound .ensures) (not-false _ (c .before .if1 .left)) (c .end-of .ensures)
+loop-again c = test-on (c .before .before .before .before .before .before .before .before .before .before .before .before .pre) refl (c .before .before .before .before .before .before .before .loop .inv) (omega (arith, c .before .before .before .before .before .before .loop-test .taken)) (omega (arith, c .before .before .before .before .before .count-of .ensures, c .before .before .before .before .before .before .before .before .before .before .before .share-of .ensures .0)) (omega (arith, c .before .before .before .before .count-of2 .ensures, c .before .before .before .before .before .before .before .before .before .before .share-of2 .ensures .0)) (omega (arith, c .before .before .before .count-of3 .ensures, c .before .before .before .before .before .before .before .before .before .share-of3 .ensures .0)) (c .before .before .sound .ensures) (not-false _ (c .before .if1 .left)) (c .end-of .ensures) (omega arith)
 
 returns-2 : tie.Need-returns-2 Inv-loop μ-loop
 returns-2 c = test-passes (c .before .before .before .before .before .before .pre) refl (c .before .loop .inv) (omega (arith, c .loop-test .left)) (omega arith)

@@ -4,7 +4,7 @@ use Rattle.rules.specs.Basics.{at}
 use Rattle.rules.specs.Calls.{preview}
 use Rattle.rules.proofs.Granted.{refusals-none}
 use Rattle.station.specs.View.{view}
-use Rattle.station.proofs.Ordered.{Orderable, orderable, order-fits, shown-refused, shown-found}
+use Rattle.station.proofs.Ordered.{Orderable, orderable, shown-refused, shown-found}
 use borrow.Author.Needs.{needs}
 use Rattle.station.proofs.Station.start_for.Statement.{statement}
 use Rattle.station.proofs.Station.start_for.Tie as tie
@@ -30,7 +30,17 @@ module _ (c : tie.Else1) where
       (refusals-none (view (s .args .self)) (preview (s .args .line) (s .args .time) (s .args .due) (s .args .rate)) (sym (c .before .order-refusal .ensures) ∙ none))
 
 earliest-start-requires : tie.Need-earliest-start-requires
-earliest-start-requires c κs = (c .before .before .pre, order-fits (granted c))
+earliest-start-requires c κs =
+    let g = granted c in (
+      c .before .before .pre,
+      record {
+        some = g .some;
+        time-most = g .time-most;
+        is-rate = g .is-rate;
+        within-limit = g .within-limit;
+        within-bound = g .within-bound;
+      },
+    )
 
 returns-2 : tie.Need-returns-2
 returns-2 c =
