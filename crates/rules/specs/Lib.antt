@@ -6,8 +6,6 @@ pub mod Candidate
 pub mod Replan
 pub mod Judgement
 pub mod Calls
-pub mod Earlier
-pub mod Unrated
 pub mod Valid
 pub mod Entry
 pub mod CasesAToL
