@@ -161,7 +161,6 @@ fn demand_3_finds_what_it_should() {
         Error::NumbersShrink,
         Error::LatestStartBeforeWeight,
         Error::ChargeChosenFirst,
-        Error::CandidateSkipped,
     ];
     let unsound = [
         Error::BalanceOnlyAtTheStart,
