@@ -5,11 +5,12 @@ use mathlib.Core.List.{List, [], _∷_, _++_, map}
 use Rattle.rules.specs.Entry.{lentList}
 use Rattle.rules.specs.Calls.{settings, State, Call, preview, commit, move, offer, replanLatest, opening, step}
 use Rattle.guarantee.specs.Past.{Gives}
+use Rattle.excluded.specs.Same.{sameState}
 use Rattle.excluded.specs.WrongOrders.{ownLineOnly, neighboursOnly, limitIgnored, chargesCounted, ratesInLimitOnly, fixedStart, previewTakesTicket, shownBeforeTaken, ticketSkipped}
 use Rattle.excluded.specs.WrongMoves.{startAtClockLeftOut, firstReportOnly, reportedTwice, startAtTargetReported, nobodyReported, slowClock, droppedEarly, droppedLate, neverDropped, shownLate, shownBegun, shownEarly}
 use Rattle.excluded.specs.WrongPlans.{untested, rateLost, begunMoved}
 use Rattle.excluded.specs.FieldsThree.{Field, limit, balance, tickets, not-early, in-time, reported, not-reported, waits, charges, finished, no-other, unmoved, fields, place, Holds}
-use Rattle.excluded.specs.Breaks.{Entry, computedBy, onlyOf}
+use Rattle.excluded.specs.Breaks.{Entry, agreesBy, onlyOf}
 use Rattle.excluded.specs.TestsThree.{tested}
 
 -- a station, its first state and the calls made to it
@@ -27,10 +28,10 @@ testOf r f = tested (r .gives) (r .first) (r .calls) f
 abbrev pub Breach : Type 0
 Breach = Entry Trial Field
 
-abbrev pub computed : Breach → Breach
-computed = computedBy testOf fields
+abbrev pub agrees : Breach → Bool
+agrees = agreesBy testOf
 
-abbrev only : Gives → State → List Call → List Field → Breach
+abbrev pub only : Gives → State → List Call → List Field → Breach
 only gives s calls broken = onlyOf place fields (record { gives = gives; first = s; calls = calls }) broken
 
 -- the station of 1, 100 and that of 2, 50, both with D = 1
@@ -96,6 +97,13 @@ wrongEntries =
     ∷ only shownEarly one (single ∷ from 1 10 ∷ to 9 ∷ to 11 ∷ []) (unmoved ∷ [])
     ∷ []
 
+-- an opening with its own N and c leads to this station
+abbrev pub isOpened : State → Bool
+isOpened s = sameState (opening (settings (s .limit) (s .percent)) .state) s
+
 -- and the rules themselves on the same calls, where nothing breaks
+abbrev pub byRules : Breach → Breach
+byRules e = only step (e .thing .first) (e .thing .calls) []
+
 abbrev pub entries : List Breach
-entries = wrongEntries ++ map (λ e. only step (e .thing .first) (e .thing .calls) []) wrongEntries
+entries = wrongEntries ++ map byRules wrongEntries

@@ -70,7 +70,7 @@ returns-3 c =
     call-gives (s .args .self) (commit (s .args .line) (s .args .time) (s .args .due) (s .args .rate) (s .args .shown)) _
     (committedStation (s .args .self) (c .push .result)) _ (s .pre) (c .push .ensures .columns)
     (call-committed (s .args .self) (s .args .line) (s .args .time) (s .args .due) (s .args .rate) _ (s .args .shown) (c .push .result)
-    (free f) (found f) (omega (arith, c .before .before .if1 .left)) (c .push .ensures))
+    (free f) (found f) (omega (arith, c .before .before .if1 .left)) (c .push .ensures) (search))
 
 pub commit-spec : {M : Type 1} → statement M
 commit-spec =
