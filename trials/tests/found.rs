@@ -11,7 +11,7 @@ use trials::script::Line;
 use trials::{demand, generate, script};
 
 /// With the kind of scripts that finds them, and how many lines are left at most.
-const FAULTY: [(&str, usize, &[Error]); 8] = [
+const FAULTY: [(&str, usize, &[Error]); 9] = [
     (
         "leaning",
         13,
@@ -102,6 +102,11 @@ const FAULTY: [(&str, usize, &[Error]); 8] = [
             Error::TableTooLong,
         ],
     ),
+    (
+        "searches",
+        15,
+        &[Error::StartAndLastMinuteOnly, Error::CandidateSkipped, Error::WindowNotWidened],
+    ),
 ];
 
 fn choice(kind: &str, scripts: u64) -> Choice<'_> {
@@ -171,6 +176,8 @@ fn demand_3_finds_what_it_should() {
         Error::RateAgainstTheLimitOnly,
         Error::RateLostByAPlan,
         Error::RateNotShown,
+        Error::StartAndLastMinuteOnly,
+        Error::WindowNotWidened,
     ];
     let breaks = |lines: &[Line], error: Error| {
         demand::check(lines, &script::answers_of(Faulty::new(error), lines)).is_err()

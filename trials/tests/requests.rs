@@ -180,3 +180,16 @@ fn tables_with_other_numbers() {
                 commit 3 1153 2689 1 1527\ncommit 3 1393 3072 1 2680\nlines 1\nenquire 1";
     caught(Error::TableTooLong, text, "waiting 1153 1", "waiting 0 1");
 }
+
+/// N6. Ticket 1 leaves line 1 three ahead in minute 1, between the first and the last minute
+/// of the candidate 0; right behind a failing minute there is room; and ticket 2 starts
+/// behind the first minute of the third one.
+#[test]
+fn candidates_tested_otherwise() {
+    let text = "open 3 50\ncommit 1 2 0 2 0\ncommit 3 1 0 1 0\ncommit 2 1 0 1 0\npreview 1 3 0 1";
+    caught(Error::StartAndLastMinuteOnly, text, "start 2", "start 0");
+    let text = "open 1 100\ncommit 1 1 0 1 0\npreview 1 1 0 1";
+    caught(Error::CandidateSkipped, text, "start 1", "start 2");
+    let text = "open 1 100\ncommit 1 1 0 1 0\ncommit 1 1 0 1 1\npreview 1 1 0 1";
+    caught(Error::WindowNotWidened, text, "start 2", "start 1");
+}

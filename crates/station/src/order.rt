@@ -1,14 +1,21 @@
 // An order, which is previewed and committed: the smallest start with which the held plan and the new charge are sound together.
 use crate::Station;
-use planner::begun::profile_before;
-use profile::When;
-use search::start::earliest;
+use crate::window::add_started;
+use profile::Profile;
+use search::candidate::Draw;
+use search::candidate::Limits;
+use search::candidate::first_fitting;
 ghost use mathlib.Core.Path.{_≡_};
 ghost use mathlib.Core.List.{[]};
-ghost use Rattle.rules.specs.Basics.{firstOf};
-ghost use Rattle.rules.specs.Calls.{orderRefusals, preview as previewCall, commit as commitCall, step};
+ghost use Rattle.rules.specs.Basics.{at as found, firstOf};
+ghost use Rattle.rules.specs.Calls.{startFor, orderRefusals, preview as previewCall, commit as commitCall, step};
+ghost use Rattle.search.specs.Candidates.{drawOf};
 ghost use Rattle.station.specs.View.{view, Valid};
+ghost use Rattle.station.specs.Windows.{Fits};
 ghost use Rattle.station.specs.Answers.{Gives, previewAnswer, commitAnswer};
+
+// So many minutes more than twice as far as the last one a window reaches.
+const WIDER: u32 = 240;
 
 pub enum PreviewAnswer {
     Previewed(u32),
@@ -72,8 +79,37 @@ impl Station {
         0
     }
 
-    // The one search of both calls: the first refusal of an order, or its start. A sound plan always leaves a start for a rate
-    // that is above neither N nor D, so the second refusal is never given.
+    // The smallest start with which the held plan and what is drawn are sound together. The first window ends with a charge
+    // that starts at the clock. Where it shows no start, the charges that begin in the next one are added, which reaches more
+    // than twice as far.
+    fn earliest_start(self, draw: Draw) -> u32
+        requires { ⌜ Valid self × Fits self draw ⌝ }
+        ensures { λ r. ⌜ startFor (view self) (drawOf draw) ≡ found r ⌝ }
+    {
+        let clock = self.clock;
+        let limits = Limits {
+            limit: self.limit,
+            bound: self.bound,
+        };
+        let empty = Profile::new(clock);
+        let mut steps = empty.steps;
+        let mut at = empty.at;
+        let mut counts = empty.counts;
+        let mut start = clock;
+        let mut low = 0;
+        let mut until = clock + draw.time;
+        loop {
+            steps = add_started(&mut at, &mut counts, steps, self.charges, low, until);
+            start = first_fitting(&at, &counts, steps, limits, draw, start, until);
+            if start + draw.time <= until {
+                return start;
+            }
+            low = until;
+            until = start + draw.time + (until - clock) + WIDER;
+        }
+    }
+
+    // The one search of both calls: the first refusal of an order, or its start.
     fn start_for(self, line: u32, time: u32, due: u32, rate: u32) -> PreviewAnswer
         requires { ⌜ Valid self ⌝ }
         ensures { λ r. ⌜ previewAnswer r ≡ step (view self) (previewCall line time due rate) .answer ⌝ }
@@ -82,24 +118,8 @@ impl Station {
         if 0 < refusal {
             return PreviewAnswer::Refused(refusal);
         }
-        let held = self.charges;
-        // No start is as late as that: all held charges are in the profile.
-        let profile = profile_before(held, self.clock, 4294967295);
-        let steps = profile.steps;
-        let found = earliest(
-            &profile.at,
-            &profile.counts,
-            steps,
-            self.limit,
-            self.bound,
-            line,
-            time,
-            rate,
-        );
-        let When::Minute(start) = found else {
-            return PreviewAnswer::Refused(0);
-        };
-        PreviewAnswer::Previewed(start)
+        let draw = Draw { line, time, rate };
+        PreviewAnswer::Previewed(self.earliest_start(draw))
     }
 
     // The station stays as it is.

@@ -126,13 +126,24 @@ pub fn typical_offer(held: usize) -> Measured {
     Measured::kept(first, write_call(&Call::Offer { starts }).into_bytes())
 }
 
-pub fn worst_commit() -> Measured {
-    Measured::last_commits(states::dense(150).0, states::behind_dense(30))
+/// The last sixth of so many commits.
+pub fn worst_commit(held: usize) -> Measured {
+    let last = held / 6;
+    Measured::last_commits(states::dense(held - last).0, states::behind_dense(last as u32))
 }
 
 /// Unlike a commit it can be asked for again on the same full plan.
-pub fn worst_preview() -> Measured {
-    Measured::repeatable(states::dense(179).0, states::preview_behind_dense())
+pub fn worst_preview(held: usize) -> Measured {
+    Measured::repeatable(states::dense(held - 1).0, states::preview_behind_dense())
+}
+
+pub fn typical_preview(held: usize) -> Measured {
+    Measured::repeatable(states::lasting(held - 1), states::preview_at_once())
+}
+
+/// A preview that finds room at once, before all charges held but the first.
+pub fn preview_before_all(held: usize) -> Measured {
+    Measured::repeatable(states::behind(held - 1), states::preview_at_once())
 }
 
 pub fn worst_latest() -> Measured {
@@ -157,7 +168,8 @@ mod tests {
 
     #[test]
     fn scripts_differ_by_the_calls() {
-        for measured in [typical_commit(18), worst_commit(), worst_preview(), typical_latest(18)] {
+        let orders = [typical_commit(18), worst_commit(180), worst_commit(20), worst_preview(180)];
+        for measured in orders.into_iter().chain([typical_latest(18)]) {
             let [with, without] = measured.scripts(4);
             assert_eq!(with.len() - without.len(), 4 * measured.calls);
         }
@@ -177,10 +189,28 @@ mod tests {
     /// Nothing that is measured ends with a refusal.
     #[test]
     fn commits_and_previews_that_are_answered() {
-        for measured in [typical_commit(180), worst_commit(), worst_preview()] {
-            let answers = answers_of(Station::fresh(1, 100), &measured.scripts(2)[0]);
-            let refused = answers.iter().find(|answer| answer.starts_with(b"refused"));
-            assert_eq!(refused.map(|answer| show(answer)), None);
+        for held in [20, 60, 120, 180] {
+            let commits = [typical_commit(held), worst_commit(held)];
+            let previews = [typical_preview(held), worst_preview(held), preview_before_all(held)];
+            for measured in commits.into_iter().chain(previews) {
+                let answers = answers_of(Station::fresh(1, 100), &measured.scripts(2)[0]);
+                let refused = answers.iter().find(|answer| answer.starts_with(b"refused"));
+                assert_eq!(refused.map(|answer| show(answer)), None);
+            }
+        }
+    }
+
+    #[test]
+    fn previews_that_find_room_at_once_or_behind_all() {
+        for held in [20, 60, 120, 180] {
+            let last = |measured: Measured| {
+                let answers = answers_of(Station::fresh(1, 100), &measured.scripts(1)[0]);
+                answers.last().map(|answer| show(answer))
+            };
+            for measured in [typical_preview(held), preview_before_all(held)] {
+                assert_eq!(last(measured), Some("start 0".to_string()));
+            }
+            assert_eq!(last(worst_preview(held)), Some("start 2880".to_string()));
         }
     }
 

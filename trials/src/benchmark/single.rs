@@ -5,6 +5,8 @@ use super::pair::Pair;
 use super::table::Table;
 
 const HELD: usize = 180;
+/// Charges held, for orders and for replans.
+const ORDERED: [usize; 4] = [20, 60, 120, 180];
 const GROWING: [usize; 5] = [20, 60, 100, 140, 180];
 
 fn row(table: &mut Table, title: &str, cost: &Cost, parts: f64) {
@@ -31,8 +33,9 @@ fn rows(table: &mut Table, title: &str, measured: &Measured, pair: &Pair) -> Res
 pub fn print(pair: &Pair) -> Result<(), String> {
     let measured = [
         ("commit, room at once", calls::typical_commit(HELD)),
-        ("commit, through all steps", calls::worst_commit()),
-        ("preview, through all steps", calls::worst_preview()),
+        ("commit, through all steps", calls::worst_commit(HELD)),
+        ("preview, room at once", calls::typical_preview(HELD)),
+        ("preview, through all steps", calls::worst_preview(HELD)),
         ("offer, typical", calls::typical_offer(HELD)),
         ("offer, worst", calls::worst_offer()),
         ("replan by latest start, typical", calls::typical_latest(HELD)),
@@ -51,21 +54,37 @@ pub fn print(pair: &Pair) -> Result<(), String> {
     Ok(())
 }
 
-pub fn print_growth(pair: &Pair) -> Result<(), String> {
-    let titles = ["commit", "replan by latest start", "replan by lines, one round"];
-    for (title, call) in titles.iter().enumerate() {
+/// A call by the number of charges held.
+type Growing = (&'static str, fn(usize) -> Measured);
+
+const ORDERS: [Growing; 5] = [
+    ("preview, room at once", calls::typical_preview),
+    ("preview, room at once, all charges but one behind it", calls::preview_before_all),
+    ("preview, through all steps", calls::worst_preview),
+    ("commit, room at once", calls::typical_commit),
+    ("commit, through all steps", calls::worst_commit),
+];
+
+const REPLANS: [Growing; 2] = [
+    ("replan by latest start", calls::typical_latest),
+    ("replan by lines, one round", calls::typical_lines),
+];
+
+fn print_growing(calls: &[Growing], numbers: &[usize], pair: &Pair) -> Result<(), String> {
+    for (title, call) in calls {
         let mut table = Table::new(&["charges held", "program µs", "Rust µs", "ratio"]);
-        for held in GROWING {
-            let measured = match title {
-                0 => calls::typical_commit(held),
-                1 => calls::typical_latest(held),
-                _ => calls::typical_lines(held),
-            };
+        for held in numbers {
+            let measured = call(*held);
             let parts = measured.rounds.max(1) as f64;
             row(&mut table, &held.to_string(), &measured.cost(pair)?, parts);
         }
-        println!("{call}:\n");
+        println!("{title}:\n");
         table.print();
     }
     Ok(())
+}
+
+pub fn print_growth(pair: &Pair) -> Result<(), String> {
+    print_growing(&ORDERS, &ORDERED, pair)?;
+    print_growing(&REPLANS, &GROWING, pair)
 }

@@ -71,6 +71,19 @@ pub fn lasting(held: usize) -> Vec<Line> {
     filled(lines)
 }
 
+/// An order that finds a point of line 3 free at once, and takes it for a minute.
+pub fn preview_at_once() -> Line {
+    line(&Call::Preview { order: Order { line: 3, time: 1, due: 1, rate: 1 } })
+}
+
+/// Charges on one point of line 1, one behind the other, all but the first of which start
+/// behind the minute of `preview_at_once`.
+pub fn behind(held: usize) -> Vec<Line> {
+    let mut lines = vec![line(&Call::Open { limit: 1, percent: 100 })];
+    lines.extend((0..held).map(|_| order(1, 10, LOOSE)));
+    filled(lines)
+}
+
 /// Each minute an order that starts at once and is gone a minute later; or the same
 /// minutes without the orders.
 pub fn passing(orders: bool) -> Vec<Line> {

@@ -4,6 +4,7 @@
 //! the method.
 //!
 //! - `profile`: the counts as a sorted step function with its searches
+//! - `search`: the earliest start of an order
 //! - `station`: the station and its calls
 //! - `plan`: the common test of a plan, and the replan by latest start
 //! - `lines`: the replan by lines with caps as arrays of minutes
@@ -13,6 +14,7 @@ mod lines;
 mod plan;
 mod priority;
 mod profile;
+mod search;
 mod station;
 
 pub use station::Station;

@@ -18,6 +18,23 @@ pub struct Load {
     pub until: u32,
 }
 
+/// What an order asks for: line (from 0), rate, time.
+#[derive(Clone, Copy)]
+pub struct Wanted {
+    pub line: usize,
+    pub rate: u16,
+    pub time: u32,
+}
+
+/// What the test of a candidate start found: whether the charge fits there, how many
+/// minutes were looked at (N6), and the step of the last one of them.
+#[derive(Clone, Copy, Debug, PartialEq, Eq)]
+pub struct Tested {
+    pub fits: bool,
+    pub looked: u32,
+    pub step: usize,
+}
+
 /// The limit N and the bound D.
 #[derive(Clone, Copy)]
 pub struct Rules {
@@ -49,18 +66,23 @@ pub struct Profile {
 }
 
 impl Profile {
-    /// Load after load, all unfinished, as the proved program makes it.
-    pub fn of(loads: impl Iterator<Item = Load>, clock: u32) -> Profile {
+    /// Nothing draws from the clock on.
+    pub fn empty(clock: u32) -> Profile {
         let mut from = [0; STEPS];
         from[0] = clock;
-        let mut profile = Profile { steps: 1, from, counts: [[0; 3]; STEPS] };
+        Profile { steps: 1, from, counts: [[0; 3]; STEPS] }
+    }
+
+    /// Load after load, all unfinished, as the proved program makes it.
+    pub fn of(loads: impl Iterator<Item = Load>, clock: u32) -> Profile {
+        let mut profile = Profile::empty(clock);
         for load in loads {
             profile.add(Load { from: load.from.max(clock), ..load });
         }
         profile
     }
 
-    fn until(&self, step: usize) -> u32 {
+    pub fn until(&self, step: usize) -> u32 {
         if step + 1 < self.steps {
             self.from[step + 1]
         } else {
@@ -69,7 +91,7 @@ impl Profile {
     }
 
     /// The step that a minute lies in.
-    fn step_of(&self, minute: u32) -> usize {
+    pub fn step_of(&self, minute: u32) -> usize {
         self.from[..self.steps].partition_point(|from| *from <= minute) - 1
     }
 
@@ -109,6 +131,25 @@ impl Profile {
             }
             if room_until < until || room_until <= start {
                 start = until;
+            }
+            step += 1;
+        }
+    }
+
+    /// The test of a candidate start, which lies in the step. It ends at the first failing
+    /// minute. A step fails in all its minutes or in none, so the number of minutes comes
+    /// from where steps begin.
+    pub fn test(&self, mut step: usize, start: u32, wanted: Wanted, rules: Rules) -> Tested {
+        let mut minute = start;
+        loop {
+            let mut counts = self.counts[step];
+            counts[wanted.line] += wanted.rate;
+            if !rules.sound(counts) {
+                return Tested { fits: false, looked: minute - start + 1, step };
+            }
+            minute = self.until(step);
+            if minute - start >= wanted.time {
+                return Tested { fits: true, looked: wanted.time, step };
             }
             step += 1;
         }

@@ -2,7 +2,8 @@
 //! profile: each call that looks at minutes makes the profile anew. A station that
 //! kept it from call to call would save that; docs/BENCHMARKS.md says how much.
 
-use super::profile::{Load, Profile, Rules};
+use super::profile::{Load, Rules, Wanted};
+use super::search::earliest;
 use crate::yard::{Committed, Found, Moved, Order, Planned, Refusal, Yard};
 
 const PLACES: usize = 180;
@@ -88,9 +89,9 @@ impl Station {
     /// One search serves preview and commit.
     fn earliest(&self, order: Order) -> Result<u32, Refusal> {
         self.check_order(order)?;
-        let profile = Profile::of(self.charges.iter().map(Charge::load), self.clock);
         let (line, rate) = (order.line as usize - 1, order.rate as u16);
-        Ok(profile.earliest(line, rate, order.time, self.clock, self.rules))
+        let wanted = Wanted { line, rate, time: order.time };
+        Ok(earliest(&self.charges, self.clock, wanted, self.rules))
     }
 
     pub fn waiting(&self) -> impl Iterator<Item = &Charge> {

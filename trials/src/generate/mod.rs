@@ -21,6 +21,7 @@ mod plans;
 mod priority;
 mod rates;
 mod rounds;
+mod searches;
 mod spent;
 mod tickets;
 mod unopened;
@@ -38,7 +39,7 @@ pub struct Kind {
     write: fn(&mut Author),
 }
 
-pub const KINDS: [Kind; 19] = [
+pub const KINDS: [Kind; 20] = [
     Kind { name: "edges", share: 15, write: edges::write },
     Kind { name: "mixed", share: 24, write: mixed::write },
     Kind { name: "offers", share: 15, write: offers::write },
@@ -54,6 +55,7 @@ pub const KINDS: [Kind; 19] = [
     Kind { name: "rates", share: 15, write: rates::write },
     Kind { name: "priority", share: 12, write: priority::write },
     Kind { name: "weights", share: 5, write: weights::write },
+    Kind { name: "searches", share: 8, write: searches::write },
     // These are long and come once in a thousand, at turns of their own.
     Kind { name: "tickets", share: 0, write: tickets::write },
     Kind { name: "spent", share: 0, write: spent::write },

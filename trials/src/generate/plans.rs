@@ -1,6 +1,7 @@
 //! Lists of starts to offer: good ones, nearly good ones and hopeless ones.
 
 use super::author::Author;
+use crate::reference::last_end;
 
 fn held_starts(author: &Author) -> Vec<u32> {
     author.station().waiting().iter().map(|charge| charge.start as u32).collect()
@@ -30,6 +31,29 @@ fn improving(author: &mut Author) -> Vec<u32> {
         }
     }
     best
+}
+
+/// A good plan with starts moved back, to any minute up to the last end, as long as it is
+/// still taken: what is sound and less late, and full of gaps.
+fn spread(author: &mut Author) -> Vec<u32> {
+    let mut starts = improving(author);
+    let last = last_end(&author.station().charges);
+    for _ in 0..2 * starts.len() {
+        let place = author.random.below(starts.len() as u64) as usize;
+        let room = last.saturating_sub(starts[place].into());
+        let mut moved = starts.clone();
+        moved[place] += author.random.below(room + 1) as u32;
+        let wide: Vec<u64> = moved.iter().map(|start| u64::from(*start)).collect();
+        if author.station().cause(&wide) == 0 {
+            starts = moved;
+        }
+    }
+    starts
+}
+
+pub fn offer_spread(author: &mut Author) {
+    let starts = spread(author);
+    author.offer(starts);
 }
 
 /// Two waiting charges change their starts.

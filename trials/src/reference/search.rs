@@ -32,6 +32,34 @@ pub fn smallest_start(plan: &[Charge], charge: &Charge, clock: u64, rules: Rules
     })
 }
 
+/// What the test of one candidate start answers (N6).
+#[derive(Clone, Copy, Debug, PartialEq, Eq)]
+pub struct Tested {
+    pub fits: bool,
+    /// "how many minutes it looked at"
+    pub looked: u64,
+}
+
+/// "The test of an order's candidate start, however it is done now, is to end at its first
+/// failing minute. Beside its verdict it returns how many minutes it looked at": "from the
+/// candidate start up to and including the first failing minute, or all the charge's active
+/// minutes where none fails". A minute fails where the plan is not sound in it together
+/// with the charge.
+///
+/// It looks at the charge's own minutes alone, so it is a test for orders, to which the
+/// held plan is sound.
+pub fn test(plan: &[Charge], candidate: &Charge, rules: Rules) -> Tested {
+    let line = candidate.line as usize - 1;
+    for minute in candidate.start..candidate.end() {
+        let mut counts = minutes::counts(plan, minute, 1)[0];
+        counts[line] += candidate.weight();
+        if !rules.sound_in(&counts) {
+            return Tested { fits: false, looked: minute - candidate.start + 1 };
+        }
+    }
+    Tested { fits: true, looked: candidate.time }
+}
+
 /// How many minutes in a span have a property.
 struct Totals(Vec<u64>);
 
@@ -49,5 +77,51 @@ impl Totals {
 
     fn between(&self, from: u64, until: u64) -> u64 {
         self.0[until as usize] - self.0[from as usize]
+    }
+}
+
+#[cfg(test)]
+mod tests {
+    use super::*;
+
+    fn charge(line: u32, start: u64, time: u64, rate: u32) -> Charge {
+        Charge { ticket: 1, line, order: 0, time, due: 0, rate, start }
+    }
+
+    const RULES: Rules = Rules { limit: 2, bound: 1 };
+
+    /// Line 2 has one charge in minutes 0 to 4 and line 1 one in 0 to 9: a second one of
+    /// line 1 leaves line 3 two behind from the first minute on, and beside a charge of
+    /// line 3 it is line 2's end that breaks the balance, in minute 5.
+    #[test]
+    fn up_to_and_including_the_first_failing_minute() {
+        let mut plan = vec![charge(1, 0, 10, 1), charge(2, 0, 5, 1)];
+        let tested = |plan: &[Charge], start| test(plan, &charge(1, start, 8, 1), RULES);
+        assert_eq!(tested(&plan, 0), Tested { fits: false, looked: 1 });
+        plan.push(charge(3, 0, 10, 1));
+        assert_eq!(tested(&plan, 0), Tested { fits: false, looked: 6 });
+        assert_eq!(tested(&plan, 3), Tested { fits: false, looked: 3 });
+        assert_eq!(tested(&plan, 5), Tested { fits: false, looked: 1 });
+    }
+
+    /// A start above the clock is counted from the start, and the last minute may fail.
+    #[test]
+    fn the_last_minute_fails() {
+        let plan = [charge(1, 107, 3, 1)];
+        let tested = |time| test(&plan, &charge(1, 100, time, 1), RULES);
+        assert_eq!(tested(7), Tested { fits: true, looked: 7 });
+        assert_eq!(tested(8), Tested { fits: false, looked: 8 });
+        assert_eq!(tested(1_440), Tested { fits: false, looked: 8 });
+    }
+
+    #[test]
+    fn all_active_minutes_where_none_fails() {
+        for (time, rate) in [(1, 1), (5, 1), (1_440, 1), (1, 2), (7, 2)] {
+            let rules = Rules { limit: 2, bound: 2 };
+            let tested = test(&[charge(1, 0, 9, 1)], &charge(2, 3, time, rate), rules);
+            assert_eq!(tested, Tested { fits: true, looked: time });
+        }
+        let tested = test(&[charge(2, 3, 9, 1)], &charge(2, 3, 7, 2), Rules { limit: 2, bound: 2 });
+        assert_eq!(tested, Tested { fits: false, looked: 1 });
     }
 }

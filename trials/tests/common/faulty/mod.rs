@@ -84,6 +84,12 @@ pub enum Error {
     TableOnePlaceTooFar,
     /// A number for k = 512.
     TableTooLong,
+    // N6, shorter search on busy evenings
+    StartAndLastMinuteOnly,
+    /// The next candidate is one minute further behind the failing one.
+    CandidateSkipped,
+    /// What starts behind the charge's own length from the clock on is left out for good.
+    WindowNotWidened,
     /// None of these, but the rounds are made as for those in which the error lies.
     OwnRounds,
 }

@@ -3,7 +3,7 @@
 use super::rounds::at_rate_one;
 use super::{Error, Faulty};
 use trials::reference::minutes::{counts, Counts, Rules};
-use trials::reference::search::smallest_start;
+use trials::reference::search::{smallest_start, test};
 use trials::reference::{last_end, Charge, Station};
 
 impl Faulty {
@@ -57,9 +57,39 @@ impl Faulty {
                 let halves: Vec<Charge> = plan.iter().flat_map(|charge| halves(*charge)).collect();
                 within(&halves) && balanced(&halves)
             }),
+            Error::StartAndLastMinuteOnly => self.first_start(held, *charge, |plan, start| {
+                let counts = self.counts(plan);
+                let first = (start - clock) as usize;
+                [first, first + charge.time as usize - 1]
+                    .map(|minute| counts[minute])
+                    .iter()
+                    .all(|counts| rules.sound_in(counts))
+            }),
+            Error::CandidateSkipped => Some(self.by_candidates(charge)),
+            Error::WindowNotWidened => {
+                let near = |held: &&Charge| held.start < clock + charge.time;
+                let near: Vec<Charge> = held.iter().filter(near).copied().collect();
+                self.first_start(&near, *charge, |plan, start| {
+                    let own = (start - clock) as usize..(start - clock + charge.time) as usize;
+                    self.counts(plan)[own].iter().all(|counts| rules.sound_in(counts))
+                })
+            }
             _ => smallest_start(held, charge, *clock, rules),
         };
         start.unwrap_or(*clock)
+    }
+
+    /// From each failing minute to the one after the next.
+    fn by_candidates(&self, charge: &Charge) -> u64 {
+        let Station { clock, charges: held, .. } = &self.station;
+        let mut start = *clock;
+        loop {
+            let tested = test(held, &charge.starting_at(start), self.station.rules());
+            if tested.fits {
+                return start;
+            }
+            start += tested.looked + 1;
+        }
     }
 
     fn all(&self, plan: &[Charge], passes: impl Fn(&Counts) -> bool) -> bool {

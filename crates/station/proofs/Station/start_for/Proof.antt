@@ -1,13 +1,10 @@
-use mathlib.Core.Path.{_≡_, ap, sym, _∙_}
+use mathlib.Core.Path.{_≡_, sym, _∙_}
 use native.Mathlib.Omega.{arith}
-use Rattle.rules.specs.Basics.{at, nothing}
-use Rattle.rules.specs.Calls.{preview}
+use Rattle.rules.specs.Basics.{at}
+use Rattle.rules.specs.Calls.{preview, drawFor, startFor}
 use Rattle.rules.proofs.Granted.{refusals-none}
 use Rattle.station.specs.View.{view}
-use Rattle.profile.specs.Shows.{foundAt}
-use Rattle.search.specs.Starts.{EarliestStart}
-use Rattle.search.proofs.Starts.{earliest-shows}
-use Rattle.station.proofs.Ordered.{ends-fit, rates-fit, all-shown, Orderable, orderable, can-search, shown-refused, shown-found}
+use Rattle.station.proofs.Ordered.{Orderable, orderable, shown-refused, shown-found}
 use borrow.Author.Needs.{needs}
 use Rattle.station.proofs.Station.start_for.Statement.{statement}
 use Rattle.station.proofs.Station.start_for.Tie as tie
@@ -32,64 +29,27 @@ module _ (c : tie.Else1) where
       orderable (s .args .self) (s .args .line) (s .args .time) (s .args .due) (s .args .rate)
       (refusals-none (view (s .args .self)) (preview (s .args .line) (s .args .time) (s .args .due) (s .args .rate)) (sym (c .before .order-refusal .ensures) ∙ none))
 
-profile-before-requires : tie.Need-profile-before-requires
-profile-before-requires c κs =
-    let s = c .before .before .before in
-    (s .pre .columns .few, ends-fit (s .args .self) (s .pre), rates-fit (s .args .self) (s .pre))
-
-earliest-requires : tie.Need-earliest-requires
-earliest-requires c κs =
-    let s = c .before .before .before .before .before .before .before in (
-      can-search (s .args .self) (c .before .before .before .profile-before .result) _ (s .args .time) (s .pre) (all-shown (s .args .self) _ _ (s .pre) (c .before .before .before .profile-before .ensures)) (omega (arith, s .pre .state .clock-high)) (granted (c .before .before .before .before .before) .time-most),
-      granted (c .before .before .before .before .before) .is-rate,
-      granted (c .before .before .before .before .before) .within-limit,
-      granted (c .before .before .before .before .before) .within-bound,
+earliest-start-requires : tie.Need-earliest-start-requires
+earliest-start-requires c κs =
+    let g = granted c in (
+      c .before .before .pre,
+      record {
+        some = g .some;
+        time-most = g .time-most;
+        is-rate = g .is-rate;
+        within-limit = g .within-limit;
+        within-bound = g .within-bound;
+      },
     )
-
--- where the search has ended: what it found is the smallest start
-module _ (c : tie.After-earliest) where
-  abbrev asked : tie.Start
-  asked = c .before .before .before .before .before .before .before .before
-
-  smallest : EarliestStart (c .before .before .before .before .profile-before .result) (asked .args .self .limit) (asked .args .self .bound) (asked .args .line) (asked .args .time) (asked .args .rate) (c .earliest .result)
-  smallest = search (c .earliest .ensures)
-
-enum-known-found : tie.Need-enum-known-found
-enum-known-found c = search needs
-
-enum-told : tie.Need-enum-told
-enum-told c = search needs
 
 returns-2 : tie.Need-returns-2
 returns-2 c =
-    let s = c .before .before .before .before .before .before .before .before .before .before in
-    let a = c .before .before in
-    let r = c .before .before .before .before .before .before .before .before .before .order-refusal in
-    shown-found (s .args .self) (s .args .line) (s .args .time) (s .args .due) (s .args .rate) (r .result) nothing (r .ensures)
-    (none (c .before .before .before .before .before .before .before .before))
-    (earliest-shows (smallest a) _ _ (all-shown (s .args .self) (a .before .before .before .before .profile-before .result) (s .args .self .clock) (s .pre) (search (a .before .before .before .before .profile-before .ensures)))
-    ∙ ap foundAt (c .enum-told .given .1))
-
-returns-3 : tie.Need-returns-3
-returns-3 c =
-    let s = c .before .before .before .before .before .before .before .before .before .before .before in
-    let found = c .before in
-    let a = found .before .before in
-    let r = c .before .before .before .before .before .before .before .before .before .before .order-refusal in
+    let s = c .before .before .before in
+    let r = c .before .before .order-refusal in
+    let found : startFor (view (s .args .self)) (drawFor (view (s .args .self)) (s .args .line) (s .args .time) (s .args .rate)) ≡ at (c .earliest-start .result) = search (c .earliest-start .ensures) in
     shown-found (s .args .self) (s .args .line) (s .args .time) (s .args .due) (s .args .rate) (r .result) (at _) (r .ensures)
-    (none (c .before .before .before .before .before .before .before .before .before))
-    (earliest-shows (smallest a) _ _ (all-shown (s .args .self) (a .before .before .before .before .profile-before .result) (s .args .self .clock) (s .pre) (search (a .before .before .before .before .profile-before .ensures)))
-    ∙ ap foundAt (found .found .given .1))
+    (none (c .before)) found
 
 pub start-for-spec : {M : Type 1} → statement M
 start-for-spec =
-    tie.close
-    (tie.spec
-    order-refusal-requires
-    returns
-    profile-before-requires
-    earliest-requires
-    enum-known-found
-    enum-told
-    returns-2
-    returns-3)
+    tie.close (tie.spec order-refusal-requires returns earliest-start-requires returns-2)

@@ -1,0 +1,140 @@
+//! The earliest start of an order (N6). The test of a candidate ends at its first failing
+//! minute, and the next candidate lies behind the step that fails there. Loads are added
+//! to the profile only as far as the search looks: those that start in a window from the
+//! clock on, which is as long as the charge at first and twice as long whenever the
+//! search has come to its end.
+
+use super::profile::{Load, Profile, Rules, Wanted, NEVER};
+use super::station::Charge;
+
+/// The profile up to the end of the window.
+struct Window<'a> {
+    charges: &'a [Charge],
+    clock: u32,
+    profile: Profile,
+    /// How many charges are in.
+    added: usize,
+    length: u32,
+    /// In the minutes before it all counts are right.
+    until: u32,
+}
+
+impl Window<'_> {
+    fn new(charges: &[Charge], clock: u32, length: u32) -> Window<'_> {
+        let profile = Profile::empty(clock);
+        let mut window = Window { charges, clock, profile, added: 0, length, until: clock };
+        window.add_until(clock + length);
+        window
+    }
+
+    fn widen(&mut self) {
+        self.length *= 2;
+        self.add_until(self.clock + self.length);
+    }
+
+    /// Adds the loads that start from the present end of the window to this one.
+    fn add_until(&mut self, until: u32) {
+        for charge in self.charges {
+            let Load { line, rate, from, until: end } = charge.load();
+            let from = from.max(self.clock);
+            if self.until <= from && from < until {
+                self.profile.add(Load { line, rate, from, until: end });
+                self.added += 1;
+            }
+        }
+        self.until = if self.added == self.charges.len() { NEVER } else { until };
+    }
+}
+
+/// The smallest start, not below the clock, with which the held charges, which are sound,
+/// and this one are sound together.
+pub fn earliest(charges: &[Charge], clock: u32, wanted: Wanted, rules: Rules) -> u32 {
+    let mut window = Window::new(charges, clock, wanted.time);
+    let (mut start, mut step) = (clock, 0);
+    loop {
+        // A test up to the end of the window fails rightly, but does not pass.
+        let time = wanted.time.min(window.until - start);
+        let tested = window.profile.test(step, start, Wanted { time, ..wanted }, rules);
+        if tested.fits && time == wanted.time {
+            return start;
+        }
+        if !tested.fits {
+            start = window.profile.until(tested.step).min(window.until);
+            step = tested.step + 1;
+        }
+        if tested.fits || start == window.until {
+            window.widen();
+            step = window.profile.step_of(start);
+        }
+    }
+}
+
+#[cfg(test)]
+mod tests {
+    use super::*;
+    use crate::fast::profile::Tested;
+    use crate::random::Random;
+    use crate::reference::{self, minutes};
+
+    const CLOCK: u32 = 100;
+    const RULES: Rules = Rules { limit: 3, bound: 2 };
+
+    fn charges(random: &mut Random, count: u64) -> Vec<Charge> {
+        let charge = |ticket| Charge {
+            ticket: ticket as u32,
+            line: random.below(3) as usize,
+            time: random.between(21, 60) as u32,
+            due: 0,
+            rate: random.between(1, 2) as u16,
+            start: CLOCK - 20 + random.below(220) as u32,
+        };
+        (0..count).map(charge).collect()
+    }
+
+    fn slow(charge: &Charge) -> reference::Charge {
+        let Charge { ticket, line, time, due, rate, start } = *charge;
+        let (line, rate) = (line as u32 + 1, rate.into());
+        let (time, due, start) = (time.into(), due.into(), start.into());
+        reference::Charge { ticket, line, order: 0, time, due, rate, start }
+    }
+
+    /// Number and verdict are those of the reference, for any plan and candidate.
+    #[test]
+    fn minutes_looked_at() {
+        let mut random = Random::new(5);
+        for _ in 0..300 {
+            let count = random.below(9);
+            let plan = charges(&mut random, count);
+            let profile = Profile::of(plan.iter().map(Charge::load), CLOCK);
+            let candidate = charges(&mut random, 1)[0];
+            let Charge { line, rate, time, .. } = candidate;
+            for start in CLOCK..CLOCK + 260 {
+                let rules = minutes::Rules { limit: 3, bound: 2 };
+                let slow_plan: Vec<_> = plan.iter().map(slow).collect();
+                let candidate = slow(&candidate).starting_at(start.into());
+                let expected = reference::search::test(&slow_plan, &candidate, rules);
+                let step = profile.step_of(start);
+                let Tested { fits, looked, .. } =
+                    profile.test(step, start, Wanted { line, rate, time }, RULES);
+                assert_eq!((fits, u64::from(looked)), (expected.fits, expected.looked));
+                assert!(1 <= looked && looked <= time);
+            }
+        }
+    }
+
+    /// Whatever is in the window when it is found, the start is the first one that fits
+    /// into the whole profile.
+    #[test]
+    fn windows_leave_nothing_out() {
+        let mut random = Random::new(6);
+        for _ in 0..2_000 {
+            let count = random.below(12);
+            let plan = charges(&mut random, count);
+            let profile = Profile::of(plan.iter().map(Charge::load), CLOCK);
+            let time = random.pick(&[1, 2, 7, 30, 200]);
+            let (line, rate) = (random.below(3) as usize, random.between(1, 2) as u16);
+            let expected = profile.earliest(line, rate, time, CLOCK, RULES);
+            assert_eq!(earliest(&plan, CLOCK, Wanted { line, rate, time }, RULES), expected);
+        }
+    }
+}
