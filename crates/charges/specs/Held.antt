@@ -13,6 +13,7 @@ Rising c = (i : ℕ) → i + 1 < c .held → chargeAt c i .ticket < chargeAt c (
 pub record Small (x : Charge) : Type 0 where
   pub on-line : IsLine (x .line)
   pub time-most : x .time ≤ 1440
+  pub active-most : x .activeTime ≤ 1445
   pub due-most : x .due ≤ 2000000
   pub start-most : x .start < 100000000
   pub is-rate : IsRate (x .rate)

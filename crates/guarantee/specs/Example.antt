@@ -19,7 +19,7 @@ use Rattle.guarantee.specs.Past.{Order, Past, past, timesReported, enqui
 -- tickets 2 and 3 are dropped.
 abbrev example : Past
 example =
-    past step (opening (settings 1 100) .state)
+    past step (opening (settings 1 100 0) .state)
     (commit 1 10 60 1 0
     ∷ commit 1 10 15 1 10
     ∷ replanLatest
@@ -67,7 +67,7 @@ example-counts :
     × (map (countIn step example 2) (0 ∷ 1 ∷ 4 ∷ 5 ∷ []) ≡ 0 ∷ 1 ∷ 1 ∷ 0 ∷ [])
     × (map (countIn step example 3) (0 ∷ 1 ∷ 12 ∷ 13 ∷ []) ≡ 0 ∷ 1 ∷ 1 ∷ 0 ∷ [])
     × (lastMinute 0 (example .orders) ≡ 1)
-    × (totalTime (example .orders) ≡ 36)
+    × (totalTime 0 (example .orders) ≡ 36)
 unfolding limited balanced sound earliest placeAll latest judged opening previewing committing moving offering replanningLatest enquiring
 example-counts = (refl, refl, refl, refl, refl)
 
@@ -75,7 +75,7 @@ example-counts = (refl, refl, refl, refl, refl)
 -- first and the last are dropped, and still counted.
 abbrev rated : Past
 rated =
-    past step (opening (settings 2 100) .state)
+    past step (opening (settings 2 100 0) .state)
     (commit 1 10 60 2 0 ∷ commit 1 10 60 1 10 ∷ commit 2 5 60 2 0 ∷ move 10 (replicate 360 7) ∷ [])
 
 rated-counts :

@@ -13,9 +13,10 @@ use Rattle.rules.specs.CasesAtEdges.{casesAtEdges}
 use Rattle.rules.specs.CasesInAHurry.{casesInAHurry}
 use Rattle.rules.specs.CasesPreviewed.{casesPreviewed}
 use Rattle.rules.specs.CasesOfTwoRates.{casesOfTwoRates}
+use Rattle.rules.specs.CasesOfTails.{casesOfTails}
 
 abbrev pub cases : List Case
-cases = casesAToL ++ casesAtEdges ++ casesInAHurry ++ casesPreviewed ++ casesOfTwoRates
+cases = casesAToL ++ casesAtEdges ++ casesInAHurry ++ casesPreviewed ++ casesOfTwoRates ++ casesOfTails
 
 pub cases-hold : map computed cases ≡ cases
 unfolding limited balanced sound earliest earliestUnder firstUnbalanced placeAll latest round roundsFrom byLines judged opening previewing committing moving offering replanningLatest replanningLines enquiring
@@ -23,7 +24,7 @@ cases-hold = refl
 
 -- the station of case g before its replan
 abbrev stateG : State
-stateG = let fresh : State = opening (settings 2 50) .state in stateAfter fresh (run fresh callsG)
+stateG = let fresh : State = opening (settings 2 50 0) .state in stateAfter fresh (run fresh callsG)
 
 -- case g: "ticket 7 goes first"
 pub ticket-7-first : map (λ c. c .ticket) (byLatestStart (waitingCharges (stateG .clock) (stateG .charges))) ≡ 7 ∷ 5 ∷ []
@@ -32,7 +33,7 @@ ticket-7-first = refl
 
 -- "65,535 tickets given" would take as many orders to compute, so the station that has one ticket left is written down
 abbrev lastTicket : State
-lastTicket = record { limit = 1; percent = 100; bound = 1; clock = 0; next = 65535; charges = [] }
+lastTicket = record { limit = 1; percent = 100; bound = 1; tail = 0; clock = 0; next = 65535; charges = [] }
 
 pub last-ticket-given :
     map (λ r. r .answer) (run lastTicket (commit 1 1 60 1 0 ∷ preview 1 1 60 1 ∷ commit 1 1 60 1 9 ∷ []))

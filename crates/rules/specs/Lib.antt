@@ -14,3 +14,4 @@ pub mod CasesAtEdges
 pub mod CasesInAHurry
 pub mod CasesPreviewed
 pub mod CasesOfTwoRates
+pub mod CasesOfTails
