@@ -73,8 +73,9 @@ fourOrders start = from 1 start ∷ from 2 start ∷ from 3 start ∷ from 1 sta
 abbrev pub to : ℕ → Call
 to target = move target lentList
 
-abbrev pub wrongEntries : List Breach
-wrongEntries =
+-- counts and tickets
+abbrev pub wrongCounts : List Breach
+wrongCounts =
     only limitIgnored one (fourOrders 0) (limit ∷ [])
     ∷ only fixedStart one (fourOrders 5) (limit ∷ [])
     ∷ only ownLineOnly two (single ∷ single ∷ []) (balance ∷ [])
@@ -86,7 +87,12 @@ wrongEntries =
     ∷ only tailsInLimitOnly twoTailed (single ∷ from 1 10 ∷ []) (balance ∷ [])
     ∷ only ticketSkipped one (single ∷ from 1 10 ∷ []) (tickets ∷ [])
     ∷ only previewTakesTicket one (preview 1 10 60 1 ∷ single ∷ []) (tickets ∷ [])
-    ∷ only slowClock one (to 5 ∷ from 1 4 ∷ to 6 ∷ []) (not-early ∷ [])
+    ∷ []
+
+-- each order's one charge
+abbrev pub wrongCharges : List Breach
+wrongCharges =
+    only slowClock one (to 5 ∷ from 1 4 ∷ to 6 ∷ []) (not-early ∷ [])
     -- ordered in minute 5 with the start 0, which no move passes any more
     ∷ only shownBeforeTaken one (preview 1 10 60 1 ∷ to 5 ∷ single ∷ []) (not-early ∷ reported ∷ [])
     ∷ only (untested 4) one (single ∷ commit 1 10 15 1 10 ∷ offer (11 ∷ 0 ∷ []) ∷ []) (in-time ∷ [])
@@ -108,6 +114,12 @@ wrongEntries =
     ∷ only shownEarly one (single ∷ from 1 10 ∷ to 9 ∷ to 11 ∷ []) (unmoved ∷ [])
     ∷ []
 
+abbrev pub wrongEntries : List Breach
+wrongEntries = wrongCounts ++ wrongCharges
+
 -- and the rules themselves on the same calls, where nothing breaks
+abbrev pub withRules : List Breach → List Breach
+withRules es = es ++ map (λ e. only step (e .thing .first) (e .thing .calls) []) es
+
 abbrev pub entries : List Breach
-entries = wrongEntries ++ map (λ e. only step (e .thing .first) (e .thing .calls) []) wrongEntries
+entries = withRules wrongCounts ++ withRules wrongCharges
