@@ -39,7 +39,7 @@ pub fn place_lines(
     for k in 0..n {
         let i = queue.places[k];
         let line = charges.lines[i];
-        let time = charges.times[i];
+        let time = charges.active_times[i];
         let rate = charges.rates[i];
         let start = earliest_under(&at, &counts, steps, &caps.caps, line, time, rate);
         steps = add(&mut at, &mut counts, steps, line, time, rate, start);
