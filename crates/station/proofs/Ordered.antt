@@ -4,14 +4,14 @@ use Prim.Native.Nat.{ℕ, zero, suc, _+_, _≤_, _<_}
 use mathlib.Core.List.{[], _∷_, _++_}
 use native.Mathlib.Omega.{arith}
 use native.Mathlib.Numerals.{add-one}
-use Rattle.rules.specs.Basics.{Found, at, nothing, firstOf}
+use Rattle.rules.specs.Basics.{Each, Found, at, nothing, firstOf}
 use Rattle.rules.specs.Load.{IsRate, lastUntil}
 use Rattle.rules.specs.Charge.{loadsOf, begunCharges}
 use Rattle.rules.specs.Calls.{Answer, refused, committed, Result, answering, preview, commit, drawFor, startFor, orderRefusals, previewedAt, previewing, committing, step}
 use Rattle.rules.proofs.Tables.{NoneHolds}
 use Rattle.rules.proofs.Granted.{order-granted}
 use Rattle.rules.proofs.Shown.{preview-shown, commit-taken}
-use Rattle.rules.proofs.Lists.{length-tabulate}
+use Rattle.rules.proofs.Lists.{each-map, length-tabulate}
 use Rattle.rules.proofs.Ends.{last-until}
 use Rattle.charges.specs.declared.Charges.{Charges}
 use Rattle.charges.specs.Arrays.{charge, chargeAt, chargesOf, Holds}
@@ -47,11 +47,22 @@ all-shown s p clock v h =
 
 last-held : (s : Station) → Valid s → lastUntil (loadsOf (chargesOf (s .charges))) ≤ 100000000
 last-held s v =
-    omega (arith, last-until (chargesOf (s .charges)), v .state .ends-high, v .state .clock-high, v .state .next-high)
+    omega (
+      arith,
+      last-until (s .tail) (chargesOf (s .charges)) active,
+      v .state .ends-high,
+      v .state .tail-high,
+      v .state .clock-high,
+      v .state .next-high,
+    )
+  where
+    active : Each (λ c. c .activeTime ≡ c .time + s .tail) (chargesOf (s .charges))
+    active = each-map _ (λ c. c .activeTime ≡ c .time + s .tail) (λ c h. h .active) (chargesOf (s .charges)) (v .state .each)
 
 -- what none of refusals 4 to 18 turns away, read off the arrays
 pub record Orderable (s : Station) (line time due rate : ℕ) : Type 0 where
   pub time-most : time ≤ 1440
+  pub active-most : time + s .tail ≤ 1445
   pub is-rate : IsRate rate
   pub within-limit : rate ≤ s .limit
   pub within-bound : rate ≤ s .bound
@@ -59,11 +70,12 @@ pub record Orderable (s : Station) (line time due rate : ℕ) : Type 0 where
   pub tickets-left : s .next ≤ 65535
 
 pub orderable :
-    (s : Station) (line time due rate : ℕ) → NoneHolds (orderRefusals (view s) line time due rate) → Orderable s line time due rate
-orderable s line time due rate e =
+    (s : Station) (line time due rate : ℕ) → Valid s → NoneHolds (orderRefusals (view s) line time due rate) → Orderable s line time due rate
+orderable s line time due rate v e =
     let g = order-granted (view s) line time due rate e in
     record {
       time-most = g .time-high;
+      active-most = omega (arith, g .time-high, v .state .tail-high);
       is-rate = g .is-rate;
       within-limit = g .within-limit;
       within-bound = g .within-bound;
@@ -76,7 +88,7 @@ pub can-search :
     → Valid s
     → Shows p clock (loadsOf (chargesOf (s .charges)))
     → clock ≤ 1000000
-    → time ≤ 1440
+    → time ≤ 1445
     → CanStart p time
 can-search s p clock time v shows h k =
     can-start shows time
@@ -140,18 +152,20 @@ committedStation s c =
       limit = s .limit;
       percent = s .percent;
       bound = s .bound;
+      tail = s .tail;
       clock = s .clock;
       next = s .next + 1;
       charges = c;
     }
 
 pub call-committed :
-    (s : Station) (line time due rate start shown : ℕ) (c : Charges)
+    (s : Station) (line time due rate start shown active : ℕ) (c : Charges)
     → NoneHolds (orderRefusals (view s) line time due rate)
     → startFor (view s) (drawFor (view s) line time rate) ≡ at start
     → start ≡ shown
-    → Holds (chargesOf (s .charges) ++ (charge (s .next) line (s .clock) time due start rate ∷ [])) c
+    → active ≡ time + s .tail
+    → Holds (chargesOf (s .charges) ++ (charge (s .next) line (s .clock) time active due start rate ∷ [])) c
     → giving (committed (s .next) start) (committedStation s c) [] ≡ step (view s) (commit line time due rate shown)
 unfolding committing
-call-committed s line time due rate start shown c free f same h =
-    rw (h .charges, add-one (s .next), same) (sym (commit-taken (view s) line time due rate free shown (f ∙ ap at same)))
+call-committed s line time due rate start shown active c free f same long h =
+    rw (h .charges, add-one (s .next), same, long) (sym (commit-taken (view s) line time due rate free shown (f ∙ ap at same)))

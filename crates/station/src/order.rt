@@ -86,6 +86,7 @@ impl Station {
         // No start is as late as that: all held charges are in the profile.
         let profile = profile_before(held, self.clock, 4294967295);
         let steps = profile.steps;
+        let active_time = time + self.tail;
         let found = earliest(
             &profile.at,
             &profile.counts,
@@ -93,7 +94,7 @@ impl Station {
             self.limit,
             self.bound,
             line,
-            time,
+            active_time,
             rate,
         );
         let When::Minute(start) = found else {
@@ -133,7 +134,8 @@ impl Station {
                 }
                 let ticket = self.next;
                 let held = self.charges;
-                let with = held.push(ticket, line, self.clock, time, due, start, rate);
+                let active_time = time + self.tail;
+                let with = held.push(ticket, line, self.clock, time, active_time, due, start, rate);
                 let mut next = self;
                 next.next = ticket + 1;
                 next.charges = with;

@@ -28,7 +28,7 @@ module _ (c : tie.Else1) where
   granted : Orderable (c .before .before .args .self) (c .before .before .args .line) (c .before .before .args .time) (c .before .before .args .due) (c .before .before .args .rate)
   granted =
       let s = c .before .before in
-      orderable (s .args .self) (s .args .line) (s .args .time) (s .args .due) (s .args .rate)
+      orderable (s .args .self) (s .args .line) (s .args .time) (s .args .due) (s .args .rate) (s .pre)
       (refusals-none (view (s .args .self)) (preview (s .args .line) (s .args .time) (s .args .due) (s .args .rate)) (sym (c .before .order-refusal .ensures) ∙ none))
 
 profile-before-requires : tie.Need-profile-before-requires
@@ -36,13 +36,17 @@ profile-before-requires c κs =
     let s = c .before .before .before in
     (s .pre .columns .few, ends-fit (s .args .self) (s .pre), rates-fit (s .args .self) (s .pre))
 
+add-active-time : tie.Need-add-active-time
+add-active-time c = omega (arith, granted (c .before .before .before) .active-most)
+
 earliest-requires : tie.Need-earliest-requires
 earliest-requires c κs =
-    let s = c .before .before .before .before .before .before .before in (
-      can-search (s .args .self) (c .before .before .before .profile-before .result) _ (s .args .time) (s .pre) (all-shown (s .args .self) _ _ (s .pre) (c .before .before .before .profile-before .ensures)) (omega (arith, s .pre .state .clock-high)) (granted (c .before .before .before .before .before) .time-most),
-      granted (c .before .before .before .before .before) .is-rate,
-      granted (c .before .before .before .before .before) .within-limit,
-      granted (c .before .before .before .before .before) .within-bound,
+    let s = c .before .before .before .before .before .before .before .before in
+    let g = granted (c .before .before .before .before .before .before) in (
+      can-search (s .args .self) (c .before .before .before .before .profile-before .result) _ _ (s .pre) (all-shown (s .args .self) _ _ (s .pre) (c .before .before .before .before .profile-before .ensures)) (omega (arith, s .pre .state .clock-high)) (omega (arith, g .time-most, g .active-most)),
+      g .is-rate,
+      g .within-limit,
+      g .within-bound,
     )
 
 enum-known-found : tie.Need-enum-known-found
@@ -53,23 +57,23 @@ enum-told c = search needs
 
 returns-2 : tie.Need-returns-2
 returns-2 c =
-    let s = c .before .before .before .before .before .before .before .before .before .before in
+    let s = c .before .before .before .before .before .before .before .before .before .before .before in
     let a = c .before .before in
-    let r = c .before .before .before .before .before .before .before .before .before .order-refusal in
+    let r = c .before .before .before .before .before .before .before .before .before .before .order-refusal in
     shown-found (s .args .self) (s .args .line) (s .args .time) (s .args .due) (s .args .rate) (r .result) nothing (r .ensures)
-    (none (c .before .before .before .before .before .before .before .before))
-    (earliest-shows (a .earliest .ensures) _ _ (all-shown (s .args .self) _ _ (s .pre) (a .before .before .before .before .profile-before .ensures))
+    (none (c .before .before .before .before .before .before .before .before .before))
+    (earliest-shows (a .earliest .ensures) _ _ (all-shown (s .args .self) _ _ (s .pre) (a .before .before .before .before .before .profile-before .ensures))
     ∙ ap foundAt (c .enum-told .given .1))
 
 returns-3 : tie.Need-returns-3
 returns-3 c =
-    let s = c .before .before .before .before .before .before .before .before .before .before .before in
+    let s = c .before .before .before .before .before .before .before .before .before .before .before .before in
     let found = c .before in
     let a = found .before .before in
-    let r = c .before .before .before .before .before .before .before .before .before .before .order-refusal in
+    let r = c .before .before .before .before .before .before .before .before .before .before .before .order-refusal in
     shown-found (s .args .self) (s .args .line) (s .args .time) (s .args .due) (s .args .rate) (r .result) (at _) (r .ensures)
-    (none (c .before .before .before .before .before .before .before .before .before))
-    (earliest-shows (a .earliest .ensures) _ _ (all-shown (s .args .self) _ _ (s .pre) (a .before .before .before .before .profile-before .ensures))
+    (none (c .before .before .before .before .before .before .before .before .before .before))
+    (earliest-shows (a .earliest .ensures) _ _ (all-shown (s .args .self) _ _ (s .pre) (a .before .before .before .before .before .profile-before .ensures))
     ∙ ap foundAt (found .found .given .1))
 
 pub start-for-spec : {M : Type 1} → statement M
@@ -79,6 +83,7 @@ start-for-spec =
     order-refusal-requires
     returns
     profile-before-requires
+    add-active-time
     earliest-requires
     enum-known-found
     enum-told
