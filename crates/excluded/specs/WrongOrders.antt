@@ -9,7 +9,7 @@ use Rattle.rules.specs.Load.{Load, Draw, draw, limits, count, lastUntil, limitA
 use Rattle.rules.specs.Charge.{Charge, loadsOf, lastEnd}
 use Rattle.rules.specs.Search.{added, earliest, earliestUnder}
 use Rattle.rules.specs.Calls.{State, limitsOf, holding, waiting, Result, drawFor, startFor, isStart, previewedAt, previewing, committing}
-use Rattle.rules.specs.Earlier.{orderedAt}
+use Rattle.earlier.specs.Earlier.{orderedAt}
 use Rattle.guarantee.specs.Past.{Gives}
 use Rattle.excluded.specs.Parts.{withPreviews, withCommits, withUntested, withTest, withSearch, saying, leaving, writing, ticketing, putOff, atRate, withoutTail}
 

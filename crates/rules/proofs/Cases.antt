@@ -1,12 +1,13 @@
 -- Cases a to l (docs/RULES.md, section 7), those at the edges, and those of each request, as one theorem over one array: the checker computes every answer.
 use mathlib.Core.Path.{_≡_, refl}
+use Prim.Native.Nat.{ℕ}
 use mathlib.Core.List.{List, [], _∷_, _++_, map}
 use Rattle.rules.specs.Load.{limited, balanced, sound}
 use Rattle.rules.specs.Charge.{waitingCharges}
 use Rattle.rules.specs.Search.{earliest, earliestUnder, firstUnbalanced}
 use Rattle.rules.specs.Replan.{byLatestStart, placeAll, latest, round, roundsFrom, byLines}
 use Rattle.rules.specs.Judgement.{judged}
-use Rattle.rules.specs.Calls.{settings, State, refused, committed, opening, preview, commit, run, previewing, committing, moving, offering, replanningLatest, replanningLines, enquiring}
+use Rattle.rules.specs.Calls.{settings, State, Answer, refused, previewed, committed, moved, Result, opening, preview, commit, run, previewing, committing, moving, offering, replanningLatest, replanningLines, enquiring}
 use Rattle.rules.specs.Entry.{Case, computed, stateAfter}
 use Rattle.rules.specs.CasesAToL.{callsG, casesAToL}
 use Rattle.rules.specs.CasesAtEdges.{casesAtEdges}
@@ -22,12 +23,33 @@ pub cases-hold : map computed cases ≡ cases
 unfolding limited balanced sound earliest earliestUnder firstUnbalanced placeAll latest round roundsFrom byLines judged opening previewing committing moving offering replanningLatest replanningLines enquiring
 cases-hold = refl
 
--- the station of case g before its replan
-abbrev stateG : State
-stateG = let fresh : State = opening (settings 2 50 0) .state in stateAfter fresh (run fresh callsG)
+-- case g before its replan
+abbrev openedG : State
+openedG = opening (settings 2 50 0) .state
+
+-- What calls answered, and the tickets in latest-start order then. The answers stand first because they are computed from the
+-- first call on; the last station by itself would be computed backwards, which takes twenty times as long.
+abbrev answersAndQueue : State → List Result → List Answer × List ℕ
+answersAndQueue s rs =
+    let after : State = stateAfter s rs in
+    (map (λ r. r .answer) rs, map (λ c. c .ticket) (byLatestStart (waitingCharges (after .clock) (after .charges))))
 
 -- case g: "ticket 7 goes first"
-pub ticket-7-first : map (λ c. c .ticket) (byLatestStart (waitingCharges (stateG .clock) (stateG .charges))) ≡ 7 ∷ 5 ∷ []
+pub ticket-7-first :
+    answersAndQueue openedG (run openedG callsG)
+    ≡ (
+      committed 1 0
+          ∷ committed 2 0
+          ∷ committed 3 0
+          ∷ committed 4 0
+          ∷ committed 5 5
+          ∷ committed 6 0
+          ∷ moved 5 0
+          ∷ previewed 1
+          ∷ committed 7 1
+          ∷ [],
+      7 ∷ 5 ∷ [],
+    )
 unfolding limited balanced sound earliest opening previewing committing moving
 ticket-7-first = refl
 

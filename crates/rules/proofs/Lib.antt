@@ -19,7 +19,3 @@ pub mod Changes
 pub mod Restarts
 pub mod Validity
 pub mod Shown
-pub mod Earlier
-pub mod Unrated
-pub mod UnratedPlans
-pub mod RateOne

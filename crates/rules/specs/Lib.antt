@@ -5,8 +5,6 @@ pub mod Search
 pub mod Replan
 pub mod Judgement
 pub mod Calls
-pub mod Earlier
-pub mod Unrated
 pub mod Valid
 pub mod Entry
 pub mod CasesAToL

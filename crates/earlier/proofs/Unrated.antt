@@ -6,12 +6,12 @@ use mathlib.Core.List.{List, [], _∷_}
 use native.Mathlib.Omega.{arith}
 use lib.Dec.{leb, eqb}
 use lib.ListN.{length}
 use Rattle.rules.specs.Basics.{Each, first, throughout, keep}
 use Rattle.rules.specs.Load.{Load, Draw, active, count, lastUntil, Limits, balanced, soundCounts, fromOn, sound}
 use Rattle.rules.specs.Charge.{Charge, loadsOf}
 use Rattle.rules.specs.Search.{added, earliest, Caps, earliestUnder, firstUnbalanced}
-use Rattle.rules.specs.Unrated.{numberActive, soundBefore, earliestBefore, underBefore, unbalancedBefore, AtRateOne}
+use Rattle.earlier.specs.Unrated.{numberActive, soundBefore, earliestBefore, underBefore, unbalancedBefore, AtRateOne}
 use Rattle.rules.proofs.Lists.{each-append}
 
 -- Counts
 

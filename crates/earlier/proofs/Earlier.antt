@@ -7,12 +7,12 @@ use mathlib.Core.List.{List, [], _∷_}
 use lib.Dec.{ltb, leb}
 use lib.ListN.{length}
 use borrow.Author.Tests.{le-ltb}
 use Rattle.rules.specs.Basics.{Found, at, nothing, firstOf}
 use Rattle.rules.specs.Calls.{places, State, Result, answering, preview, commit, drawFor, startFor, isStart, orderRefusals, previewedAt, previewing, committing, step}
-use Rattle.rules.specs.Earlier.{orderedAt, ordering, Together, earlierRefusals, earlierOrder}
+use Rattle.earlier.specs.Earlier.{orderedAt, ordering, Together, earlierRefusals, earlierOrder}
 use Rattle.rules.proofs.Tables.{row-left-out}
 use Rattle.rules.proofs.Granted.{refusals-none}
 use Rattle.rules.proofs.Shown.{commit-taken}
 
 -- N2: "The order becomes a preview .. and a commit": both together give what the order gave.
 pub same-as-order : (s : State) (line p d rate : ℕ) → Together line p d rate (step s (preview line p d rate)) (ordering s line p d rate)

@@ -4,18 +4,18 @@ use Prim.Native.Nat.{ℕ, _+_, _-_}
 use mathlib.Core.Bool.{cond, not}
 use mathlib.Core.List.{List, [], _∷_, _++_}
 use lib.Dec.{ltb}
 use Rattle.rules.specs.Basics.{Each, Found, at, nothing, firstOf, some}
 use Rattle.rules.specs.Load.{Limits, limited, balanced, fromOn}
 use Rattle.rules.specs.Charge.{Charge, starting, drawOf, loadsOf, isBegun, isWaiting, begunCharges, waitingCharges, lastEnd, lateness}
 use Rattle.rules.specs.Search.{Caps}
 use Rattle.rules.specs.Replan.{latestStartBefore, byLatestStart, starts, none, Placed, all, stuck, placeAll, startsIn, proposed, latest, cappedStart, soundStart, lineByLine, largestLine, smallestLine, placedActive, Outcome, ends, lowers, unbalancedIn, afterRound, round, roundsFrom, byLines}
 use Rattle.rules.specs.Judgement.{restarted, judged}
-use Rattle.rules.specs.Unrated.{unbalancedBefore, latestBefore, askedBefore, afterBefore, roundBefore, byLinesBefore, judgedBefore, AtRateOne}
+use Rattle.earlier.specs.Unrated.{unbalancedBefore, latestBefore, askedBefore, afterBefore, roundBefore, byLinesBefore, judgedBefore, AtRateOne}
 use Rattle.rules.proofs.Lists.{each-append, keep-each}
 use Rattle.rules.proofs.Sorting.{sorted-rearranged, each-rearranged}
 use Rattle.rules.proofs.Restarts.{each-restarted}
 use Rattle.rules.proofs.Rounds.{each-line-by-line}
-use Rattle.rules.proofs.Unrated.{One, count-is, loads-one, earliest-is, under-is, unbalanced-is}
+use Rattle.earlier.proofs.Unrated.{One, count-is, loads-one, earliest-is, under-is, unbalanced-is}
 
 -- Charges placed one after another
 

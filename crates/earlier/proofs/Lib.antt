@@ -1,0 +1,4 @@
+pub mod Earlier
+pub mod Unrated
+pub mod UnratedPlans
+pub mod RateOne
