@@ -8,9 +8,10 @@ use lib.Dec.{leb, eqb}
 use lib.ListN.{length}
 use Rattle.rules.specs.Basics.{Each, first, throughout, keep}
 use Rattle.rules.specs.Load.{Load, Draw, active, count, lastUntil, Limits, balanced, soundCounts, fromOn, sound}
-use Rattle.rules.specs.Charge.{Charge, loadsOf}
-use Rattle.rules.specs.Search.{added, earliest, Caps, earliestUnder, firstUnbalanced}
-use Rattle.earlier.specs.Unrated.{numberActive, soundBefore, earliestBefore, underBefore, unbalancedBefore, AtRateOne}
+use Rattle.rules.specs.Charge.{Charge, drawOf, loadsOf}
+use Rattle.rules.specs.Search.{added, earliest, Caps, firstUnbalanced}
+use Rattle.rules.specs.Priority.{fitsAt}
+use Rattle.earlier.specs.Unrated.{numberActive, soundBefore, earliestBefore, fitsBefore, unbalancedBefore, AtRateOne}
 use Rattle.rules.proofs.Lists.{each-append}
 
 -- Counts
@@ -56,14 +57,10 @@ module _ (xs : List Load) (e : Each One xs) where
       ap (λ (f : ℕ → Bool). first f (suc (lastUntil xs - clock)) clock)
       (fun-ext (λ s. sound-is y clock (added xs a s) (one-more xs a s e h)))
 
-  pub under-is : (cap : Caps) (clock : ℕ) (a : Draw) → a .rate ≡ 1 → earliestUnder cap clock xs a ≡ underBefore cap clock xs a
-  unfolding earliestUnder
-  under-is cap clock a h =
-      ap (λ (f : ℕ → Bool). first f (suc (lastUntil xs - clock)) clock)
-      (fun-ext
-      (λ s.
-      ap (λ (f : ℕ → ℕ → ℕ). throughout (λ t. leb (f (a .line) t) (cap (a .line) t)) (a .time) s)
-      (count-is (added xs a s) (one-more xs a s e h))))
+  pub fits-is : (cap : Caps) (s : ℕ) (c : Charge) → c .rate ≡ 1 → fitsAt cap xs s c ≡ fitsBefore cap xs s c
+  fits-is cap s c h =
+      ap (λ (f : ℕ → ℕ → ℕ). throughout (λ t. leb (f (c .line) t) (cap (c .line) t)) (c .time) s)
+      (count-is (added xs (drawOf c) s) (one-more xs (drawOf c) s e h))
 
   pub unbalanced-is : (y : Limits) (clock : ℕ) → firstUnbalanced y clock xs ≡ unbalancedBefore y clock xs
   unfolding firstUnbalanced

@@ -10,7 +10,8 @@ use Rattle.rules.specs.Basics.{throughout, Found, at, nothing, first, firstOf, 
 use Rattle.rules.specs.Load.{Load, Draw, active, lastUntil, Limits, limited, balanced, soundCounts, fromOn}
 use Rattle.rules.specs.Charge.{Charge, drawOf, loadsOf, begunCharges, waitingCharges, lastEnd, lateness}
 use Rattle.rules.specs.Search.{added, Caps}
-use Rattle.rules.specs.Replan.{byLatestStart, Proposal, starts, none, Placed, all, stuck, placeAll, startsIn, proposed, lineByLine, largestLine, smallestLine, placedActive, Outcome, ends, lowers, Replanned, roundsFrom}
+use Rattle.rules.specs.Priority.{Fitting}
+use Rattle.rules.specs.Replan.{byLatestStart, Proposal, starts, none, Placed, all, stuck, placeAll, startsIn, proposed, placeLines, largestLine, smallestLine, placedActive, Outcome, ends, lowers, Replanned, roundsFrom}
 use Rattle.rules.specs.Judgement.{restarted}
 use Rattle.rules.specs.Calls.{places, State, limitsOf, Result, answering, Call, preview, commit, move, offer, replanLatest, replanLines, enquire, lent, drawFor, isStart, refusals, previewedAt, committing, moving, kept, decided, enquiring}
 
@@ -30,11 +31,9 @@ soundBefore y clock xs = fromOn clock xs (λ t. soundCounts y (numbers xs t))
 abbrev pub earliestBefore : Limits → ℕ → List Load → Draw → Found
 earliestBefore y clock xs a = first (λ s. soundBefore y clock (added xs a s)) (suc (lastUntil xs - clock)) clock
 
-abbrev pub underBefore : Caps → ℕ → List Load → Draw → Found
-underBefore cap clock xs a =
-    first (λ s. throughout (λ t. leb (numberActive (added xs a s) (a .line) t) (cap (a .line) t)) (a .time) s)
-    (suc (lastUntil xs - clock))
-    clock
+abbrev pub fitsBefore : Caps → Fitting
+fitsBefore cap xs s c =
+    throughout (λ t. leb (numberActive (added xs (drawOf c) s) (c .line) t) (cap (c .line) t)) (c .time) s
 
 abbrev pub unbalancedBefore : Limits → ℕ → List Load → Found
 unbalancedBefore y clock xs = first (λ t. not (balanced (y .bound) (numbers xs t))) (lastUntil xs - clock) clock
@@ -62,9 +61,7 @@ afterBefore y clock held (all placed) =
 
 abbrev pub roundBefore : Limits → ℕ → List Charge → Caps → Outcome
 roundBefore y clock held cap =
-    afterBefore y clock held
-    (placeAll (λ placed c. underBefore cap clock (loadsOf (begunCharges clock held ++ placed)) (drawOf c)) []
-    (lineByLine (waitingCharges clock held)))
+    afterBefore y clock held (placeLines (fitsBefore cap) clock (begunCharges clock held) (waitingCharges clock held) 3)
 
 abbrev pub byLinesBefore : Limits → ℕ → ℕ → List Charge → Replanned
 byLinesBefore y clock allowance held = roundsFrom (roundBefore y clock held) (allowance - 1) 1 (λ l t. y .limit)

@@ -4,7 +4,7 @@ use mathlib.Core.Bool.{true}
 use mathlib.Core.List.{List, map}
 use Rattle.rules.specs.Basics.{Each}
 use Rattle.rules.specs.Load.{limited, balanced, sound}
-use Rattle.rules.specs.Search.{earliest, earliestUnder}
+use Rattle.rules.specs.Search.{earliest}
 use Rattle.rules.specs.Replan.{placeAll, latest}
 use Rattle.rules.specs.Judgement.{judged}
 use Rattle.rules.specs.Calls.{opening, previewing, committing, moving, offering, replanningLatest, enquiring}
@@ -18,7 +18,7 @@ use Rattle.excluded.proofs.TestsThree.{three-tested}
 
 -- the checker computes every test on every list
 counts-hold : map computed (withRules wrongCounts) ≡ withRules wrongCounts
-unfolding limited balanced sound earliest earliestUnder opening previewing committing enquiring
+unfolding limited balanced sound earliest opening previewing committing enquiring
 counts-hold = refl
 
 charges-hold : map computed (withRules wrongCharges) ≡ withRules wrongCharges

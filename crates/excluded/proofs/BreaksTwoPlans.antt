@@ -5,8 +5,9 @@ use mathlib.Core.Bool.{true}
 use mathlib.Core.List.{[], _∷_, map}
 use Rattle.rules.specs.Basics.{Each}
 use Rattle.rules.specs.Load.{limited, balanced, sound}
-use Rattle.rules.specs.Search.{earliest, earliestUnder, firstUnbalanced}
-use Rattle.rules.specs.Replan.{placeAll, latest, round, roundsFrom, byLines}
+use Rattle.rules.specs.Search.{earliest, firstUnbalanced}
+use Rattle.rules.specs.Priority.{fading, weights, weightOf, firstFit, picked}
+use Rattle.rules.specs.Replan.{placeAll, latest, placeOn, round, roundsFrom, byLines}
 use Rattle.rules.specs.Judgement.{judged}
 use Rattle.rules.specs.Calls.{offering, replanningLatest, replanningLines}
 use Rattle.excluded.specs.Same.{every}
@@ -28,7 +29,7 @@ pub exactly-better : Each (Exactly Plan Merit Merits) plans
 exactly-better = each-exactly Plan Merit Merits merited merits better-tested plans plans-hold
 
 pub entries-hold : map computed entries ≡ entries
-unfolding limited balanced sound earliest earliestUnder firstUnbalanced placeAll latest round roundsFrom byLines judged offering replanningLatest replanningLines
+unfolding limited balanced sound earliest firstUnbalanced placeAll latest fading weights weightOf firstFit picked placeOn round roundsFrom byLines judged offering replanningLatest replanningLines
 entries-hold = refl
 
 -- so each wrong station breaks the fields that its entry names, and no other, and the rules break none

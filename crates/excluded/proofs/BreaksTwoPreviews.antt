@@ -4,7 +4,7 @@ use mathlib.Core.Bool.{true}
 use mathlib.Core.List.{map}
 use Rattle.rules.specs.Basics.{Each}
 use Rattle.rules.specs.Load.{limited, balanced, sound}
-use Rattle.rules.specs.Search.{earliest, earliestUnder}
+use Rattle.rules.specs.Search.{earliest}
 use Rattle.rules.specs.Calls.{previewing}
 use Rattle.excluded.specs.Same.{every}
 use Rattle.excluded.specs.Breaks.{Exactly, aloneIn}
@@ -15,7 +15,7 @@ use Rattle.excluded.proofs.TestsTwoPreviews.{previews-tested}
 
 -- the checker computes every test
 pub entries-hold : map computed entries ≡ entries
-unfolding limited balanced sound earliest earliestUnder previewing
+unfolding limited balanced sound earliest previewing
 entries-hold = refl
 
 -- so each wrong station breaks the field that its entry names, and no other, and the rules break none

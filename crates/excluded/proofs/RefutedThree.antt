@@ -5,7 +5,7 @@ use mathlib.Core.Bool.{false≢true}
 use mathlib.Core.List.{[], _∷_}
 use native.Mathlib.Omega.{arith}
 use Rattle.rules.specs.Load.{limited, balanced, sound}
-use Rattle.rules.specs.Search.{earliest, earliestUnder}
+use Rattle.rules.specs.Search.{earliest}
 use Rattle.rules.specs.Replan.{placeAll, latest}
 use Rattle.rules.specs.Judgement.{judged}
 use Rattle.rules.specs.Entry.{lentList}
@@ -31,7 +31,7 @@ fixed-start d = let h : 2 ≤ 1 = d .limit 1 5 line-one in omega arith
 
 -- `balance`: two charges of line 1 in minute 0, none of line 2
 own-line-only : DemandThree ownLineOnly two (single ∷ single ∷ []) → ⊥
-unfolding limited balanced sound earliest earliestUnder opening committing enquiring
+unfolding limited balanced sound earliest opening committing enquiring
 own-line-only d = let h : 2 ≤ 1 = d .balance 1 2 0 line-one line-two in omega arith
 
 -- `balance`: in minute 0 two charges of line 1, one of line 2, none of line 3

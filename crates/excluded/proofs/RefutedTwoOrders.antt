@@ -7,7 +7,7 @@ use native.Mathlib.Omega.{arith}
 use lib.ListN.{length}
 use Rattle.rules.specs.Load.{limited, balanced, sound}
 use Rattle.rules.specs.Charge.{loadsOf, lastEnd}
-use Rattle.rules.specs.Search.{added, earliest, earliestUnder}
+use Rattle.rules.specs.Search.{added, earliest}
 use Rattle.rules.specs.Calls.{refused, previewed, committed, waiting, drawFor, refusals, State, preview, commit, committing}
 use Rattle.rules.proofs.Granted.{refusals-none}
 use Rattle.guarantee.specs.Past.{Gives}
@@ -60,7 +60,6 @@ limit-ignored d =
 
 -- `sound .balance`: N = 2, D = 1
 own-line-only : DemandTwo ownLineOnly stationTwo → ⊥
-unfolding earliestUnder
 own-line-only d =
     let h : 2 ≤ 1
     = preview-earliest ownLineOnly stationTwo 1 10 60 1 0 d refl refl

@@ -6,8 +6,9 @@ use native.Mathlib.Omega.{arith}
 use lib.ListN.{length}
 use Rattle.rules.specs.Load.{count, limited, balanced, sound}
 use Rattle.rules.specs.Charge.{Charge, loadsOf, lastEnd}
-use Rattle.rules.specs.Search.{earliest, earliestUnder, firstUnbalanced}
-use Rattle.rules.specs.Replan.{starts, placeAll, latest, round, roundsFrom, byLines}
+use Rattle.rules.specs.Search.{earliest, firstUnbalanced}
+use Rattle.rules.specs.Priority.{fading, weights, weightOf, firstFit, picked}
+use Rattle.rules.specs.Replan.{starts, placeAll, latest, placeOn, round, roundsFrom, byLines}
 use Rattle.rules.specs.Judgement.{restarted, judged}
 use Rattle.rules.specs.CasesAToL.{ordersH}
 use Rattle.rules.specs.Calls.{settings, State, planned, offer, offering, step}
@@ -158,14 +159,14 @@ always-kept d =
 
 -- `answer`: case l, one round, cause 7
 spent-after-none : DemandTwo spentAfterNone station → ⊥
-unfolding limited balanced sound earliest earliestUnder firstUnbalanced placeAll round roundsFrom byLines judged
+unfolding limited balanced sound earliest firstUnbalanced fading weights weightOf firstFit picked placeOn round roundsFrom byLines judged
 spent-after-none d =
     let h : planned 2 0 0 0 ≡ planned 7 0 0 1 = d .replans-lines 1 .answer (refl, tt) in
     let z : _≡_ {A = ℕ} 2 7 = cc in
     omega arith
 
 rounds-invented : DemandTwo roundsInvented station → ⊥
-unfolding limited balanced sound earliest earliestUnder firstUnbalanced placeAll round roundsFrom byLines judged
+unfolding limited balanced sound earliest firstUnbalanced fading weights weightOf firstFit picked placeOn round roundsFrom byLines judged
 rounds-invented d =
     let h : planned 7 0 0 3 ≡ planned 7 0 0 1 = d .replans-lines 3 .answer (refl, tt) in
     let z : _≡_ {A = ℕ} 3 1 = cc in

@@ -7,7 +7,7 @@ use lib.ListN.{length, drop}
 use Rattle.rules.specs.Basics.{at, first}
 use Rattle.rules.specs.Load.{Load, Draw, draw, limits, count, lastUntil, limitAt, balanceAt, fromOn, sound}
 use Rattle.rules.specs.Charge.{Charge, loadsOf, lastEnd}
-use Rattle.rules.specs.Search.{added, earliest, earliestUnder}
+use Rattle.rules.specs.Search.{added, earliest, fitsUnder}
 use Rattle.rules.specs.Calls.{State, limitsOf, holding, waiting, Result, drawFor, startFor, isStart, previewedAt, previewing, committing}
 use Rattle.earlier.specs.Earlier.{orderedAt}
 use Rattle.guarantee.specs.Past.{Gives}
@@ -17,7 +17,11 @@ use Rattle.excluded.specs.Parts.{withPreviews, withCommits, withUntested
 
 -- a search that ignores the other lines
 abbrev pub ownLineOnly : Gives
-ownLineOnly = withSearch (λ s a. earliestUnder (λ l t. s .limit) (s .clock) (loadsOf (s .charges)) a)
+ownLineOnly =
+    withSearch
+    (λ s a.
+    let xs : List Load = loadsOf (s .charges) in
+    first (fitsUnder (λ l t. s .limit) xs a) (suc (lastUntil xs - s .clock)) (s .clock))
 
 -- lines 1 and 2, and 2 and 3, are compared
 abbrev neighboursAt : State → List Load → ℕ → Bool

@@ -10,7 +10,8 @@ use Rattle.rules.specs.Basics.{Each, Found, at, nothing}
 use Rattle.rules.specs.Load.{Limits, counts}
 use Rattle.rules.specs.Charge.{Charge, starting, loadsOf, isBegun, begunCharges, waitingCharges}
 use Rattle.rules.specs.Search.{Caps, firstUnbalanced}
-use Rattle.rules.specs.Replan.{Proposal, starts, none, Placed, all, stuck, placeAll, proposed, soundStart, byLatestStart, latest, cappedStart, lineByLine, largestLine, smallestLine, lowered, placedActive, Outcome, ends, lowers, unbalancedIn, afterRound, round, goOn, roundsFrom, byLines}
+use Rattle.rules.specs.Priority.{fitsAt}
+use Rattle.rules.specs.Replan.{Proposal, starts, none, Placed, all, stuck, placeAll, proposed, soundStart, byLatestStart, latest, placeLines, largestLine, smallestLine, lowered, placedActive, Outcome, ends, lowers, unbalancedIn, afterRound, round, goOn, roundsFrom, byLines}
 use Rattle.rules.specs.Judgement.{restarted}
 use Rattle.rules.proofs.Restarts.{Restarted, empty, same, other}
 
@@ -99,7 +100,7 @@ lines-proper y k allowance held =
     roundsFrom-proper (length (waitingCharges k held)) (round y k held)
     (λ cap.
     afterRound-proper y k held
-    (placeAll (cappedStart cap k (begunCharges k held)) [] (lineByLine (waitingCharges k held))))
+    (placeLines (fitsAt cap) k (begunCharges k held) (waitingCharges k held) 3))
     (allowance - 1)
     1
     (λ l t. y .limit)

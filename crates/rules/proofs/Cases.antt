@@ -4,8 +4,9 @@ use Prim.Native.Nat.{ℕ}
 use mathlib.Core.List.{List, [], _∷_, _++_, map}
 use Rattle.rules.specs.Load.{limited, balanced, sound}
 use Rattle.rules.specs.Charge.{waitingCharges}
-use Rattle.rules.specs.Search.{earliest, earliestUnder, firstUnbalanced}
-use Rattle.rules.specs.Replan.{byLatestStart, placeAll, latest, round, roundsFrom, byLines}
+use Rattle.rules.specs.Search.{earliest, firstUnbalanced}
+use Rattle.rules.specs.Priority.{fading, weights, weightOf, firstFit, picked}
+use Rattle.rules.specs.Replan.{byLatestStart, placeAll, latest, placeOn, round, roundsFrom, byLines}
 use Rattle.rules.specs.Judgement.{judged}
 use Rattle.rules.specs.Calls.{settings, State, Answer, refused, previewed, committed, moved, Result, opening, preview, commit, run, previewing, committing, moving, offering, replanningLatest, replanningLines, enquiring}
 use Rattle.rules.specs.Entry.{Case, computed, stateAfter}
@@ -14,13 +15,14 @@ use Rattle.rules.specs.CasesAtEdges.{casesAtEdges}
 use Rattle.rules.specs.CasesInAHurry.{casesInAHurry}
 use Rattle.rules.specs.CasesPreviewed.{casesPreviewed}
 use Rattle.rules.specs.CasesOfTwoRates.{casesOfTwoRates}
+use Rattle.rules.specs.CasesOfPriority.{casesOfPriority}
 use Rattle.rules.specs.CasesOfTails.{casesOfTails}
 
 abbrev pub cases : List Case
-cases = casesAToL ++ casesAtEdges ++ casesInAHurry ++ casesPreviewed ++ casesOfTwoRates ++ casesOfTails
+cases = casesAToL ++ casesAtEdges ++ casesInAHurry ++ casesPreviewed ++ casesOfTwoRates ++ casesOfPriority ++ casesOfTails
 
 pub cases-hold : map computed cases ≡ cases
-unfolding limited balanced sound earliest earliestUnder firstUnbalanced placeAll latest round roundsFrom byLines judged opening previewing committing moving offering replanningLatest replanningLines enquiring
+unfolding limited balanced sound earliest firstUnbalanced placeAll latest fading weights weightOf firstFit picked placeOn round roundsFrom byLines judged opening previewing committing moving offering replanningLatest replanningLines enquiring
 cases-hold = refl
 
 -- case g before its replan

@@ -12,6 +12,10 @@ pub mod Rounds
 pub mod Tickets
 pub mod ThenTicket
 pub mod LatestStarts
+pub mod Weights
+pub mod Fitting
+pub mod Picking
+pub mod Foremost
 pub mod Queues
 pub mod Reporting
 pub mod Ends

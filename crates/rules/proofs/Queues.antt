@@ -5,8 +5,8 @@ use mathlib.Core.Bool.{Bool, false}
 use mathlib.Core.List.{List, [], _∷_}
 use native.Mathlib.Omega.{arith}
 use Rattle.rules.specs.Basics.{Each, sortedBy}
-use Rattle.rules.specs.Charge.{Charge}
-use Rattle.rules.specs.Replan.{latestStartBefore, byLatestStart}
+use Rattle.rules.specs.Charge.{Charge, latestStartBefore}
+use Rattle.rules.specs.Replan.{byLatestStart}
 use Rattle.rules.specs.Calls.{startBefore}
 use Rattle.rules.specs.Valid.{Rising}
 use Rattle.rules.proofs.Lists.{each-map}

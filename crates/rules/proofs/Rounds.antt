@@ -1,22 +1,16 @@
--- The rounds of replan by lines: caps, largest and smallest line, and that every charge gets a start.
+-- The rounds of replan by lines: caps, largest and smallest line.
 use mathlib.Core.Logic.{_⊎_, inl, inr}
 use mathlib.Core.Path.{_≡_, refl, sym, _∙_}
-use Prim.Native.Nat.{ℕ, _+_, min, _≤_, _<_}
+use Prim.Native.Nat.{ℕ, min, _≤_, _<_}
 use mathlib.Core.Bool.{Bool, true, false, cond, _&&_, true≢false}
-use mathlib.Core.List.{List, [], _∷_, _++_, map, append-assoc, append-nil}
 use native.Mathlib.Omega.{arith}
 use lib.Dec.{leb, eqb}
 use borrow.Author.Tests.{leb-true, leb-false, le-leb}
-use Rattle.rules.specs.Basics.{Found, at, Each}
 use Rattle.rules.specs.Load.{IsLine, onLines}
-use Rattle.rules.specs.Charge.{Charge, starting, drawOf, loadsOf, isWaiting, begunCharges, waitingCharges}
 use Rattle.rules.specs.Search.{Caps}
-use Rattle.rules.specs.Replan.{latestStartBefore, byLatestStart, all, placeAll, cappedStart, onLine, lineByLine, lowestLine, largestLine, smallestLine, lowered}
+use Rattle.rules.specs.Replan.{lowestLine, largestLine, smallestLine, lowered}
 use Rattle.rules.proofs.Ranges.{fails, below-or-not}
-use Rattle.rules.proofs.Lists.{map-append, each-append, keep-each}
-use Rattle.rules.proofs.Sorting.{sorted-rearranged, each-rearranged}
 use Rattle.rules.proofs.Counts.{onLines-at, onLines-all}
-use Rattle.rules.proofs.Searches.{under-found}
 
 -- Caps
 
@@ -140,66 +134,3 @@ largest-line f = top-line (λ a b. leb (f a) (f b)) (up f)
 
 pub smallest-line : (f : ℕ → ℕ) → Top (λ a b. leb (f b) (f a)) (smallestLine f)
 smallest-line f = top-line (λ a b. leb (f b) (f a)) (down f)
-
--- Every charge gets a start
-
-abbrev pub tickets : List Charge → List ℕ
-tickets cs = map (λ c. c .ticket) cs
-
--- the charges are placed, each once and in turn
-pub record AllPlaced (find : List Charge → Charge → Found) (placed cs : List Charge) : Type 0 where
-  pub plan : List Charge
-  pub gives : placeAll find placed cs ≡ all plan
-  pub each : tickets plan ≡ tickets placed ++ tickets cs
-
--- a search that finds a start for each of these charges places them all
-pub all-placed :
-    (P : Charge → Type 0) (find : List Charge → Charge → Found)
-    → ((placed : List Charge) (c : Charge) → P c → (s : ℕ) × (find placed c ≡ at s))
-    → (placed cs : List Charge)
-    → Each P cs
-    → AllPlaced find placed cs
-unfolding placeAll
-all-placed P find h placed [] e = record { plan = placed; gives = refl; each = sym (append-nil (tickets placed)) }
-all-placed P find h placed (c ∷ cs) e =
-    go (h placed c (e .0)) (λ s. all-placed P find h (placed ++ (starting c s ∷ [])) cs (e .1))
-  where
-    go :
-        (s : ℕ) × (find placed c ≡ at s)
-        → ((s : ℕ) → AllPlaced find (placed ++ (starting c s ∷ [])) cs)
-        → AllPlaced find placed (c ∷ cs)
-    go (s, e) rest =
-        record {
-          plan = rest s .plan;
-          gives = rw (e, placeAll) (rest s .gives);
-          each =
-              rest s .each
-              ∙ rw (
-                map-append (λ (x : Charge). x .ticket) placed (starting c s ∷ []),
-                append-assoc (tickets placed) (c .ticket ∷ []) (tickets cs),
-              );
-        }
-
--- the charges taken line by line are those that wait
-pub each-line-by-line : (P : Charge → Type 0) (cs : List Charge) → Each P cs → Each P (lineByLine cs)
-each-line-by-line P cs e =
-    each-append P (byLatestStart (onLine 1 cs)) (byLatestStart (onLine 2 cs) ++ byLatestStart (onLine 3 cs)) (by 1)
-    (each-append P (byLatestStart (onLine 2 cs)) (byLatestStart (onLine 3 cs)) (by 2) (by 3))
-  where
-    by : (l : ℕ) → Each P (byLatestStart (onLine l cs))
-    by l = each-rearranged P (sorted-rearranged latestStartBefore (onLine l cs)) (keep-each P (λ c. eqb (c .line) l) cs e)
-
--- in a round every charge gets a start: no cap is below D, for it is N or a count plus D, and no rate is above D
-pub round-places :
-    (k : ℕ) (cap : Caps) (clock : ℕ) (held : List Charge)
-    → AtLeast k cap
-    → Each (λ c. c .rate ≤ k) held
-    → AllPlaced (cappedStart cap clock (begunCharges clock held)) [] (lineByLine (waitingCharges clock held))
-round-places k cap clock held h rates =
-    all-placed (λ c. c .rate ≤ k) (cappedStart cap clock (begunCharges clock held))
-    (λ placed c r.
-    under-found cap clock (loadsOf (begunCharges clock held ++ placed)) (drawOf c) (λ t. omega (arith, h (c .line) t)))
-    []
-    (lineByLine (waitingCharges clock held))
-    (each-line-by-line (λ c. c .rate ≤ k) (waitingCharges clock held)
-    (keep-each (λ c. c .rate ≤ k) (isWaiting clock) held rates))

@@ -9,7 +9,7 @@ use lib.Dec.{leb}
 use borrow.Author.Tests.{le-leb, leb-true, not-false}
 use Rattle.rules.specs.Basics.{throughout, at, nothing}
 use Rattle.rules.specs.Load.{Load, Draw, loadFrom, draws, count, counts, lastUntil, Limits, balanceAt, sound}
-use Rattle.rules.specs.Search.{added, earliest, Caps, earliestUnder, firstUnbalanced}
+use Rattle.rules.specs.Search.{added, earliest, Caps, fitsUnder, firstUnbalanced}
 use Rattle.rules.proofs.Ranges.{fails, below-or-not, throughout-all, throughout-at, IsFirst, first-found, first-none, found-or-not}
 use Rattle.rules.proofs.Counts.{share-own, draws-before, draws-in, draws-most, count-append, count-past, Sound, sound-same, sound-few, sound-from, sound-true, balance-past, Balanced, balanced-at}
 
@@ -114,14 +114,11 @@ earliest-found y k xs a n d e =
     (λ t j i. sound-from y k xs e t j))
     ∙ earliest-none y k xs a n d none (max k (lastUntil xs)) (omega arith)))
 
--- The smallest start under a cap
+-- Under a cap
 
 -- the line's count, the load itself included, is at or below the cap in all its minutes
 abbrev pub Under : Caps → List Load → Draw → ℕ → Type 0
 Under cap xs a s = (t : ℕ) → s ≤ t → t < s + a .time → count xs (a .line) t + a .rate ≤ cap (a .line) t
-
-abbrev pub underTest : Caps → List Load → Draw → ℕ → Bool
-underTest cap xs a s = throughout (λ t. leb (count (added xs a s) (a .line) t) (cap (a .line) t)) (a .time) s
 
 pub count-added-own :
     (xs : List Load) (a : Draw) (s t : ℕ)
@@ -132,42 +129,28 @@ count-added-own xs a s t h j =
     rw (count-added xs a s (a .line) t, draws-in (loadFrom a s) (a .line) t h j, share-own (a .line) (a .rate))
 
 pub under-at :
-    (cap : Caps) (xs : List Load) (a : Draw) (s : ℕ) → underTest cap xs a s ≡ true → Under cap xs a s
+    (cap : Caps) (xs : List Load) (a : Draw) (s : ℕ) → fitsUnder cap xs a s ≡ true → Under cap xs a s
 under-at cap xs a s e t h j =
     rw (← (count-added-own xs a s t h j))
     (leb-true (count (added xs a s) (a .line) t) (cap (a .line) t)
     (throughout-at (λ u. leb (count (added xs a s) (a .line) u) (cap (a .line) u)) (a .time) s e t h j))
 
 pub under-all :
-    (cap : Caps) (xs : List Load) (a : Draw) (s : ℕ) → Under cap xs a s → underTest cap xs a s ≡ true
+    (cap : Caps) (xs : List Load) (a : Draw) (s : ℕ) → Under cap xs a s → fitsUnder cap xs a s ≡ true
 under-all cap xs a s h =
     throughout-all (λ u. leb (count (added xs a s) (a .line) u) (cap (a .line) u)) (a .time) s
     (λ t i j.
     le-leb (count (added xs a s) (a .line) t) (cap (a .line) t)
     (rw (count-added-own xs a s t i j) (h t i j)))
 
-pub under-first :
-    (cap : Caps) (k : ℕ) (xs : List Load) (a : Draw) (s : ℕ)
-    → earliestUnder cap k xs a ≡ at s
-    → IsFirst (underTest cap xs a) (suc (lastUntil xs - k)) k s
-unfolding earliestUnder
-under-first cap k xs a s e = first-found (underTest cap xs a) (suc (lastUntil xs - k)) k s e
-
--- a cap that is never below the rate always leaves a start
-pub under-found :
-    (cap : Caps) (k : ℕ) (xs : List Load) (a : Draw)
+-- past the last end a cap that is not below the rate leaves room
+pub under-past :
+    (cap : Caps) (xs : List Load) (a : Draw) (s : ℕ)
     → ((t : ℕ) → a .rate ≤ cap (a .line) t)
-    → (s : ℕ) × (earliestUnder cap k xs a ≡ at s)
-unfolding earliestUnder
-under-found cap k xs a h =
-    found-or-not (earliestUnder cap k xs a)
-    (λ none.
-    true≢false
-    (sym
-    (under-all cap xs a (max k (lastUntil xs))
-    (λ t i j. rw (count-past xs (a .line) t (omega arith)) (omega (arith, h t))))
-    ∙ first-none (underTest cap xs a) (suc (lastUntil xs - k)) k none (max k (lastUntil xs))
-    (omega arith) (omega arith)))
+    → lastUntil xs ≤ s
+    → fitsUnder cap xs a s ≡ true
+under-past cap xs a s h le =
+    under-all cap xs a s (λ t i j. rw (count-past xs (a .line) t (omega arith)) (omega (arith, h t)))
 
 -- The first unbalanced minute
 

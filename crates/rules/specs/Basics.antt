@@ -23,6 +23,11 @@ abbrev pub first : (ℕ → Bool) → ℕ → ℕ → Found
 first f zero a = nothing
 first f (suc k) a = elim (f a) [ true ↦ at a | false ↦ first f k (suc a) ]
 
+-- how many of the k numbers from a on pass f, up to the first at which it fails
+abbrev pub runOf : (ℕ → Bool) → ℕ → ℕ → ℕ
+runOf f zero a = 0
+runOf f (suc k) a = cond (f a) (suc (runOf f k (suc a))) 0
+
 -- a table of conditions with their numbers: the number of the first condition that holds, 0 where none does
 abbrev pub firstOf : List (Bool × ℕ) → ℕ
 firstOf [] = 0

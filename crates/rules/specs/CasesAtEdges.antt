@@ -7,11 +7,13 @@ use Rattle.rules.specs.Calls.{refused, opened, committed, moved, planned
 use Rattle.rules.specs.Entry.{gives, givesWith, Case, lentList, startsFrom, reports, opens, case, replanned}
 use Rattle.rules.specs.CasesAToL.{ordersH, givenH}
 
--- d − p is 50, 10 and 13, so ticket 2 goes first and then ticket 3; by d alone, 20 and 15, ticket 3 would go first.
+-- d − p is 50, 10 and 13, so ticket 2 goes first and then ticket 3; by d alone, 20 and 15, ticket 3 would go first. By lines n is
+-- 3 and P is 22, so k is beyond the table, 7680 / 22 = 349 and 9984 / 22 = 453: E(349) / 10 = 4404914 / 10 is above
+-- E(453) / 2 = 856298 / 2, and the order is the same.
 abbrev ordersByStart : List Call
 ordersByStart = commit 1 10 60 1 0 ∷ commit 1 10 20 1 10 ∷ commit 1 2 15 1 20 ∷ []
 
--- d − p is 50, 10 and 10: ticket 2 goes before ticket 3.
+-- d − p is 50, 10 and 10: ticket 2 goes before ticket 3. By lines both have m of 10, and ticket 2 is the shorter.
 abbrev ordersTied : List Call
 ordersTied = commit 1 10 60 1 0 ∷ commit 1 4 14 1 10 ∷ commit 1 10 20 1 14 ∷ []
 
@@ -140,7 +142,7 @@ plans =
     ∷ case 2 50 1
     (commit 1 10 60 1 0 ∷ commit 1 10 60 1 10 ∷ offer (0 ∷ 0 ∷ []) ∷ [])
     (startsFrom 1 (0 ∷ 10 ∷ []) ++ (givesWith (planned 6 0 0 0) (0 ∷ 0 ∷ []) ∷ []))
-    -- By d − p, and then by ticket, in both replans.
+    -- By d − p, and then by ticket; by lines with the same starts.
     ∷ replanned ordersByStart replanLatest (0 ∷ 10 ∷ 20 ∷ []) (planned 0 7 0 0) (12 ∷ 0 ∷ 10 ∷ [])
     ∷ replanned ordersByStart (replanLines 1) (0 ∷ 10 ∷ 20 ∷ []) (planned 0 7 0 1) (12 ∷ 0 ∷ 10 ∷ [])
     ∷ replanned ordersTied replanLatest (0 ∷ 10 ∷ 14 ∷ []) (planned 0 4 0 0) (14 ∷ 0 ∷ 4 ∷ [])

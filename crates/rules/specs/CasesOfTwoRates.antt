@@ -9,7 +9,8 @@ use Rattle.rules.specs.Entry.{Given, gives, givesWith, Case, lentList, s
 abbrev ordersOfTwoRates : List Call
 ordersOfTwoRates = commit 1 10 60 2 0 ∷ commit 1 10 60 2 10 ∷ commit 1 10 25 1 20 ∷ []
 
--- Ticket 3 goes first, by d − p of 15: starts 10, 20, 0. A taken plan keeps the rates.
+-- Ticket 3 goes first: starts 10, 20, 0. By latest start that is for its d − p of 15; by lines n is 3 and P is 30, so that its k is
+-- 11520 / 30 = 384 and the others' 1280, beyond the table. A taken plan keeps the rates.
 abbrev exchanged : List Given
 exchanged = map gives (waiting 10 2 ∷ waiting 20 2 ∷ waiting 0 1 ∷ [])
 

@@ -3,6 +3,8 @@ use Prim.Native.Nat.{ℕ, _+_, _-_, max}
 use mathlib.Core.Bool.{Bool, not, _&&_, _||_}
 use mathlib.Core.List.{List, [], _∷_, map}
 use lib.Dec.{ltb, leb, eqb}
+use lib.IntN.{ℤ, subℕ}
+use lib.Signed.{ltZ, leZ}
 use Rattle.rules.specs.Basics.{keep}
 use Rattle.rules.specs.Load.{Load, Draw, draw, loadFrom}
 
@@ -75,6 +77,15 @@ unfinishedCharges clock cs = keep (λ c. not (isFinished clock c)) cs
 -- An order of charges "by" a number of theirs, x and y, "then ticket".
 abbrev pub thenTicket : ℕ → ℕ → Charge → Charge → Bool
 thenTicket x y a b = ltb x y || (eqb x y && ltb (a .ticket) (b .ticket))
+
+-- d − p as a signed number: "A latest start may now be negative". `subℕ` gives the integer.
+abbrev pub latestStart : Charge → ℤ
+latestStart c = subℕ (c .due) (c .time)
+
+-- "by d − p, then ticket", and "the order by latest start must place it before zero": the order of the integers
+abbrev pub latestStartBefore : Charge → Charge → Bool
+latestStartBefore a b =
+    ltZ (latestStart a) (latestStart b) || (leZ (latestStart a) (latestStart b) && ltb (a .ticket) (b .ticket))
 
 -- "the last end of held charges (0 if none)", without r: "Cause 4 compares s + p"
 abbrev pub lastEnd : List Charge → ℕ

@@ -1,23 +1,14 @@
 -- Both replanners (docs/RULES.md, sections 4 and 5).
 use Prim.Native.Nat.{ℕ, zero, suc, _+_, _-_, min}
-use mathlib.Core.Bool.{Bool, cond, _&&_, _||_}
+use mathlib.Core.Bool.{Bool, cond, _&&_}
 use mathlib.Core.List.{List, [], _∷_, _++_, map}
-use lib.Dec.{ltb, leb, eqb}
-use lib.IntN.{ℤ, subℕ}
-use lib.Signed.{ltZ, leZ}
+use lib.Dec.{leb, eqb}
+use lib.ListN.{length}
 use Rattle.rules.specs.Basics.{Found, at, nothing, keep, some, sortedBy}
 use Rattle.rules.specs.Load.{active, counts, Limits, onLines}
-use Rattle.rules.specs.Charge.{Charge, starting, drawOf, loadOf, loadsOf, begunCharges, waitingCharges}
-use Rattle.rules.specs.Search.{earliest, Caps, earliestUnder, firstUnbalanced}
-
--- d − p as a signed number: "A latest start may now be negative". `subℕ` gives the integer.
-abbrev pub latestStart : Charge → ℤ
-latestStart c = subℕ (c .due) (c .time)
-
--- "by d − p, then ticket", and "the order by latest start must place it before zero": the order of the integers
-abbrev pub latestStartBefore : Charge → Charge → Bool
-latestStartBefore a b =
-    ltZ (latestStart a) (latestStart b) || (leZ (latestStart a) (latestStart b) && ltb (a .ticket) (b .ticket))
+use Rattle.rules.specs.Charge.{Charge, starting, drawOf, loadOf, loadsOf, begunCharges, waitingCharges, latestStartBefore}
+use Rattle.rules.specs.Search.{earliest, Caps, firstUnbalanced}
+use Rattle.rules.specs.Priority.{crowdOf, Pick, chosen, nobody, Fitting, fitsAt, picked, withoutTicket}
 
 abbrev pub byLatestStart : List Charge → List Charge
 byLatestStart cs = sortedBy latestStartBefore cs
@@ -63,17 +54,33 @@ latest y clock held =
     proposed (waitingCharges clock held)
     (placeAll (soundStart y clock (begunCharges clock held)) [] (byLatestStart (waitingCharges clock held)))
 
--- "Give each the smallest start, not below the clock, with the line's count, itself included, at or below the cap
--- in all its minutes."
-abbrev pub cappedStart : Caps → ℕ → List Charge → List Charge → Charge → Found
-cappedStart cap clock begun placed c = earliestUnder cap clock (loadsOf (begun ++ placed)) (drawOf c)
+-- One charge after another, as many as `k`: the one that `pick` takes of those left, with its start.
+unfoldable pub placeOn : (List Charge → List Charge → Pick) → ℕ → List Charge → List Charge → Placed
+placeOn pick zero placed left = all placed
+placeOn pick (suc k) placed left =
+    elim (pick placed left) [
+      | chosen c ↦ placeOn pick k (placed ++ (c ∷ [])) (withoutTicket (c .ticket) left)
+      | nobody ↦ stuck
+    ]
 
 abbrev pub onLine : ℕ → List Charge → List Charge
 onLine l cs = keep (λ c. eqb (c .line) l) cs
 
--- "for each line, 1 to 3 in turn, take its waiting charges by d − p, then ticket"
-abbrev pub lineByLine : List Charge → List Charge
-lineByLine cs = byLatestStart (onLine 1 cs) ++ (byLatestStart (onLine 2 cs) ++ byLatestStart (onLine 3 cs))
+-- "In a line, replan by lines now finds the smallest start at which any unplaced charge fits, and among those that fit there
+-- takes the one .."; n and P are those of the line's waiting charges "when the round begins", before any of them is placed.
+abbrev pub placeLine : Fitting → ℕ → List Charge → List Charge → ℕ → Placed → Placed
+placeLine fits clock begun waiting l stuck = stuck
+placeLine fits clock begun waiting l (all before) =
+    placeOn (λ placed left. picked fits clock (loadsOf (begun ++ placed)) (crowdOf (onLine l waiting)) left)
+    (length (onLine l waiting))
+    before
+    (onLine l waiting)
+
+-- "with no waiting charge placed, for each line, 1 to 3 in turn": the first l lines
+abbrev pub placeLines : Fitting → ℕ → List Charge → List Charge → ℕ → Placed
+placeLines fits clock begun waiting zero = all []
+placeLines fits clock begun waiting (suc l) =
+    placeLine fits clock begun waiting (suc l) (placeLines fits clock begun waiting l)
 
 -- the lowest line at which f holds, 3 where it holds on neither of the others
 abbrev pub lowestLine : (ℕ → Bool) → ℕ
@@ -118,8 +125,7 @@ afterRound y clock held (all placed) =
 -- "One round: with no waiting charge placed, for each line, 1 to 3 in turn .."
 unfoldable pub round : Limits → ℕ → List Charge → Caps → Outcome
 round y clock held cap =
-    afterRound y clock held
-    (placeAll (cappedStart cap clock (begunCharges clock held)) [] (lineByLine (waitingCharges clock held)))
+    afterRound y clock held (placeLines (fitsAt cap) clock (begunCharges clock held) (waitingCharges clock held) 3)
 
 -- a proposal, and the rounds made for it
 pub record Replanned : Type 0 where

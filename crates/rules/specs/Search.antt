@@ -1,7 +1,7 @@
 -- The smallest start of a charge, and the first unbalanced minute (docs/RULES.md, sections 3 to 5).
 -- Past the last end of a plan every count is 0, so each search ends there; proofs/Searches.antt shows that it misses nothing.
-use Prim.Native.Nat.{ℕ, suc, _-_}
-use mathlib.Core.Bool.{not}
+use Prim.Native.Nat.{ℕ, suc, _+_, _-_}
+use mathlib.Core.Bool.{Bool, not}
 use mathlib.Core.List.{List, [], _∷_, _++_}
 use lib.Dec.{leb}
 use Rattle.rules.specs.Basics.{throughout, Found, first}
@@ -19,12 +19,13 @@ earliest y clock xs a = first (λ s. sound y clock (added xs a s)) (suc (lastUnt
 abbrev pub Caps : Type 0
 Caps = ℕ → ℕ → ℕ
 
--- "the smallest start, not below the clock, with the line's count, itself included, at or below the cap in all its minutes"
-unfoldable pub earliestUnder : Caps → ℕ → List Load → Draw → Found
-earliestUnder cap clock xs a =
-    first (λ s. throughout (λ t. leb (count (added xs a s) (a .line) t) (cap (a .line) t)) (a .time) s)
-    (suc (lastUntil xs - clock))
-    clock
+-- room for one more charge of a rate on a line in minute t
+abbrev pub roomFor : Caps → List Load → ℕ → ℕ → ℕ → Bool
+roomFor cap xs line rate t = leb (count xs line t + rate) (cap line t)
+
+-- "the line's count, itself included, at or below the cap in all its minutes", for one more charge that starts in minute s
+abbrev pub fitsUnder : Caps → List Load → Draw → ℕ → Bool
+fitsUnder cap xs a s = throughout (λ t. leb (count (added xs a s) (a .line) t) (cap (a .line) t)) (a .time) s
 
 -- "the first minute t in which two counts differ by more than D, from the clock on"
 unfoldable pub firstUnbalanced : Limits → ℕ → List Load → Found
