@@ -5,6 +5,7 @@ use mathlib.Core.List.{List, [], _∷_, _++_, map}
 use Rattle.rules.specs.Load.{limited, balanced, sound}
 use Rattle.rules.specs.Charge.{waitingCharges}
 use Rattle.rules.specs.Search.{earliest, earliestUnder, firstUnbalanced}
+use Rattle.rules.specs.Candidate.{testedBy}
 use Rattle.rules.specs.Replan.{byLatestStart, placeAll, latest, round, roundsFrom, byLines}
 use Rattle.rules.specs.Judgement.{judged}
 use Rattle.rules.specs.Calls.{settings, State, Answer, refused, previewed, committed, moved, Result, opening, preview, commit, run, previewing, committing, moving, offering, replanningLatest, replanningLines, enquiring}
@@ -14,6 +15,7 @@ use Rattle.rules.specs.CasesAtEdges.{casesAtEdges}
 use Rattle.rules.specs.CasesInAHurry.{casesInAHurry}
 use Rattle.rules.specs.CasesPreviewed.{casesPreviewed}
 use Rattle.rules.specs.CasesOfTwoRates.{casesOfTwoRates}
+use Rattle.rules.specs.CasesOnBusyEvenings.{testedIn, casesOnBusyEvenings}
 use Rattle.rules.specs.CasesOfTails.{casesOfTails}
 
 abbrev pub cases : List Case
@@ -22,6 +24,11 @@ cases = casesAToL ++ casesAtEdges ++ casesInAHurry ++ casesPreviewed ++ casesOfT
 pub cases-hold : map computed cases ≡ cases
 unfolding limited balanced sound earliest earliestUnder firstUnbalanced placeAll latest round roundsFrom byLines judged opening previewing committing moving offering replanningLatest replanningLines enquiring
 cases-hold = refl
+
+-- the test of a candidate start, of which no call shows the number of minutes
+pub candidates-hold : map testedIn casesOnBusyEvenings ≡ casesOnBusyEvenings
+unfolding limited balanced testedBy
+candidates-hold = refl
 
 -- case g before its replan
 abbrev openedG : State

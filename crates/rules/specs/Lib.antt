@@ -2,6 +2,7 @@ pub mod Basics
 pub mod Load
 pub mod Charge
 pub mod Search
+pub mod Candidate
 pub mod Replan
 pub mod Judgement
 pub mod Calls
@@ -12,4 +13,5 @@ pub mod CasesAtEdges
 pub mod CasesInAHurry
 pub mod CasesPreviewed
 pub mod CasesOfTwoRates
+pub mod CasesOnBusyEvenings
 pub mod CasesOfTails
