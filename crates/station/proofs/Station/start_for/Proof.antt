@@ -30,7 +30,7 @@ module _ (c : tie.Else1) where
       (refusals-none (view (s .args .self)) (preview (s .args .line) (s .args .time) (s .args .due) (s .args .rate)) (sym (c .before .order-refusal .ensures) ∙ none))
 
 add-active-time : tie.Need-add-active-time
-add-active-time c = omega (arith, granted c .active-most)
+add-active-time c = omega (arith, granted (c .before) .active-most)
 
 earliest-start-requires : tie.Need-earliest-start-requires
 earliest-start-requires c κs =
