@@ -49,8 +49,9 @@ pub record Testing (p : Profile) (y : Limits) (a : Draw) (start until i t : ℕ)
   pub here : t < until → In (p .at) (p .steps) i t
   pub passed : (v : ℕ) → start ≤ v → v < t → fitsIn p y a v ≡ true
 
-pub test-begin : {p : Profile} (y : Limits) {a : Draw} {start step : ℕ} → CanTest p a start step → Testing p y a start (start + a .time) step start
-test-begin y can = record { low = omega arith; here = λ h. can .inside; passed = λ v c d. absurd (omega arith) }
+pub test-begin : {p : Profile} (y : Limits) {a : Draw} {start step i : ℕ} → CanTest p a start step → i ≡ step → Testing p y a start (start + a .time) i start
+test-begin y can same =
+    rw same (record { low = omega arith; here = λ h. can .inside; passed = λ v c d. absurd (omega arith) })
 
 module _ {p : Profile} {y : Limits} {a : Draw} {start step i t until : ℕ} (can : CanTest p a start step) (all : until ≡ start + a .time)
     (w : Testing p y a start until i t) where
@@ -81,15 +82,16 @@ module _ {p : Profile} {y : Limits} {a : Draw} {start step i t until : ℕ} (can
         ∙ g
 
     -- it ends at minute t
-    pub test-stops : r ≡ false → {looked : ℕ} → looked ≡ t - start + 1 → TestedAs p y a start (answer false looked i)
-    test-stops g {looked} k =
-        record {
+    pub test-stops : r ≡ false → {b : Bool} {looked : ℕ} → b ≡ false → looked ≡ t - start + 1 → TestedAs p y a start (answer b looked i)
+    test-stops g {b} {looked} verdict k =
+        rw verdict
+        (record {
           same =
               ap (λ (x : ℕ). testedOf (answer false x 0)) (k ∙ add-one (t - start))
               ∙ sym (tested-fails (fitsIn p y a) (a .time) start t
               (record { low = w .low; high = omega arith; passed = w .passed; fails = here-is g t (w .here more) }));
           inside = λ f. subst (λ (x : ℕ). In (p .at) (p .steps) i x) last (w .here more);
-        }
+        })
       where
         last : t ≡ start + looked - 1
         last = omega (arith, w .low)

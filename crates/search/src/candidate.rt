@@ -54,9 +54,10 @@ pub fn test_start<'a>(
         let y = count_of(counts, i, 2) + b;
         let z = count_of(counts, i, 3) + c;
         if !sound(limits.limit, limits.bound, x, y, z) {
+            let looked = t - start + 1;
             return Tested {
                 fits: false,
-                looked: t - start + 1,
+                looked,
                 step: i,
             };
         }

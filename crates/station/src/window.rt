@@ -18,6 +18,9 @@ ghost use Rattle.profile.specs.Shows.{profileOf};
 ghost use Rattle.station.specs.View.{view, Valid};
 ghost use Rattle.station.specs.Windows.{CanAddStarted, StartedAdded, Fits};
 
+// So many minutes more than twice as far as the last one a window reaches.
+const WIDER: u32 = 240;
+
 // Whether a start is not before `low` and before `high`.
 fn is_between(low: u32, high: u32, start: u32) -> bool
     ensures { λ r. ⌜ r ≡ (leb low start && ltb start high) ⌝ }
@@ -52,8 +55,8 @@ fn add_started(
 
 impl Station {
     // The smallest start with which the held plan and what is drawn are sound together. The first window ends with a charge
-    // that starts at the clock. Where it shows no start, the charges that begin in the next are added, which reaches at least
-    // twice as far.
+    // that starts at the clock. Where it shows no start, the charges that begin in the next one are added, which reaches more
+    // than twice as far.
     pub fn earliest_start(self, draw: Draw) -> u32
         requires { ⌜ Valid self × Fits self draw ⌝ }
         ensures { λ r. ⌜ startFor (view self) (drawOf draw) ≡ found r ⌝ }
@@ -77,7 +80,7 @@ impl Station {
                 return start;
             }
             low = until;
-            until = start + draw.time + (until - clock);
+            until = start + draw.time + (until - clock) + WIDER;
         }
     }
 }

@@ -29,7 +29,7 @@ add-until : tie.Need-add-until Inv-loop μ-loop
 add-until c = omega (arith, c .before .before .before .before .pre .ends-fit)
 
 loop-holds : tie.Need-loop-holds Inv-loop μ-loop
-loop-holds c = test-begin _ (c .before .before .before .before .pre)
+loop-holds c = test-begin _ (c .before .before .before .before .pre) (omega arith)
 
 count-of-requires : tie.Need-count-of-requires Inv-loop μ-loop
 count-of-requires c κs = (omega (arith, test-inside (c .before .before .before .before .before .before .pre) refl (c .before .loop .inv) (omega (arith, c .loop-test .taken))), record { low = omega arith; high = omega arith })
@@ -52,14 +52,14 @@ add-z c = omega (arith, test-small (c .before .before .before .before .before .b
 sound-requires : tie.Need-sound-requires Inv-loop μ-loop
 sound-requires c κs = search needs
 
-sub-t20 : tie.Need-sub-t20 Inv-loop μ-loop
-sub-t20 c = omega (arith, test-inside (c .before .before .before .before .before .before .before .before .before .before .before .pre) refl (c .before .before .before .before .before .before .loop .inv) (omega (arith, c .before .before .before .before .before .loop-test .taken)))
+sub-looked : tie.Need-sub-looked Inv-loop μ-loop
+sub-looked c = omega (arith, test-inside (c .before .before .before .before .before .before .before .before .before .before .before .pre) refl (c .before .before .before .before .before .before .loop .inv) (omega (arith, c .before .before .before .before .before .loop-test .taken)))
 
-add-t21 : tie.Need-add-t21 Inv-loop μ-loop
-add-t21 c = omega (arith, test-inside (c .before .before .before .before .before .before .before .before .before .before .before .pre) refl (c .before .before .before .before .before .before .loop .inv) (omega (arith, c .before .before .before .before .before .loop-test .taken)), c .before .before .before .before .before .before .before .before .before .before .before .pre .ends-fit)
+add-looked : tie.Need-add-looked Inv-loop μ-loop
+add-looked c = omega (arith, test-inside (c .before .before .before .before .before .before .before .before .before .before .before .pre) refl (c .before .before .before .before .before .before .loop .inv) (omega (arith, c .before .before .before .before .before .loop-test .taken)), c .before .before .before .before .before .before .before .before .before .before .before .pre .ends-fit)
 
 returns : tie.Need-returns Inv-loop μ-loop
-returns c = test-stops (c .before .before .before .before .before .before .before .before .before .before .before .pre) refl (c .before .before .before .before .before .before .loop .inv) (omega (arith, c .before .before .before .before .before .loop-test .taken)) (omega (arith, c .before .before .before .before .count-of .ensures, c .before .before .before .before .before .before .before .before .before .before .share-of .ensures .0)) (omega (arith, c .before .before .before .count-of2 .ensures, c .before .before .before .before .before .before .before .before .before .share-of2 .ensures .0)) (omega (arith, c .before .before .count-of3 .ensures, c .before .before .before .before .before .before .before .before .share-of3 .ensures .0)) (c .before .sound .ensures) (not-true _ (c .if1 .taken)) (omega arith)
+returns c = test-stops (c .before .before .before .before .before .before .before .before .before .before .before .pre) refl (c .before .before .before .before .before .before .loop .inv) (omega (arith, c .before .before .before .before .before .loop-test .taken)) (omega (arith, c .before .before .before .before .count-of .ensures, c .before .before .before .before .before .before .before .before .before .before .share-of .ensures .0)) (omega (arith, c .before .before .before .count-of2 .ensures, c .before .before .before .before .before .before .before .before .before .share-of2 .ensures .0)) (omega (arith, c .before .before .count-of3 .ensures, c .before .before .before .before .before .before .before .before .share-of3 .ensures .0)) (c .before .sound .ensures) (not-true _ (c .if1 .taken)) refl (omega arith)
 
 end-of-requires : tie.Need-end-of-requires Inv-loop μ-loop
 end-of-requires c κs = let h = test-inside (c .before .before .before .before .before .before .before .before .before .before .before .pre) refl (c .before .before .before .before .before .before .loop .inv) (omega (arith, c .before .before .before .before .before .loop-test .taken)) in (h .0, h .1)
@@ -94,8 +94,8 @@ test-start-spec =
     count-of-requires-3
     add-z
     sound-requires
-    sub-t20
-    add-t21
+    sub-looked
+    add-looked
     returns
     end-of-requires
     add-i

@@ -57,6 +57,10 @@ add-until-3 : tie.Need-add-until-3 Inv-loop μ-loop
 add-until-3 c =
     omega (arith, seeking-most (c .before .before .before .before .before .before .before .before .before .before .before .before .before .before .pre .0) (c .before .before .before .before .before .before .before .before .before .before .before .before .before .before .pre .1) (c .before .before .before .before .before .before .before .before .before .loop .inv) (c .before .before .before .before .before .before .add-started .ensures) (c .before .before .before .first-fitting .ensures), last-held _ (c .before .before .before .before .before .before .before .before .before .before .before .before .before .before .pre .0), c .before .before .before .before .before .before .before .before .before .before .before .before .before .before .pre .0 .state .clock-high, c .before .before .before .before .before .before .before .before .before .before .before .before .before .before .pre .1 .time-most, c .before .if1 .left, c .before .before .before .before .before .before .before .before .before .loop .inv .wide, c .before .before .before .before .before .before .before .before .before .loop .inv .from)
 
+add-until-4 : tie.Need-add-until-4 Inv-loop μ-loop
+add-until-4 c =
+    omega (arith, seeking-most (c .before .before .before .before .before .before .before .before .before .before .before .before .before .before .pre .0) (c .before .before .before .before .before .before .before .before .before .before .before .before .before .before .pre .1) (c .before .before .before .before .before .before .before .before .before .loop .inv) (c .before .before .before .before .before .before .add-started .ensures) (c .before .before .before .first-fitting .ensures), last-held _ (c .before .before .before .before .before .before .before .before .before .before .before .before .before .before .pre .0), c .before .before .before .before .before .before .before .before .before .before .before .before .before .before .pre .0 .state .clock-high, c .before .before .before .before .before .before .before .before .before .before .before .before .before .before .pre .1 .time-most, c .before .if1 .left, c .before .before .before .before .before .before .before .before .before .loop .inv .wide, c .before .before .before .before .before .before .before .before .before .loop .inv .from)
+
 loop-less : tie.Need-loop-less Inv-loop μ-loop
 loop-less c =
     omega (arith, seeking-most (c .before .before .before .before .before .before .before .before .before .before .before .before .before .before .pre .0) (c .before .before .before .before .before .before .before .before .before .before .before .before .before .before .pre .1) (c .before .before .before .before .before .before .before .before .before .loop .inv) (c .before .before .before .before .before .before .add-started .ensures) (c .before .before .before .first-fitting .ensures), last-held _ (c .before .before .before .before .before .before .before .before .before .before .before .before .before .before .pre .0), c .before .before .before .before .before .before .before .before .before .before .before .before .before .before .pre .0 .state .clock-high, c .before .before .before .before .before .before .before .before .before .before .before .before .before .before .pre .1 .time-most, c .before .if1 .left, c .before .before .before .before .before .before .before .before .before .loop .inv .wide, c .before .before .before .before .before .before .before .before .before .loop .inv .from)
@@ -81,5 +85,6 @@ earliest-start-spec =
     add-until-2
     sub-until
     add-until-3
+    add-until-4
     loop-less
     loop-again)
