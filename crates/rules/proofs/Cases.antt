@@ -5,6 +5,7 @@ use mathlib.Core.List.{List, [], _∷_, _++_, map}
 use Rattle.rules.specs.Load.{limited, balanced, sound}
 use Rattle.rules.specs.Charge.{waitingCharges}
 use Rattle.rules.specs.Search.{earliest, firstUnbalanced}
+use Rattle.rules.specs.Candidate.{testedBy}
 use Rattle.rules.specs.Priority.{fading, weights, weightOf, firstFit, picked}
 use Rattle.rules.specs.Replan.{byLatestStart, placeAll, latest, placeOn, round, roundsFrom, byLines}
 use Rattle.rules.specs.Judgement.{judged}
@@ -16,6 +17,7 @@ use Rattle.rules.specs.CasesInAHurry.{casesInAHurry}
 use Rattle.rules.specs.CasesPreviewed.{casesPreviewed}
 use Rattle.rules.specs.CasesOfTwoRates.{casesOfTwoRates}
 use Rattle.rules.specs.CasesOfPriority.{casesOfPriority}
+use Rattle.rules.specs.CasesOnBusyEvenings.{testedIn, casesOnBusyEvenings}
 use Rattle.rules.specs.CasesOfTails.{casesOfTails}
 
 abbrev pub cases : List Case
@@ -24,6 +26,11 @@ cases = casesAToL ++ casesAtEdges ++ casesInAHurry ++ casesPreviewed ++ casesOfT
 pub cases-hold : map computed cases ≡ cases
 unfolding limited balanced sound earliest firstUnbalanced placeAll latest fading weights weightOf firstFit picked placeOn round roundsFrom byLines judged opening previewing committing moving offering replanningLatest replanningLines enquiring
 cases-hold = refl
+
+-- the test of a candidate start, of which no call shows the number of minutes
+pub candidates-hold : map testedIn casesOnBusyEvenings ≡ casesOnBusyEvenings
+unfolding limited balanced testedBy
+candidates-hold = refl
 
 -- case g before its replan
 abbrev openedG : State

@@ -5,7 +5,7 @@ use mathlib.Core.Bool.{Bool, true, false, cond, not}
 use mathlib.Core.List.{List, [], _∷_, _++_}
 use native.Mathlib.Omega.{arith}
 use borrow.Author.Tests.{leb-true}
-use Rattle.rules.specs.Basics.{Each}
+use Rattle.rules.specs.Basics.{Each, keep}
 use Rattle.rules.specs.Load.{count, draws, lastUntil}
 use Rattle.rules.specs.Charge.{Charge, endOf, activeUntil, loadOf, loadsOf, isFinished, unfinishedCharges, lastEnd}
 use Rattle.rules.proofs.Counts.{draws-after}
@@ -27,6 +27,17 @@ pub last-until :
     (r : ℕ) (cs : List Charge) → Each (λ c. c .activeTime ≡ c .time + r) cs → lastUntil (loadsOf cs) ≤ lastEnd cs + r
 last-until r [] e = omega arith
 last-until r (c ∷ cs) e = omega (arith, e .0, last-until r cs (e .1))
+
+pub until-kept : (f : Charge → Bool) (cs : List Charge) → lastUntil (loadsOf (keep f cs)) ≤ lastUntil (loadsOf cs)
+until-kept f [] = omega arith
+until-kept f (c ∷ cs) = go (f c) (until-kept f cs)
+  where
+    go :
+        (b : Bool)
+        → lastUntil (loadsOf (keep f cs)) ≤ lastUntil (loadsOf cs)
+        → lastUntil (loadsOf (cond b (c ∷ keep f cs) (keep f cs))) ≤ max (activeUntil c) (lastUntil (loadsOf cs))
+    go true h = omega arith
+    go false h = omega arith
 
 pub lastEnd-more : (cs : List Charge) (c : Charge) → lastEnd (cs ++ (c ∷ [])) ≡ max (lastEnd cs) (endOf c)
 lastEnd-more [] c = omega arith

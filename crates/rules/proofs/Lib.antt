@@ -4,6 +4,7 @@ pub mod Lists
 pub mod Rounding
 pub mod Counts
 pub mod Searches
+pub mod Candidates
 pub mod Sorting
 pub mod Tables
 pub mod Granted

@@ -3,6 +3,7 @@ pub mod Load
 pub mod Charge
 pub mod Search
 pub mod Priority
+pub mod Candidate
 pub mod Replan
 pub mod Judgement
 pub mod Calls
@@ -14,4 +15,5 @@ pub mod CasesInAHurry
 pub mod CasesPreviewed
 pub mod CasesOfTwoRates
 pub mod CasesOfPriority
+pub mod CasesOnBusyEvenings
 pub mod CasesOfTails

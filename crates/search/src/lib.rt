@@ -1,4 +1,5 @@
 // Searches over a profile: the room that each step has for one more load, the caps of the lines, and the smallest start.
+pub mod candidate;
 pub mod caps;
 pub mod room;
 pub mod start;

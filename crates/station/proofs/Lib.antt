@@ -1,5 +1,6 @@
 pub mod Refusing
 pub mod Listing
+pub mod Windows
 pub mod Opened
 pub mod Enquiring
 pub mod Ordered

@@ -4,63 +4,25 @@ use Prim.Native.Nat.{ℕ, zero, suc, _+_, _≤_, _<_}
 use mathlib.Core.List.{[], _∷_, _++_}
 use native.Mathlib.Omega.{arith}
 use native.Mathlib.Numerals.{add-one}
-use Rattle.rules.specs.Basics.{Each, Found, at, nothing, firstOf}
-use Rattle.rules.specs.Load.{IsRate, lastUntil}
-use Rattle.rules.specs.Charge.{loadsOf, begunCharges}
+use Rattle.rules.specs.Basics.{Found, at, nothing, firstOf}
+use Rattle.rules.specs.Load.{IsRate}
 use Rattle.rules.specs.Calls.{Answer, refused, committed, Result, answering, preview, commit, drawFor, startFor, orderRefusals, previewedAt, previewing, committing, step}
 use Rattle.rules.proofs.Tables.{NoneHolds}
 use Rattle.rules.proofs.Granted.{order-granted}
 use Rattle.rules.proofs.Shown.{preview-shown, commit-taken}
-use Rattle.rules.proofs.Lists.{each-map, length-tabulate}
-use Rattle.rules.proofs.Ends.{last-until}
+use Rattle.rules.proofs.Lists.{length-tabulate}
 use Rattle.charges.specs.declared.Charges.{Charges}
 use Rattle.charges.specs.Arrays.{charge, chargeAt, chargesOf, Holds}
-use Rattle.profile.specs.declared.Profile.{Profile}
-use Rattle.profile.specs.Shows.{Shows}
-use Rattle.search.specs.Starts.{CanStart}
-use Rattle.search.proofs.Starts.{can-start}
-use Rattle.planner.specs.Ready.{EndsFit, Rated}
-use Rattle.planner.proofs.Showing.{length-loads-of, listed-ends, listed-rates, all-before}
 use Rattle.station.specs.declared.Station.{Station}
 use Rattle.station.specs.declared.order.PreviewAnswer.{PreviewAnswer}
 use Rattle.station.specs.declared.order.PreviewAnswer.the-variants.{Previewed}
 use Rattle.station.specs.View.{view, Valid}
 use Rattle.station.specs.Answers.{giving, previewAnswer}
 use Rattle.station.proofs.Refusing.{call-refused, call-granted}
-use Rattle.station.proofs.Listing.{valid-listed}
-
--- what `profile_before` asks
-pub ends-fit : (s : Station) → Valid s → EndsFit (s .charges)
-ends-fit s v = listed-ends (valid-listed s v)
-
-pub rates-fit : (s : Station) → Valid s → Rated (s .charges)
-rates-fit s v = listed-rates (valid-listed s v)
-
--- every start is below what `start_for` passes, so that all held charges are in the profile
-pub all-shown :
-    (s : Station) (p : Profile) (clock : ℕ)
-    → Valid s
-    → Shows p clock (loadsOf (begunCharges 4294967295 (chargesOf (s .charges))))
-    → Shows p clock (loadsOf (chargesOf (s .charges)))
-all-shown s p clock v h =
-    rw (all-before (s .charges) 4294967295 (λ i low. omega (arith, valid-listed s v .small i low .start-most))) at h
-
-last-held : (s : Station) → Valid s → lastUntil (loadsOf (chargesOf (s .charges))) ≤ 100000000
-last-held s v =
-    omega (
-      arith,
-      last-until (s .tail) (chargesOf (s .charges)) active,
-      v .state .ends-high,
-      v .state .tail-high,
-      v .state .clock-high,
-      v .state .next-high,
-    )
-  where
-    active : Each (λ c. c .activeTime ≡ c .time + s .tail) (chargesOf (s .charges))
-    active = each-map _ (λ c. c .activeTime ≡ c .time + s .tail) (λ c h. h .active) (chargesOf (s .charges)) (v .state .each)
 
 -- what none of refusals 4 to 18 turns away, read off the arrays
 pub record Orderable (s : Station) (line time due rate : ℕ) : Type 0 where
+  pub some : 1 ≤ time
   pub time-most : time ≤ 1440
   pub active-most : time + s .tail ≤ 1445
   pub is-rate : IsRate rate
@@ -74,6 +36,7 @@ pub orderable :
 orderable s line time due rate v e =
     let g = order-granted (view s) line time due rate e in
     record {
+      some = g .time-low;
       time-most = g .time-high;
       active-most = omega (arith, g .time-high, v .state .tail-high);
       is-rate = g .is-rate;
@@ -82,23 +45,6 @@ orderable s line time due rate v e =
       room = omega (arith, g .room, length-tabulate (chargeAt (s .charges)) (s .charges .held) 0);
       tickets-left = g .ticket-left;
     }
-
-pub can-search :
-    (s : Station) (p : Profile) (clock time : ℕ)
-    → Valid s
-    → Shows p clock (loadsOf (chargesOf (s .charges)))
-    → clock ≤ 1000000
-    → time ≤ 1445
-    → CanStart p time
-can-search s p clock time v shows h k =
-    can-start shows time
-    (omega (
-      arith,
-      length-loads-of (chargesOf (s .charges)),
-      length-tabulate (chargeAt (s .charges)) (s .charges .held) 0,
-      v .columns .few,
-    ))
-    (omega (arith, last-held s v))
 
 -- What is answered
 

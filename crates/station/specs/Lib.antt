@@ -1,3 +1,4 @@
 pub mod View
+pub mod Windows
 pub mod Answers
 pub mod Applied

@@ -1,8 +1,6 @@
 // An order, which is previewed and committed: the smallest start with which the held plan and the new charge are sound together.
 use crate::Station;
-use planner::begun::profile_before;
-use profile::When;
-use search::start::earliest;
+use search::candidate::Draw;
 ghost use mathlib.Core.Path.{_≡_};
 ghost use mathlib.Core.List.{[]};
 ghost use Rattle.rules.specs.Basics.{firstOf};
@@ -72,8 +70,7 @@ impl Station {
         0
     }
 
-    // The one search of both calls: the first refusal of an order, or its start. A sound plan always leaves a start for a rate
-    // that is above neither N nor D, so the second refusal is never given.
+    // The one search of both calls: the first refusal of an order, or its start.
     fn start_for(self, line: u32, time: u32, due: u32, rate: u32) -> PreviewAnswer
         requires { ⌜ Valid self ⌝ }
         ensures { λ r. ⌜ previewAnswer r ≡ step (view self) (previewCall line time due rate) .answer ⌝ }
@@ -82,25 +79,13 @@ impl Station {
         if 0 < refusal {
             return PreviewAnswer::Refused(refusal);
         }
-        let held = self.charges;
-        // No start is as late as that: all held charges are in the profile.
-        let profile = profile_before(held, self.clock, 4294967295);
-        let steps = profile.steps;
         let active_time = time + self.tail;
-        let found = earliest(
-            &profile.at,
-            &profile.counts,
-            steps,
-            self.limit,
-            self.bound,
+        let draw = Draw {
             line,
-            active_time,
+            time: active_time,
             rate,
-        );
-        let When::Minute(start) = found else {
-            return PreviewAnswer::Refused(0);
         };
-        PreviewAnswer::Previewed(start)
+        PreviewAnswer::Previewed(self.earliest_start(draw))
     }
 
     // The station stays as it is.
