@@ -3,11 +3,10 @@ pub mod Walking
 pub mod Restarting
 pub mod Members
 pub mod Sorting
-pub mod Splitting
+pub mod Removing
 pub mod SignedBits
 pub mod Comparing
 pub mod Passing
 pub mod Latest
-pub mod LineByLine
 pub mod Reporting
 pub mod Holding

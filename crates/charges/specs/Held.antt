@@ -12,7 +12,9 @@ Rising c = (i : ℕ) → i + 1 < c .held → chargeAt c i .ticket < chargeAt c (
 -- "No held time reaches 100,000,000."
 pub record Small (x : Charge) : Type 0 where
   pub on-line : IsLine (x .line)
+  pub time-low : 1 ≤ x .time
   pub time-most : x .time ≤ 1440
+  pub active-least : x .time ≤ x .activeTime
   pub active-most : x .activeTime ≤ 1445
   pub due-most : x .due ≤ 2000000
   pub start-most : x .start < 100000000

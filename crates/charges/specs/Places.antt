@@ -1,9 +1,9 @@
--- Places of held charges in some order, and the order in which they are sorted.
-use Prim.Native.Nat.{ℕ, _-_, _≤_, _<_}
+-- Places of held charges in some order, the order in which they are sorted, those on a line, and one taken out.
+use Prim.Native.Nat.{ℕ, _+_, _-_, _≤_, _<_}
 use mathlib.Core.Path.{_≡_}
-use mathlib.Core.Bool.{Bool, cond}
+use mathlib.Core.Bool.{Bool}
 use mathlib.Core.List.{List, _∷_, _++_, map}
-use lib.Dec.{ltb, eqb}
+use lib.Dec.{eqb}
 use lib.IntN.{subℕ}
 use lib.Signed.{leZ}
 use lib.ListN.{length, getD}
@@ -35,12 +35,19 @@ pub record Lists (is : List ℕ) (p : Places) : Type 0 where
 abbrev pub inserted : Places → ℕ → ℕ → List ℕ
 inserted p j x = tabulate (placeAt p) j 0 ++ (x ∷ tabulate (placeAt p) (p .count - j) j)
 
--- place a is on a lower line than place b, or on the same and its latest start d − p is not later
-abbrev pub notAfter : List ℕ → List ℕ → List ℕ → ℕ → ℕ → Bool
-notAfter lines dues times a b =
-    cond (eqb (getD lines a 0) (getD lines b 0))
-    (leZ (subℕ (getD dues a 0) (getD times a 0)) (subℕ (getD dues b 0) (getD times b 0)))
-    (ltb (getD lines a 0) (getD lines b 0))
+-- the latest start d − p of place a is not later than that of place b
+abbrev pub notAfter : List ℕ → List ℕ → ℕ → ℕ → Bool
+notAfter dues times a b = leZ (subℕ (getD dues a 0) (getD times a 0)) (subℕ (getD dues b 0) (getD times b 0))
+
+-- place i is on the line
+abbrev pub isOnLine : List ℕ → ℕ → ℕ → Bool
+isOnLine lines line i = eqb (getD lines i 0) line
+
+-- b is a without the j-th of its first n
+pub record Removed (a b : List ℕ) (n j : ℕ) : Type 0 where
+  pub full : length b ≡ 180
+  pub before : (k : ℕ) → k < j → getD b k 0 ≡ getD a k 0
+  pub after : (k : ℕ) → j ≤ k → k + 1 < n → getD b k 0 ≡ getD a (k + 1) 0
 
 -- the places of the charges with a start from the clock up to the target, in ticket order
 abbrev pub isPassedAt : ℕ → ℕ → Charges → ℕ → Bool

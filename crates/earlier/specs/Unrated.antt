@@ -1,5 +1,5 @@
 -- The rules before N4, written out where they read a count: "The count of a line in a minute is the number of its active
--- charges", and no order states a rate. All else is the rules' own. (docs/RULES.md, section 1)
+-- charges", and no order states a rate. All else is the rules' own, the priority of N5 too. (docs/RULES.md, section 1)
 use mathlib.Core.Path.{_≡_}
 use Prim.Native.Nat.{ℕ, suc, _+_, _-_}
 use mathlib.Core.Bool.{Bool, cond, not, _&&_, _||_}

@@ -14,8 +14,8 @@ use Rattle.rules.specs.CasesAToL.{ordersH}
 use Rattle.rules.specs.Calls.{settings, State, planned, offer, offering, step}
 use Rattle.guarantee.specs.Past.{Gives}
 use Rattle.guarantee.specs.DemandTwo.{Better, Taken, GivenStarts, DemandTwo}
-use Rattle.excluded.specs.WrongPlans.{untested, neverTaken, offerCleared, takenLater, begunPutOff, lineChanged, rateLost, takenForTicket, keptForTicket, lateWithTails, alwaysKept, spentAfterNone, roundsInvented}
-use Rattle.excluded.specs.Stations.{station, stationFour, stationH, stationHTwo, stationTailed, stationRated, waitingSince, begunAndWaiting}
+use Rattle.excluded.specs.WrongPlans.{untested, neverTaken, offerCleared, takenLater, begunPutOff, lineChanged, rateLost, takenForTicket, keptForTicket, lateWithTails, alwaysKept, spentAfterNone, byLatestStartInLines, roundsInvented}
+use Rattle.excluded.specs.Stations.{station, stationFour, stationH, stationShort, stationHTwo, stationTailed, stationRated, waitingSince, begunAndWaiting}
 use Rattle.excluded.specs.BreaksTwoPlans.{offerJ}
 use Rattle.guarantee.proofs.DemandTwo.{not-taken, demand-two}
 use Rattle.excluded.proofs.Refuting.{line-one, line-two}
@@ -163,6 +163,14 @@ unfolding limited balanced sound earliest firstUnbalanced fading weights weightO
 spent-after-none d =
     let h : planned 2 0 0 0 ≡ planned 7 0 0 1 = d .replans-lines 1 .answer (refl, tt) in
     let z : _≡_ {A = ℕ} 2 7 = cc in
+    omega arith
+
+-- `answer`: by lines the short charge goes first, and the plan is taken
+latest-start-in-lines : DemandTwo byLatestStartInLines stationShort → ⊥
+unfolding limited balanced sound earliest firstUnbalanced placeAll latest fading weights weightOf firstFit picked placeOn round roundsFrom byLines judged
+latest-start-in-lines d =
+    let h : planned 7 8 8 1 ≡ planned 0 8 8 1 = d .replans-lines 1 .answer (refl, tt) in
+    let z : _≡_ {A = ℕ} 7 0 = cc in
     omega arith
 
 rounds-invented : DemandTwo roundsInvented station → ⊥

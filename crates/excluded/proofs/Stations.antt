@@ -7,7 +7,7 @@ use Rattle.rules.specs.CasesAToL.{ordersH}
 use Rattle.rules.specs.Entry.{lentList}
 use Rattle.rules.specs.Calls.{Settings, settings, State, Call, commit, move, opening, committing, moving}
 use Rattle.guarantee.specs.Demands.{reached}
-use Rattle.excluded.specs.Stations.{station, stationFive, stationThree, stationFour, stationTwo, stationH, stationHTwo, stationTailed, stationRated, waitingSince, begunAndWaiting}
+use Rattle.excluded.specs.Stations.{station, stationFive, stationThree, stationFour, stationTwo, stationH, stationHTwo, stationShort, stationTailed, stationRated, waitingSince, begunAndWaiting}
 use Rattle.excluded.proofs.Same.{same-state}
 
 abbrev Reached : Settings → List Call → State → Type 0
@@ -46,6 +46,10 @@ h-reached = same-state (reached (settings 1 100 0) ordersH) stationH .0 refl
 h-two-reached : Reached (settings 2 50 0) ordersH stationHTwo
 unfolding limited balanced sound earliest opening committing
 h-two-reached = same-state (reached (settings 2 50 0) ordersH) stationHTwo .0 refl
+
+short-reached : Reached (settings 1 100 0) (commit 1 20 30 1 0 ∷ commit 1 2 14 1 20 ∷ []) stationShort
+unfolding limited balanced sound earliest opening committing
+short-reached = same-state (reached (settings 1 100 0) (commit 1 20 30 1 0 ∷ commit 1 2 14 1 20 ∷ [])) stationShort .0 refl
 
 tailed-reached : Reached (settings 1 100 2) (commit 1 10 60 1 0 ∷ commit 1 10 15 1 12 ∷ []) stationTailed
 unfolding limited balanced sound earliest opening committing

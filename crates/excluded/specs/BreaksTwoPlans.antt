@@ -5,8 +5,8 @@ use mathlib.Core.List.{List, [], _∷_, _++_, map}
 use Rattle.rules.specs.Replan.{starts, latest, Replanned, byLines}
 use Rattle.rules.specs.Calls.{State, limitsOf, offer, replanLatest, replanLines, step}
 use Rattle.guarantee.specs.Past.{Gives}
-use Rattle.excluded.specs.WrongPlans.{untested, neverTaken, offerCleared, takenLater, begunPutOff, lineChanged, rateLost, takenForTicket, keptForTicket, lateWithTails, alwaysKept, spentAfterNone, roundsInvented}
-use Rattle.excluded.specs.Stations.{station, stationFour, stationH, stationHTwo, stationTailed, stationRated, waitingSince, begunAndWaiting}
+use Rattle.excluded.specs.WrongPlans.{untested, neverTaken, offerCleared, takenLater, begunPutOff, lineChanged, rateLost, takenForTicket, keptForTicket, lateWithTails, alwaysKept, spentAfterNone, byLatestStartInLines, roundsInvented}
+use Rattle.excluded.specs.Stations.{station, stationFour, stationH, stationHTwo, stationShort, stationTailed, stationRated, waitingSince, begunAndWaiting}
 use Rattle.excluded.specs.Breaks.{Entry, computedBy, onlyOf}
 use Rattle.excluded.specs.FieldsBetter.{Merit, not-before-clock, limit, balance, no-later, less-late, merits, rank, Plan, merited}
 use Rattle.excluded.specs.FieldsTwoPlans.{Field, taken, waiting-starts, begun-same, charges-same, station-same, unchanged, answer, same-list, fields, place, Trial, tested}
@@ -67,6 +67,7 @@ wrongEntries =
     -- a better plan is not taken
     ∷ only (offered neverTaken stationH offerJ) (taken ∷ answer ∷ [])
     ∷ only (byLatest alwaysKept stationH) (taken ∷ answer ∷ [])
+    ∷ only (byLine byLatestStartInLines stationShort 1) (taken ∷ answer ∷ [])
     ∷ only (offered takenLater stationH offerJ) (waiting-starts ∷ [])
     ∷ only (offered begunPutOff begunAndWaiting (12 ∷ 2 ∷ [])) (begun-same ∷ [])
     ∷ only (offered lineChanged stationH offerJ) (charges-same ∷ [])

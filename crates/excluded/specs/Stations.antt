@@ -54,7 +54,11 @@ stationH = standing 1 100 0 3 heldH
 abbrev pub stationHTwo : State
 stationHTwo = standing 2 50 0 3 heldH
 
--- after the same orders with N = 1 and r 2: starts 0 and 12, lateness 7
+-- a charge of 20 minutes from 0 on, and behind it one of 2 minutes, due at 14
+abbrev pub stationShort : State
+stationShort = standing 1 100 0 3 (held 1 1 20 30 0 ∷ held 2 1 2 14 20 ∷ [])
+
+-- after the orders of case h with N = 1 and r 2: starts 0 and 12, lateness 7
 abbrev pub stationTailed : State
 stationTailed = standingWithTail 2 1 100 0 3 (heldWithTail 2 1 1 10 60 1 0 ∷ heldWithTail 2 2 1 10 15 1 12 ∷ [])
 

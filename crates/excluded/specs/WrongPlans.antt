@@ -5,8 +5,9 @@ use mathlib.Core.List.{[]}
 use lib.Dec.{eqb}
 use Rattle.rules.specs.Basics.{firstOf, keep}
 use Rattle.rules.specs.Charge.{isBegun}
+use Rattle.rules.specs.Replan.{latest}
 use Rattle.rules.specs.Judgement.{restarted, causes, judged}
-use Rattle.rules.specs.Calls.{kept, decided, offering, replanningLatest, State, limitsOf, holding, Result}
+use Rattle.rules.specs.Calls.{kept, decided, tested, offering, replanningLatest, State, limitsOf, holding, Result}
 use Rattle.guarantee.specs.Past.{Gives}
 use Rattle.excluded.specs.Parts.{withOffers, withReplansLatest, withReplansLines, leaving, writing, ticketing, putOff, onLine, atRate, tailCharged, chargesBy, saying}
 
@@ -83,6 +84,11 @@ alwaysKept = withReplansLatest (λ s. kept s 7 0 [])
 -- allowance spent after no round
 abbrev pub spentAfterNone : Gives
 spentAfterNone = withReplansLines (λ s allowance. kept s 2 0 [])
+
+-- a replan by lines that takes the charges by latest start
+abbrev pub byLatestStartInLines : Gives
+byLatestStartInLines =
+    withReplansLines (λ s allowance. tested s 1 (latest (limitsOf s) (s .clock) (s .charges)) [])
 
 -- an invented round total
 abbrev pub roundsInvented : Gives

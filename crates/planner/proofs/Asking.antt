@@ -80,7 +80,7 @@ module _ (begun placed : List Charge) (i t : ℕ) (rated : Each Rated (loadsOf (
       more (suc k) e = omega arith
 
 module _ (y : Limits) (cap : Caps) {clock : ℕ} {c : Charges} {p : Profile} {given : List ℕ}
-    (a : AllPlaced (linesPlaced cap clock c) clock c p given) where
+    (a : AllPlaced (linesPlaced cap clock c 3) clock c p given) where
   pub round-balanced :
       {listed : List ℕ}
       → firstUnbalanced y clock (loadsOf (begunOf clock c ++ a .placed)) ≡ nothing

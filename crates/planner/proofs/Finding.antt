@@ -1,33 +1,25 @@
--- The two searches for the start of the next charge: so that the plan is sound, and under the caps.
+-- The search for the start of the next charge, so that the plan is sound.
 use mathlib.Core.Path.{_≡_, _∙_, ap}
 use Prim.Native.Nat.{ℕ, _+_, _<_}
 use mathlib.Core.List.{List, [], _++_}
 use native.Mathlib.Omega.{arith}
 use lib.ListN.{set}
-use Rattle.rules.specs.Basics.{at}
 use Rattle.rules.specs.Load.{IsRate, Limits, limits}
 use Rattle.rules.specs.Charge.{Charge, drawOf, loadsOf}
-use Rattle.rules.specs.Search.{Caps}
-use Rattle.rules.specs.Replan.{stuck, placeAll, soundStart, cappedStart}
-use Rattle.rules.proofs.Searches.{earliest-first, under-first}
+use Rattle.rules.specs.Replan.{stuck, placeAll, soundStart}
+use Rattle.rules.proofs.Searches.{earliest-first}
 use Rattle.charges.specs.declared.Charges.{Charges}
-use Rattle.charges.specs.Held.{Listed}
 use Rattle.charges.specs.declared.places.Places.{Places}
 use Rattle.charges.specs.Places.{placeAt}
 use Rattle.profile.specs.declared.Profile.{Profile}
 use Rattle.profile.specs.declared.When.{When}
 use Rattle.profile.specs.declared.When.the-variants.{Minute, Never}
-use Rattle.search.specs.declared.caps.LineCaps.{LineCaps}
 use Rattle.profile.specs.Shows.{LoadAdded, CanAdd, foundAt}
 use Rattle.search.specs.Starts.{EarliestStart}
-use Rattle.search.specs.Caps.{CapsShown, EarliestStartUnder}
 use Rattle.search.proofs.Starts.{earliest-shows}
-use Rattle.search.proofs.Unders.{under-shows}
 use Rattle.planner.specs.Ready.{begunOf, Ready}
 use Rattle.planner.proofs.Queueing.{chargeIn, queueFrom, Queue}
-use Rattle.planner.proofs.Plans.{PlacedSoFar, Near, next-inside, next-stuck, next-can-add, next-placed}
-
--- So that the plan is sound
+use Rattle.planner.proofs.Plans.{PlacedSoFar, Near, next-stuck, next-can-add, next-placed}
 
 sound-near : (y : Limits) (clock : ℕ) (begun : List Charge) → Near clock begun (soundStart y clock begun)
 sound-near y clock begun placed x s e =
@@ -57,30 +49,3 @@ module _ {limit bound clock : ℕ} {c : Charges} {q : Places} {k : ℕ} {p : Pro
     sound-placed a whole =
         next-placed (r .listed) u v low (sound-near (limits limit bound) clock (begunOf clock c))
         (found ∙ ap foundAt g) a whole
-
--- Under the caps
-
-capped-near : (cap : Caps) (clock : ℕ) (begun : List Charge) → Near clock begun (cappedStart cap clock begun)
-capped-near cap clock begun placed x s e =
-    omega (arith, under-first cap clock (loadsOf (begun ++ placed)) (drawOf x) s e .high)
-
-module _ {cap : Caps} {caps : LineCaps} {clock : ℕ} {c : Charges} {q : Places} {k : ℕ} {p : Profile} {starts : List ℕ}
-    (shown : CapsShown caps cap) (h : Listed c) (u : Queue clock c q)
-    (v : PlacedSoFar (cappedStart cap clock (begunOf clock c)) clock c q k p starts) (low : k < q .count) {s : ℕ}
-    (e : EarliestStartUnder p caps (chargeIn c q k .line) (chargeIn c q k .activeTime) (chargeIn c q k .rate) s) where
-  found-under : cappedStart cap clock (begunOf clock c) (v .placed) (chargeIn c q k) ≡ at s
-  found-under =
-      under-shows (h .small (placeAt q k) (next-inside h (u .places) low) .on-line) e clock (loadsOf (begunOf clock c ++ v .placed)) cap
-      (v .plan .shows) shown
-
-  pub capped-can-add : {rate : ℕ} → IsRate rate → CanAdd p (chargeIn c q k .activeTime) rate s
-  capped-can-add =
-      next-can-add h u v low (capped-near cap clock (begunOf clock c)) found-under
-
-  pub capped-placed :
-      {p′ : Profile} {rate : ℕ}
-      → LoadAdded p p′ (chargeIn c q k .line) (chargeIn c q k .activeTime) rate s
-      → rate ≡ chargeIn c q k .rate
-      → PlacedSoFar (cappedStart cap clock (begunOf clock c)) clock c q (k + 1) p′ (set starts (placeAt q k) s)
-  capped-placed a whole =
-      next-placed h u v low (capped-near cap clock (begunOf clock c)) found-under a whole

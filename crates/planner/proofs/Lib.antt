@@ -1,11 +1,17 @@
 pub mod Placing
+pub mod Nexts
+pub mod Rearranging
 pub mod Counting
 pub mod Collecting
 pub mod Causes
 pub mod Profiles
 pub mod Showing
 pub mod Queueing
+pub mod Lefts
+pub mod Growing
 pub mod Plans
+pub mod Takings
+pub mod LinePlans
 pub mod Finding
 pub mod Proposing
 pub mod Asking

@@ -11,6 +11,7 @@ use Rattle.rules.specs.Load.{active, count}
 use Rattle.rules.specs.Charge.{Charge, starting, loadOf, loadsOf}
 use Rattle.rules.specs.Replan.{all, stuck, placeAll, startIn, placedActive}
 use Rattle.profile.specs.Shows.{Rated}
+use Rattle.planner.specs.Lines.{Missing}
 
 -- One charge more
 
@@ -32,10 +33,6 @@ module _ (find : List Charge → Charge → Found) (placed : List Charge) where
   place-stuck c cs e = rw (e, placeAll)
 
 -- Starts of the placed charges
-
--- no placed charge has this ticket
-abbrev pub Missing : ℕ → List Charge → Type 0
-Missing t placed = Each (λ c. c .ticket ≡ t → ⊥) placed
 
 -- the last of the placed charges has the start that it was given
 pub start-last :

@@ -1,22 +1,16 @@
 -- The loop that places the waiting charges, whatever start each is given: what has been placed, and what one more charge does.
 use mathlib.Core.Path.{_≡_, refl, sym, _∙_, ap}
 use Prim.Native.Nat.{ℕ, suc, _+_, _-_, max, _≤_, _<_}
-use mathlib.Core.Bool.{Bool, true, false}
-use mathlib.Core.List.{List, [], _∷_, _++_, append-nil, append-assoc}
+use mathlib.Core.List.{List, [], _∷_, _++_, append-nil}
 use native.Mathlib.Omega.{arith}
 use native.Mathlib.Numerals.{add-one}
-use lib.Dec.{eqb}
-use lib.ListN.{length, getD, set, replicate, length-set, length-append}
-use lib.Seq.{getD-set-same, getD-set-other}
-use borrow.Author.Tests.{eqb-true, eqb-false}
+use lib.ListN.{length, set, replicate, length-append}
 use Rattle.rules.specs.Basics.{Found, at, nothing}
 use Rattle.rules.specs.Load.{IsRate, lastUntil}
-use Rattle.rules.specs.Charge.{Charge, starting, drawOf, loadsOf}
-use Rattle.rules.specs.Search.{added}
-use Rattle.rules.specs.Replan.{stuck, placeAll, startIn}
+use Rattle.rules.specs.Charge.{Charge, starting, loadsOf}
+use Rattle.rules.specs.Replan.{stuck, placeAll}
 use Rattle.rules.proofs.Lists.{each-append}
 use Rattle.charges.specs.declared.Charges.{Charges}
-use Rattle.charges.specs.Arrays.{chargeAt}
 use Rattle.charges.specs.Held.{Listed}
 use Rattle.charges.specs.declared.places.Places.{Places}
 use Rattle.charges.specs.Places.{placeAt, PlacesIn}
@@ -24,13 +18,14 @@ use Rattle.charges.proofs.Storing.{zeros}
 use Rattle.profile.specs.declared.Profile.{Profile}
 use Rattle.profile.specs.Shows.{Shows, LoadAdded, CanAdd}
 use Rattle.search.specs.Starts.{CanStart}
-use Rattle.profile.proofs.Shown.{last-added, added-shows}
 use Rattle.planner.specs.Ready.{begunOf}
 use Rattle.planner.specs.Placed.{PlanShown, AllPlaced}
-use Rattle.planner.proofs.Placing.{place-none, place-on, place-stuck, Missing, start-last, start-other}
-use Rattle.planner.proofs.Profiles.{shown-can-add, shown-can-start}
+use Rattle.planner.specs.Lines.{Missing}
+use Rattle.planner.proofs.Placing.{place-none, place-on, place-stuck}
+use Rattle.planner.proofs.Profiles.{shown-can-start}
 use Rattle.planner.proofs.Queueing.{chargeIn, queueFrom, Queue, places-apart}
-use Rattle.planner.proofs.Showing.{length-loads-of, loads-append, begun-end-most}
+use Rattle.planner.proofs.Showing.{length-loads-of, begun-end-most}
+use Rattle.planner.proofs.Growing.{plan-can-add, plan-on}
 
 -- the first k charges of the queue are placed
 pub record PlacedSoFar (find : List Charge → Charge → Found) (clock : ℕ) (c : Charges) (q : Places) (k : ℕ) (p : Profile)
@@ -116,48 +111,9 @@ module _ {find : List Charge → Charge → Found} {clock : ℕ} {c : Charges} {
 
     module _ (near : Near clock (begunOf clock c) find) {s : ℕ} (found : find (v .placed) (chargeIn c q k) ≡ at s) where
       pub next-can-add : {rate : ℕ} → IsRate rate → CanAdd p (chargeIn c q k .activeTime) rate s
-      next-can-add {rate} rated =
-          shown-can-add (v .plan .shows) (chargeIn c q k .activeTime) rate s plan-few rated
-          (omega (
-            arith,
-            near (v .placed) (chargeIn c q k) s found,
-            v .many,
-            v .plan .ends,
-            u .room,
-            h .small (placeAt q k) (next-inside h (u .places) low) .active-most,
-          ))
-
-      grown :
-          loadsOf (begunOf clock c ++ (v .placed ++ (starting (chargeIn c q k) s ∷ [])))
-          ≡ added (loadsOf (begunOf clock c ++ v .placed)) (drawOf (chargeIn c q k)) s
-      grown =
-          rw (← (append-assoc (begunOf clock c) (v .placed) (starting (chargeIn c q k) s ∷ [])))
-          (loads-append (begunOf clock c ++ v .placed) (starting (chargeIn c q k) s ∷ []))
-
-      stored-on :
-          (i : ℕ)
-          → i < c .held
-          → startIn (v .placed ++ (starting (chargeIn c q k) s ∷ [])) (chargeAt c i .ticket)
-          ≡ getD (set starts (placeAt q k) s) i 0
-      stored-on i l = go (eqb i (placeAt q k)) refl
-        where
-          go :
-              (b : Bool)
-              → eqb i (placeAt q k) ≡ b
-              → startIn (v .placed ++ (starting (chargeIn c q k) s ∷ [])) (chargeAt c i .ticket)
-              ≡ getD (set starts (placeAt q k) s) i 0
-          go true e =
-              rw (eqb-true i (placeAt q k) e)
-              (start-last (v .placed) (chargeIn c q k) s (v .fresh k (omega arith) low)
-              ∙ sym
-              (getD-set-same starts (placeAt q k) s 0
-              (omega (arith, v .plan .size, next-below h (u .places) low))))
-          go false e =
-              let ne : i ≡ placeAt q k → ⊥ = eqb-false i (placeAt q k) e in
-              start-other (v .placed) (chargeIn c q k) s (chargeAt c i .ticket)
-              (places-apart h (placeAt q k) i (next-inside h (u .places) low) l (λ j. ne (sym j)))
-              ∙ v .plan .stored i l
-              ∙ sym (getD-set-other starts (placeAt q k) i s 0 ne)
+      next-can-add rated =
+          plan-can-add h (v .plan) (placeAt q k) s (next-inside h (u .places) low) (near (v .placed) (chargeIn c q k) s found)
+          (omega (arith, v .many, u .room)) rated
 
       pub next-placed :
           {p′ : Profile} {rate : ℕ}
@@ -165,29 +121,15 @@ module _ {find : List Charge → Charge → Found} {clock : ℕ} {c : Charges} {
           → rate ≡ chargeIn c q k .rate
           → PlacedSoFar find clock c q (k + 1) p′ (set starts (placeAt q k) s)
       next-placed a whole =
-          let many : length (v .placed ++ (starting (chargeIn c q k) s ∷ [])) ≡ length (v .placed) + 1 =
-          length-append (v .placed) (starting (chargeIn c q k) s ∷ []) in
           record {
             placed = v .placed ++ (starting (chargeIn c q k) s ∷ []);
             whole =
                 v .whole
                 ∙ rw turn (place-on find (v .placed) (chargeIn c q k) (queueFrom c q (k + 1)) s found);
-            many = many ∙ ap (λ (m : ℕ). m + 1) (v .many);
+            many = length-append (v .placed) (starting (chargeIn c q k) s ∷ []) ∙ ap (λ (m : ℕ). m + 1) (v .many);
             plan =
-                record {
-                  shows = rw grown (added-shows (next-rated h (u .places) low) (rw whole at a) clock (loadsOf (begunOf clock c ++ v .placed)) (v .plan .shows));
-                  stored = stored-on;
-                  size = length-set starts (placeAt q k) s ∙ v .plan .size;
-                  ends =
-                      rw (grown, many)
-                      (omega (
-                        arith,
-                        last-added (loadsOf (begunOf clock c ++ v .placed)) (drawOf (chargeIn c q k)) s,
-                        near (v .placed) (chargeIn c q k) s found,
-                        v .plan .ends,
-                        h .small (placeAt q k) (next-inside h (u .places) low) .active-most,
-                      ));
-                };
+                plan-on h (v .plan) (placeAt q k) s (next-inside h (u .places) low) (near (v .placed) (chargeIn c q k) s found)
+                (v .fresh k (omega arith) low) a whole;
             fresh =
                 λ j l m.
                 each-append (λ y. y .ticket ≡ chargeIn c q j .ticket → ⊥) (v .placed) (starting (chargeIn c q k) s ∷ [])

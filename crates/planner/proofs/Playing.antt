@@ -34,10 +34,14 @@ use Rattle.planner.specs.Rounds.{askedIn, Comparable, Plays}
 use Rattle.planner.proofs.Showing.{length-loads-of}
 use Rattle.planner.proofs.Profiles.{shown-few, largest-alike, smallest-alike}
 use Rattle.planner.proofs.Asking.{round-balanced, round-ends, round-lowers}
+use Rattle.planner.proofs.LinePlans.{lines-end}
 
 module _ {limit bound clock : ℕ} {c : Charges} {caps : LineCaps} {r : Placement} (ready : Ready clock limit bound c)
-    (w : Capped c caps) (plan : LinesUnder caps clock c r) where
-  abbrev some-plan : AllPlaced (linesPlaced (w .cap) clock c) clock c (r .profile) (r .«by_place»)
+    (w : Capped c caps) (under : LinesUnder caps clock c 3 (r .profile) (r .«by_place»)) where
+  plan : (cap : Caps) → CapsShown caps cap → AllPlaced (linesPlaced cap clock c 3) clock c (r .profile) (r .«by_place»)
+  plan cap shown = lines-end (ready .listed) (under cap shown)
+
+  abbrev some-plan : AllPlaced (linesPlaced (w .cap) clock c 3) clock c (r .profile) (r .«by_place»)
   some-plan = plan (w .cap) (w .shown)
 
   pub round-formed : Formed (r .profile)

@@ -1,27 +1,33 @@
 -- The waiting charges placed under the caps, line by line.
-use Prim.Native.Nat.{ℕ, _≤_, _<_}
-use mathlib.Core.List.{[]}
-use Rattle.rules.specs.Charge.{waitingCharges}
+use mathlib.Core.Path.{_≡_}
+use Prim.Native.Nat.{ℕ, zero, suc, _+_, _≤_, _<_}
+use mathlib.Core.List.{List}
+use lib.ListN.{length}
+use Rattle.rules.specs.Basics.{Each}
+use Rattle.rules.specs.Charge.{Charge, waitingCharges}
 use Rattle.rules.specs.Search.{Caps}
-use Rattle.rules.specs.Replan.{Placed, placeAll, cappedStart, lineByLine}
+use Rattle.rules.specs.Priority.{fitsAt}
+use Rattle.rules.specs.Replan.{Placed, all, byLatestStart, onLine, placeLines}
 use Rattle.charges.specs.declared.Charges.{Charges}
 use Rattle.charges.specs.Arrays.{chargeAt, chargesOf}
 use Rattle.charges.specs.declared.places.Places.{Places}
 use Rattle.charges.specs.Places.{Ordered}
+use Rattle.profile.specs.declared.Profile.{Profile}
 use Rattle.search.specs.declared.caps.LineCaps.{LineCaps}
 use Rattle.search.specs.Caps.{CapsShown}
-use Rattle.planner.specs.declared.lines.Placement.{Placement}
 use Rattle.planner.specs.Ready.{begunOf}
-use Rattle.planner.specs.Placed.{AllPlaced}
+use Rattle.planner.specs.Placed.{PlanShown}
 
--- the waiting charges in the order in which they are taken
-abbrev pub InLines : ℕ → Charges → Places → Type 0
-InLines clock c q = Ordered c (lineByLine (waitingCharges clock (chargesOf c))) q
+abbrev pub waitingOf : ℕ → Charges → List Charge
+waitingOf clock c = waitingCharges clock (chargesOf c)
 
--- the waiting charges placed line by line, as the rules have it
-abbrev pub linesPlaced : Caps → ℕ → Charges → Placed
-linesPlaced cap clock c =
-    placeAll (cappedStart cap clock (begunOf clock c)) [] (lineByLine (waitingCharges clock (chargesOf c)))
+-- the waiting charges by latest start, then ticket
+abbrev pub InOrder : ℕ → Charges → Places → Type 0
+InOrder clock c q = Ordered c (byLatestStart (waitingOf clock c)) q
+
+-- the waiting charges of the first l lines placed, as the rules have it
+abbrev pub linesPlaced : Caps → ℕ → Charges → ℕ → Placed
+linesPlaced cap clock c l = placeLines (fitsAt cap) clock (begunOf clock c) (waitingOf clock c) l
 
 -- the caps are those of lines, and never below the rate of a held charge
 pub record Capped (c : Charges) (caps : LineCaps) : Type 0 where
@@ -29,7 +35,23 @@ pub record Capped (c : Charges) (caps : LineCaps) : Type 0 where
   pub shown : CapsShown caps cap
   pub enough : (i : ℕ) → i < c .held → (l t : ℕ) → chargeAt c i .rate ≤ cap l t
 
--- every waiting charge is placed under the caps, whatever they are
-abbrev pub LinesUnder : LineCaps → ℕ → Charges → Placement → Type 0
-LinesUnder caps clock c r =
-    (cap : Caps) → CapsShown caps cap → AllPlaced (linesPlaced cap clock c) clock c (r .profile) (r .«by_place»)
+-- no charge with this ticket is placed
+abbrev pub Missing : ℕ → List Charge → Type 0
+Missing t placed = Each (λ x. x .ticket ≡ t → ⊥) placed
+
+-- how many charges are on the first l lines
+abbrev pub manyUpTo : ℕ → List Charge → ℕ
+manyUpTo zero cs = 0
+manyUpTo (suc l) cs = manyUpTo l cs + length (onLine (suc l) cs)
+
+-- the waiting charges of the first l lines are placed, and none of the further lines is
+pub record LinesDone (cap : Caps) (clock : ℕ) (c : Charges) (l : ℕ) (p : Profile) (byPlace : List ℕ) : Type 0 where
+  pub placed : List Charge
+  pub gives : linesPlaced cap clock c l ≡ all placed
+  pub many : length placed ≡ manyUpTo l (waitingOf clock c)
+  pub plan : PlanShown clock c placed p byPlace
+  pub later : (i : ℕ) → i < c .held → l < chargeAt c i .line → Missing (chargeAt c i .ticket) placed
+
+-- the same, whatever caps these are
+abbrev pub LinesUnder : LineCaps → ℕ → Charges → ℕ → Profile → List ℕ → Type 0
+LinesUnder caps clock c l p byPlace = (cap : Caps) → CapsShown caps cap → LinesDone cap clock c l p byPlace

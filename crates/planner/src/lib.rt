@@ -3,6 +3,7 @@ pub mod begun;
 pub mod judge;
 pub mod latest;
 pub mod lines;
+pub mod next;
 pub mod rounds;
 
 use charges::Charges;

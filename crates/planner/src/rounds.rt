@@ -17,7 +17,7 @@ ghost use Rattle.rules.specs.Replan.{byLines};
 ghost use Rattle.charges.specs.Arrays.{chargesOf};
 ghost use Rattle.profile.specs.Shows.{Shows};
 ghost use Rattle.planner.specs.Ready.{begunOf, Ready};
-ghost use Rattle.planner.specs.Lines.{Capped, InLines};
+ghost use Rattle.planner.specs.Lines.{Capped, InOrder};
 ghost use Rattle.planner.specs.Rounds.{Comparable, Plays, Replans, askedIn};
 
 // A round ends the replan, or the line's cap has to be lowered from the minute on.
@@ -65,7 +65,7 @@ fn play(
     begun: Profile,
     caps: LineCaps,
 ) -> Round
-    requires { ⌜ Ready clock limit bound charges × InLines clock charges queue × Shows begun clock (loadsOf (begunOf clock charges)) × Capped charges caps ⌝ }
+    requires { ⌜ Ready clock limit bound charges × InOrder clock charges queue × Shows begun clock (loadsOf (begunOf clock charges)) × Capped charges caps ⌝ }
     ensures { λ r. ⌜ Plays limit bound clock charges caps r ⌝ }
 {
     let placement = place_lines(charges, clock, queue, begun, caps);
@@ -91,7 +91,7 @@ pub fn by_lines(charges: Charges, clock: u32, limit: u32, bound: u32, allowance:
     requires { ⌜ Ready clock limit bound charges ⌝ }
     ensures { λ r. ⌜ Replans clock charges (byLines (limits limit bound) clock allowance (chargesOf charges)) r ⌝ }
 {
-    let queue = charges.line_by_line(clock);
+    let queue = charges.by_latest_start(clock);
     let begun = profile_before(charges, clock, clock);
     let mut caps = LineCaps::new(limit);
     let mut rounds = 1;

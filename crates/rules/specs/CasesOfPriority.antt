@@ -4,13 +4,13 @@ use mathlib.Core.List.{List, [], _∷_, _++_, map}
 use Rattle.rules.specs.Calls.{planned, waiting, Call, commit, replanLatest, replanLines, enquire}
 use Rattle.rules.specs.Entry.{gives, Case, startsFrom, case, replanned}
 
--- Orders of line 1, and behind them two of line 2 as in case h: there starts 0, 10 become 10, 0 and lateness falls by 5. So the
--- plan is taken where the charges of line 1 are as late as before, and their starts are seen.
+-- Orders of line 1, and behind them two of line 2, of a minute each. The second of these is due at 1 and has no slack, so that starts 0,
+-- 1 become 1, 0 and lateness falls by 1: the plan is taken where line 1 is as late as before, and its starts are seen.
 abbrev shown : List Call → List ℕ → ℕ → List ℕ → Case
 shown orders held late new =
-    replanned (orders ++ (commit 2 10 60 1 0 ∷ commit 2 10 15 1 10 ∷ [])) (replanLines 1) (held ++ (0 ∷ 10 ∷ []))
-    (planned 0 (late + 5) late 1)
-    (new ++ (10 ∷ 0 ∷ []))
+    replanned (orders ++ (commit 2 1 60 1 0 ∷ commit 2 1 1 1 1 ∷ [])) (replanLines 1) (held ++ (0 ∷ 1 ∷ []))
+    (planned 0 (late + 1) late 1)
+    (new ++ (1 ∷ 0 ∷ []))
 
 abbrev pub casesOfPriority : List Case
 casesOfPriority =
@@ -35,10 +35,10 @@ casesOfPriority =
     -- The last place of the table: N is 3, tickets 3 and 5 are of rate 2 and do not stand side by side, ticket 4 of rate 1 stands beside
     -- each. On line 1 n is 3 and P is 257; m is 171, 1872 and 100, so k is 131328 / 257 = 511, beyond the table, and 76800 / 257 = 298.
     -- E(511) = 343490 is above E(298) / 128 = 9834448 / 128: ticket 3 goes first, and the starts are as before. With a weight of 0 for
-    -- 511 ticket 5 would start at 0 and ticket 3 at 128. Line 2 is as in case h.
+    -- 511 ticket 5 would start at 0 and ticket 3 at 128. Tickets 1 and 2 of line 2 exchange their starts, as above.
     ∷ case 3 100 3
-    (commit 2 10 60 2 0
-    ∷ commit 2 10 15 2 10
+    (commit 2 1 60 2 0
+    ∷ commit 2 1 1 2 1
     ∷ commit 1 1 172 2 0
     ∷ commit 1 128 2000 1 0
     ∷ commit 1 128 228 2 1
@@ -47,7 +47,7 @@ casesOfPriority =
     ∷ enquire 4
     ∷ enquire 5
     ∷ [])
-    (startsFrom 1 (0 ∷ 10 ∷ 0 ∷ 0 ∷ 1 ∷ []) ++ map gives (planned 0 5 0 1 ∷ waiting 0 2 ∷ waiting 0 1 ∷ waiting 1 2 ∷ []))
+    (startsFrom 1 (0 ∷ 1 ∷ 0 ∷ 0 ∷ 1 ∷ []) ++ map gives (planned 0 1 0 1 ∷ waiting 0 2 ∷ waiting 0 1 ∷ waiting 1 2 ∷ []))
     -- n and P stay 3 and 23 while placing. Ticket 2, with m of 0, goes first. At 10 m is 10 and 12, so k is 7680 / 23 = 333 and
     -- 9216 / 23 = 400: E(333) / 10 = 5667207 / 10 is below E(400) / 3 = 1972982 / 3, and ticket 3 goes next. With 2 and 13 it would be
     -- 393 and 472, and E(393) / 10 = 2202926 / 10 is above E(472) / 3 = 634849 / 3.

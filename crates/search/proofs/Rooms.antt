@@ -1,4 +1,4 @@
--- Room in a minute, the walk of `first_failing` over the steps, and the search over its answers.
+-- Room in a minute, walks over the steps, and the search over the answers of `first_failing`.
 use Prim.Native.Nat.{ℕ, _+_, _-_, _^_, _≤_, _<_, max}
 use mathlib.Core.Path.{_≡_, refl, sym, _∙_, ap, subst}
 use mathlib.Core.Bool.{Bool, true, false, cond, _||_, or-true}
@@ -40,34 +40,42 @@ room-in {ats} rooms {n} {i} {t} h = ap (λ (x : ℕ). hasRoom x t) (level-in ats
 
 -- The walk
 
--- every minute before t has room, and t lies in step i unless all has been looked at
-pub record Walk (ats rooms : List ℕ) (n from until i t : ℕ) : Type 0 where
+-- every minute before t passes the test, and t lies in step i unless all has been looked at
+pub record Walk (f : ℕ → Bool) (ats : List ℕ) (n from until i t : ℕ) : Type 0 where
   pub low : from ≤ t
   pub here : t < until → In ats n i t
-  pub passed : (v : ℕ) → from ≤ v → v < t → roomAt ats rooms n v ≡ true
+  pub passed : (v : ℕ) → from ≤ v → v < t → f v ≡ true
 
-module _ {ats rooms : List ℕ} {n from until i t end m : ℕ} (r : Rising ats n) (w : Walk ats rooms n from until i t) (more : t < until)
-    (e : End ats n i until end) (top : m ≡ max t (getD rooms i 0)) where
+pub walk-start : (f : ℕ → Bool) {ats : List ℕ} {n from until i : ℕ} → In ats n i from → Walk f ats n from until i from
+walk-start f h = record { low = omega arith; here = λ l. h; passed = λ v a b. absurd (omega arith) }
+
+-- in step i there is room up to, and without, the minute `room`
+module _ {f : ℕ → Bool} {ats : List ℕ} {n from until i t end m : ℕ} (room : ℕ) (r : Rising ats n)
+    (same : (v : ℕ) → In ats n i v → f v ≡ hasRoom room v) (w : Walk f ats n from until i t) (more : t < until)
+    (e : End ats n i until end) (top : m ≡ max t room) where
   inside : (v : ℕ) → t ≤ v → v < end → In ats n i v
   inside v a b = in-more v r (w .here more) a (λ h. omega (arith, e .within h))
 
+  passed-here : (v : ℕ) → from ≤ v → v < m → v < end → f v ≡ true
+  passed-here v a b d =
+      ⊎-elim
+      (λ c. w .passed v a c)
+      (λ c. same v (inside v c d) ∙ room-before room v (omega arith))
+      (below-or-not v t)
+
   -- it fails in this step
-  pub walk-fails : until < 2 ^ 32 → m < end → FailsAt ats rooms n from until m i
+  pub walk-fails : until < 2 ^ 32 → m < end → FailsAt f ats n from until m i
   walk-fails small h =
       record {
         low = omega (arith, w .low);
         high = omega (arith, e .most);
-        passed = λ v a b.
-            ⊎-elim
-            (λ c. w .passed v a c)
-            (λ c. room-in rooms (inside v c (omega arith)) ∙ room-before (getD rooms i 0) v (omega arith))
-            (below-or-not v t);
+        passed = λ v a b. passed-here v a b (omega arith);
         inside = inside m (omega arith) h;
-        fails = λ v a b. room-in rooms b ∙ room-after (getD rooms i 0) v (omega (arith, e .most)) (omega arith);
+        fails = λ v a b. same v b ∙ room-after room v (omega (arith, e .most)) (omega arith);
       }
 
   -- it does not
-  pub walk-on : {x : ℕ} → end ≤ m → x ≡ end → Walk ats rooms n from until (i + 1) x
+  pub walk-on : {x : ℕ} → end ≤ m → x ≡ end → Walk f ats n from until (i + 1) x
   walk-on h ex =
       rw ex
       (record {
@@ -75,11 +83,7 @@ module _ {ats rooms : List ℕ} {n from until i t end m : ℕ} (r : Rising ats n
         here = λ c.
             let k = e .next c in
             subst (λ (x : ℕ). In ats n (i + 1) x) (sym (k .1)) (at-step ats n (i + 1) r (k .0));
-        passed = λ v a b.
-            ⊎-elim
-            (λ c. w .passed v a c)
-            (λ c. room-in rooms (inside v c b) ∙ room-before (getD rooms i 0) v (omega arith))
-            (below-or-not v t);
+        passed = λ v a b. passed-here v a (omega arith) b;
       })
     where
       back : end < t → ⊥
@@ -89,7 +93,7 @@ module _ {ats rooms : List ℕ} {n from until i t end m : ℕ} (r : Rising ats n
 
 -- what an answer says
 pub told-at :
-    (ats rooms : List ℕ) (n from until : ℕ) (r : Failing) (m i : ℕ) → FirstFailing ats rooms n from until r → r ≡ At m i → FailsAt ats rooms n from until m i
+    (ats rooms : List ℕ) (n from until : ℕ) (r : Failing) (m i : ℕ) → FirstFailing ats rooms n from until r → r ≡ At m i → FailsAt (roomAt ats rooms n) ats n from until m i
 told-at ats rooms n from until r m i h e = subst (λ (r : Failing). FirstFailing ats rooms n from until r) e h
 
 pub told-nothing :
@@ -110,7 +114,7 @@ pub seek-start : {ats rooms : List ℕ} {n time start i : ℕ} → CanSearch ats
 seek-start c h = record { low = omega arith; high = c .high; here = h; failed = λ j a b. absurd (omega arith) }
 
 module _ {ats rooms : List ℕ} {n time start i s m k : ℕ} (c : CanSearch ats rooms n time start) (w : Seek ats rooms n time start i s)
-    (h : FailsAt ats rooms n s (s + time) m k) where
+    (h : FailsAt (roomAt ats rooms n) ats n s (s + time) m k) where
   -- the last step has room
   pub seek-below : k + 1 < n
   seek-below = ⊎-elim (λ a. a) (λ a. absurd (last a)) (below-or-not (k + 1) n)

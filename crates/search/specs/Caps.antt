@@ -1,16 +1,15 @@
 -- The caps of the lines, as a list of minutes: place k of a line has the first minute from which on its cap is below k.
-use Prim.Native.Nat.{ℕ, _+_, _*_, _≤_, _<_, min}
+use Prim.Native.Nat.{ℕ, _+_, _*_, _^_, _≤_, _<_, min}
 use mathlib.Core.Path.{_≡_}
 use mathlib.Core.Bool.{Bool, false, cond}
 use mathlib.Core.List.{List}
 use lib.Dec.{ltb, leb}
 use lib.ListN.{length, getD}
-use Rattle.rules.specs.Basics.{at}
-use Rattle.rules.specs.Load.{draw, Load, IsLine}
-use Rattle.rules.specs.Search.{Caps, earliestUnder}
+use Rattle.rules.specs.Load.{IsLine}
+use Rattle.rules.specs.Search.{Caps}
 use Rattle.rules.specs.Replan.{lowered}
 use Rattle.profile.specs.Steps.{columns, lineIn}
-use Rattle.profile.specs.Shows.{levelOf, firstMinute, lastMinute, Shows}
+use Rattle.profile.specs.Shows.{levelOf, firstMinute, lastMinute, Formed}
 use Rattle.search.specs.Rooms.{hasRoom, Filled, Least}
 use Rattle.profile.specs.declared.Profile.{Profile}
 use Rattle.search.specs.declared.caps.LineCaps.{LineCaps}
@@ -67,17 +66,20 @@ pub record RoomsUnder (counts caps : ℕ → ℕ) (rate n : ℕ) (rooms : List �
 abbrev pub roomUnder : Profile → LineCaps → ℕ → ℕ → ℕ → Bool
 roomUnder p c line rate t = hasRoom (capsOf c line (levelOf p line t + rate)) t
 
--- r is the smallest start, from the first minute on, with room under the cap in all its minutes
-pub record EarliestStartUnder (p : Profile) (c : LineCaps) (line time rate r : ℕ) : Type 0 where
-  pub least : Least (roomUnder p c line rate) time (firstMinute p) r
+-- what a run of minutes with room asks
+pub record CanRun (p : Profile) (c : LineCaps) (line most from : ℕ) : Type 0 where
+  pub formed : Formed p
+  pub whole : Whole c
+  pub on-line : IsLine line
+  pub low : firstMinute p ≤ from
+  pub ends-fit : from + most < 2 ^ 32
+
+-- r is the smallest start, from `start` on, with room under the cap in all its minutes
+pub record EarliestStartUnder (p : Profile) (c : LineCaps) (line time rate start r : ℕ) : Type 0 where
+  pub least : Least (roomUnder p c line rate) time start r
   pub high : r ≤ lastMinute p
 
 -- a cap is whole and never below the rate
 pub record CanCap (c : LineCaps) (l rate : ℕ) : Type 0 where
   pub size : length (c .caps) ≡ columns * capPlaces
   pub some : 4294967295 ≤ capsOf c l rate
-
--- whatever loads p and caps c show, the answer is the rules' smallest start under the cap
-abbrev pub EarliestUnder : Profile → LineCaps → ℕ → ℕ → ℕ → ℕ → Type 0
-EarliestUnder p c line time rate r =
-    (clock : ℕ) (loads : List Load) (cap : Caps) → Shows p clock loads → CapsShown c cap → earliestUnder cap clock loads (draw line time rate) ≡ at r

@@ -39,16 +39,17 @@ pub record End (ats : List ℕ) (n i until r : ℕ) : Type 0 where
   pub within : i + 1 < n → r ≤ getD ats (i + 1) 0
   pub next : r < until → (i + 1 < n) × (r ≡ getD ats (i + 1) 0)
 
--- m is the first minute of from..until without room. It lies in step i, and from it on to the end of the step there is none.
-pub record FailsAt (ats rooms : List ℕ) (n from until m i : ℕ) : Type 0 where
+-- m is the first minute of from..until that fails the test. It lies in step i, and from it on to the end of the step all fail.
+pub record FailsAt (f : ℕ → Bool) (ats : List ℕ) (n from until m i : ℕ) : Type 0 where
   pub low : from ≤ m
   pub high : m < until
-  pub passed : (t : ℕ) → from ≤ t → t < m → roomAt ats rooms n t ≡ true
+  pub passed : (t : ℕ) → from ≤ t → t < m → f t ≡ true
   pub inside : In ats n i m
-  pub fails : (t : ℕ) → m ≤ t → In ats n i t → roomAt ats rooms n t ≡ false
+  pub fails : (t : ℕ) → m ≤ t → In ats n i t → f t ≡ false
 
+-- the first minute without room, or there is none
 abbrev pub FirstFailing : List ℕ → List ℕ → ℕ → ℕ → ℕ → Failing → Type 0
-FirstFailing ats rooms n from until (At m i) = FailsAt ats rooms n from until m i
+FirstFailing ats rooms n from until (At m i) = FailsAt (roomAt ats rooms n) ats n from until m i
 FirstFailing ats rooms n from until Nothing = (t : ℕ) → from ≤ t → t < until → roomAt ats rooms n t ≡ true
 
 -- a minute, of the `time` from s on, that fails the test

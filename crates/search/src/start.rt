@@ -1,6 +1,4 @@
 // The smallest start of one more load.
-use crate::caps::CAP_PLACES;
-use crate::room::rooms_under;
 use crate::room::rooms_within;
 use crate::room::sound;
 use crate::walk::search;
@@ -12,10 +10,9 @@ use profile::counts::larger;
 use profile::counts::smaller;
 ghost use mathlib.Core.Path.{_≡_};
 ghost use Prim.Native.Nat.{_-_, _≤_, max};
-ghost use Rattle.rules.specs.Load.{IsLine, IsRate};
+ghost use Rattle.rules.specs.Load.{IsRate};
 ghost use Rattle.profile.specs.Shows.{profileOf, Formed};
 ghost use Rattle.search.specs.Starts.{EndsEmpty, CanStart, UnsoundWithin, EarliestStart};
-ghost use Rattle.search.specs.Caps.{capsIn, CanCap, EarliestStartUnder};
 
 // The first start, not below the clock, that reaches the end.
 pub fn reaching(clock: u32, end: u32, time: u32) -> u32
@@ -85,21 +82,4 @@ pub fn earliest<'a>(
     } else {
         When::Never
     }
-}
-
-// The smallest start, not below the clock, with the line's count, itself included, at or below the cap in all its minutes.
-pub fn earliest_under<'a>(
-    at: &'a [u32; STEPS],
-    counts: &'a [u32; COLUMNS * STEPS],
-    n: usize,
-    caps: &'a [u32; COLUMNS * CAP_PLACES],
-    line: u32,
-    time: u32,
-    rate: u32,
-) -> u32
-    requires { ⌜ CanStart (profileOf n (now at) (now counts)) time × IsLine line × CanCap (capsIn (now caps)) line rate ⌝ }
-    ensures { λ r. ⌜ EarliestStartUnder (profileOf n (now (at .entry)) (now (counts .entry))) (capsIn (now (caps .entry))) line time rate r ⌝ }
-{
-    let rooms = rooms_under(counts, line as usize, rate, caps, n);
-    search(at, &rooms, n, time, at[0])
 }

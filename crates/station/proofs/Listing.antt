@@ -66,7 +66,9 @@ valid-listed s v =
         let f : ValidCharge (limits (s .limit) (s .bound)) (s .tail) (s .clock) (s .next) (chargeAt (s .charges) i) = held-valid s v i h in
         record {
           on-line = f .line;
+          time-low = f .time-low;
           time-most = f .time-high;
+          active-least = omega (arith, f .active);
           active-most = omega (arith, f .active, f .time-high, v .state .tail-high);
           due-most = f .due-high;
           is-rate = f .rate;

@@ -14,8 +14,8 @@ Inv-loop charges clock limit bound allowance queue begun caps₀ rounds₀ caps 
 abbrev μ-loop : tie.MeasureT-loop
 μ-loop charges clock limit bound allowance queue begun caps₀ rounds₀ caps rounds = allowance - rounds
 
-line-by-line-requires : tie.Need-line-by-line-requires Inv-loop μ-loop
-line-by-line-requires c κs = search needs
+by-latest-start-requires : tie.Need-by-latest-start-requires Inv-loop μ-loop
+by-latest-start-requires c κs = search needs
 
 profile-before-requires : tie.Need-profile-before-requires Inv-loop μ-loop
 profile-before-requires c κs = (c .before .pre .listed .columns .few, listed-ends (c .before .pre .listed), listed-rates (c .before .pre .listed))
@@ -27,7 +27,7 @@ loop-holds : tie.Need-loop-holds Inv-loop μ-loop
 loop-holds c = rounds-start (c .before .before .before .args .allowance) (c .before .before .before .pre) (c .new .ensures)
 
 play-requires : tie.Need-play-requires Inv-loop μ-loop
-play-requires c κs = (c .before .before .before .before .pre, c .before .before .before .line-by-line .ensures, c .before .before .profile-before .ensures, rounds-capped (c .loop .inv))
+play-requires c κs = (c .before .before .before .before .pre, c .before .before .before .by-latest-start .ensures, c .before .before .profile-before .ensures, rounds-capped (c .loop .inv))
 
 enum-known-outcome : tie.Need-enum-known-outcome Inv-loop μ-loop
 enum-known-outcome c = search needs
@@ -62,7 +62,7 @@ by-lines-spec =
     (tie.spec
     Inv-loop
     μ-loop
-    line-by-line-requires
+    by-latest-start-requires
     profile-before-requires
     new-requires
     loop-holds

@@ -1,0 +1,93 @@
+-- One charge more on a plan, whatever start it is given.
+use mathlib.Core.Path.{_≡_, refl, sym, _∙_}
+use Prim.Native.Nat.{ℕ, _+_, max, _≤_, _<_}
+use mathlib.Core.Bool.{Bool, true, false}
+use mathlib.Core.List.{List, [], _∷_, _++_, append-assoc}
+use native.Mathlib.Omega.{arith}
+use lib.Dec.{eqb}
+use lib.ListN.{length, getD, set, length-set, length-append}
+use lib.Seq.{getD-set-same, getD-set-other}
+use borrow.Author.Tests.{eqb-true, eqb-false}
+use Rattle.rules.specs.Load.{IsRate, lastUntil}
+use Rattle.rules.specs.Charge.{Charge, starting, drawOf, loadsOf}
+use Rattle.rules.specs.Search.{added}
+use Rattle.rules.specs.Replan.{startIn}
+use Rattle.charges.specs.declared.Charges.{Charges}
+use Rattle.charges.specs.Arrays.{chargeAt}
+use Rattle.charges.specs.Held.{Listed}
+use Rattle.profile.specs.declared.Profile.{Profile}
+use Rattle.profile.specs.Shows.{LoadAdded, CanAdd}
+use Rattle.profile.proofs.Shown.{last-added, added-shows}
+use Rattle.planner.specs.Ready.{begunOf}
+use Rattle.planner.specs.Placed.{PlanShown}
+use Rattle.planner.specs.Lines.{Missing}
+use Rattle.planner.proofs.Placing.{start-last, start-other}
+use Rattle.planner.proofs.Profiles.{shown-can-add}
+use Rattle.planner.proofs.Queueing.{places-apart}
+use Rattle.planner.proofs.Showing.{length-loads-of, loads-append}
+
+pub grown :
+    (begun placed : List Charge) (x : Charge) (s : ℕ)
+    → loadsOf (begun ++ (placed ++ (starting x s ∷ []))) ≡ added (loadsOf (begun ++ placed)) (drawOf x) s
+grown begun placed x s =
+    rw (← (append-assoc begun placed (starting x s ∷ []))) (loads-append (begun ++ placed) (starting x s ∷ []))
+
+module _ {clock : ℕ} {c : Charges} {placed : List Charge} {p : Profile} {starts : List ℕ} (h : Listed c)
+    (v : PlanShown clock c placed p starts) (i s : ℕ) (low : i < c .held)
+    (near : s ≤ max clock (lastUntil (loadsOf (begunOf clock c ++ placed)))) where
+  pub plan-can-add : {rate : ℕ} → length (begunOf clock c) + length placed < 180 → IsRate rate → CanAdd p (chargeAt c i .activeTime) rate s
+  plan-can-add {rate} few rated =
+      shown-can-add (v .shows) (chargeAt c i .activeTime) rate s
+      (omega (
+        arith,
+        length-loads-of (begunOf clock c ++ placed),
+        length-append (begunOf clock c) placed,
+      ))
+      rated
+      (omega (arith, near, v .ends, h .small i low .active-most))
+
+  module _ (fresh : Missing (chargeAt c i .ticket) placed) where
+    stored-on :
+        (k : ℕ)
+        → k < c .held
+        → startIn (placed ++ (starting (chargeAt c i) s ∷ [])) (chargeAt c k .ticket) ≡ getD (set starts i s) k 0
+    stored-on k l = go (eqb k i) refl
+      where
+        go :
+            (b : Bool)
+            → eqb k i ≡ b
+            → startIn (placed ++ (starting (chargeAt c i) s ∷ [])) (chargeAt c k .ticket) ≡ getD (set starts i s) k 0
+        go true e =
+            rw (eqb-true k i e)
+            (start-last placed (chargeAt c i) s fresh
+            ∙ sym (getD-set-same starts i s 0 (omega (arith, v .size, h .columns .few))))
+        go false e =
+            let ne : k ≡ i → ⊥ = eqb-false k i e in
+            start-other placed (chargeAt c i) s (chargeAt c k .ticket) (places-apart h i k low l (λ j. ne (sym j)))
+            ∙ v .stored k l
+            ∙ sym (getD-set-other starts i k s 0 ne)
+
+    pub plan-on :
+        {next : Profile} {rate : ℕ}
+        → LoadAdded p next (chargeAt c i .line) (chargeAt c i .activeTime) rate s
+        → rate ≡ chargeAt c i .rate
+        → PlanShown clock c (placed ++ (starting (chargeAt c i) s ∷ [])) next (set starts i s)
+    plan-on a whole =
+        let many : length (placed ++ (starting (chargeAt c i) s ∷ [])) ≡ length placed + 1 =
+        length-append placed (starting (chargeAt c i) s ∷ []) in
+        record {
+          shows =
+              rw (grown (begunOf clock c) placed (chargeAt c i) s)
+              (added-shows (h .small i low .is-rate) (rw whole at a) clock (loadsOf (begunOf clock c ++ placed)) (v .shows));
+          stored = stored-on;
+          size = length-set starts i s ∙ v .size;
+          ends =
+              rw (grown (begunOf clock c) placed (chargeAt c i) s, many)
+              (omega (
+                arith,
+                last-added (loadsOf (begunOf clock c ++ placed)) (drawOf (chargeAt c i)) s,
+                near,
+                v .ends,
+                h .small i low .active-most,
+              ));
+        }

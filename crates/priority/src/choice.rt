@@ -1,0 +1,110 @@
+// The charges left on a line, in the order of d − p, then ticket: those that fit at a start, and the one that is taken.
+use crate::urgency;
+use charges::PLACES;
+ghost use mathlib.Core.Path.{_≡_};
+ghost use Prim.Native.Nat.{_*_, _≤_};
+ghost use lib.Dec.{ltb};
+ghost use Rattle.priority.specs.Chosen.{runFor, FirstFitting, CanFit, CanWeigh, WeighedAt, CanChoose, Choice};
+
+fn run_for(one: u32, two: u32, rate: u32) -> u32
+    ensures { λ r. ⌜ r ≡ runFor one two rate ⌝ }
+{
+    if rate == 1 { one } else { two }
+}
+
+// The first of them, from the given one on, that is no longer than the run of minutes with room for its rate; n where
+// there is none.
+pub fn fitting<'a>(
+    times: &'a [u32; PLACES],
+    rates: &'a [u32; PLACES],
+    left: &'a [usize; PLACES],
+    n: usize,
+    one: u32,
+    two: u32,
+    from: usize,
+) -> usize
+    requires { ⌜ CanFit (now left) n × (from ≤ n) ⌝ }
+    ensures { λ r. ⌜ FirstFitting (now (times .entry)) (now (rates .entry)) (now (left .entry)) n one two from r ⌝ }
+{
+    for j in from..n {
+        let i = left[j];
+        if times[i] <= run_for(one, two, rates[i]) {
+            return j;
+        }
+    }
+    n
+}
+
+// The time of a charge and what it weighs.
+pub struct Weighed {
+    pub time: u32,
+    pub weight: u32,
+}
+
+// The j-th charge at a start.
+fn weigh<'a>(
+    times: &'a [u32; PLACES],
+    dues: &'a [u32; PLACES],
+    left: &'a [usize; PLACES],
+    number: u32,
+    total: u32,
+    start: u32,
+    j: usize,
+) -> Weighed
+    requires { ⌜ CanWeigh (now dues) (now left) number total j ⌝ }
+    ensures { λ r. ⌜ WeighedAt (now (times .entry)) (now (dues .entry)) (now (left .entry)) number total start j r ⌝ }
+{
+    let i = left[j];
+    let time = times[i];
+    let weight = urgency(dues[i], time, start, number, total);
+    Weighed { time, weight }
+}
+
+// Whether weight / time is larger than the other's: unrounded, by products.
+pub fn heavier(weight: u32, time: u32, other_weight: u32, other_time: u32) -> bool
+    ensures { λ r. ⌜ r ≡ ltb («other_weight» * time) (weight * «other_time») ⌝ }
+{
+    let x = other_weight as u64 * time as u64;
+    let y = weight as u64 * other_time as u64;
+    x < y
+}
+
+// "among those that fit there takes the one with the largest weight/p, unrounded, then the smaller d − p, then the smaller
+// ticket"; n where none fits. Weights fall along the order: where the next one would not be heavier for its time even if it
+// were as short as the shortest, no later one is.
+pub fn choose<'a>(
+    times: &'a [u32; PLACES],
+    active_times: &'a [u32; PLACES],
+    dues: &'a [u32; PLACES],
+    rates: &'a [u32; PLACES],
+    left: &'a [usize; PLACES],
+    n: usize,
+    number: u32,
+    total: u32,
+    shortest: u32,
+    start: u32,
+    one: u32,
+    two: u32,
+) -> usize
+    requires { ⌜ CanChoose (now times) (now dues) (now left) n number total shortest ⌝ }
+    ensures { λ r. ⌜ Choice (now (times .entry)) (now («active_times» .entry)) (now (dues .entry)) (now (rates .entry)) (now (left .entry)) n number total start one two r ⌝ }
+{
+    let mut best = fitting(active_times, rates, left, n, one, two, 0);
+    if n <= best {
+        return n;
+    }
+    let mut taken = weigh(times, dues, left, number, total, start, best);
+    let mut j = fitting(active_times, rates, left, n, one, two, best + 1);
+    while j < n {
+        let next = weigh(times, dues, left, number, total, start, j);
+        if !heavier(next.weight, shortest, taken.weight, taken.time) {
+            return best;
+        }
+        if heavier(next.weight, next.time, taken.weight, taken.time) {
+            best = j;
+            taken = next;
+        }
+        j = fitting(active_times, rates, left, n, one, two, j + 1);
+    }
+    best
+}
