@@ -358,9 +358,11 @@ module _ {cap : Caps} {caps : LineCaps} {clock : ℕ} {c : Charges} {line : ℕ}
                   (each-append (λ y. y .ticket ≡ leftAt c left (s .old) .ticket → ⊥) (v .placed) (starting who (t .start) ∷ []) (v .fresh (s .old) (s .inside))
                   (left-tickets h (v .are) (t .place) (s .old) (r .inside) (s .inside) (λ e. s .other (sym e)), tt));
               later = λ i b g.
-                  each-append (λ y. y .ticket ≡ chargeAt c i .ticket → ⊥) (v .placed) (starting who (t .start) ∷ []) (v .later i b g)
-                  (places-apart h (getD left (t .place) 0) i low-place b
-                  (λ e. omega (arith, v .are .on-line (t .place) (r .inside), ap (λ (k : ℕ). chargeAt c k .line) e)), tt);
+                  each-append (λ y. y .ticket ≡ chargeAt c i .ticket → ⊥) (v .placed) (starting who (t .start) ∷ []) (v .later i b g) (
+                    places-apart h (getD left (t .place) 0) i low-place b
+                        (λ e. omega (arith, v .are .on-line (t .place) (r .inside), ap (λ (k : ℕ). chargeAt c k .line) e)),
+                    tt,
+                  );
               below =
                   none-below-stays cap clock (begunOf clock c) (v .placed) (starting who (t .start)) (who .ticket) (v .rest) (t .start)
                   (none-below (crowdOf (onLine line (waitingOf clock c))) loads-now h on shown (v .plan .shows) (v .are) r (v .one) (v .two) (v .number)

@@ -138,13 +138,13 @@ module _ {cap : Caps} {caps : LineCaps} {clock : ℕ} {c : Charges} {line : ℕ}
       go (inr l) =
           rw (
             le-ltb
-            (weightAt (c .times) (c .dues) left (own .number) (own .total) s j * numberOf (c .times) left (next .place))
-            (weightAt (c .times) (c .dues) left (own .number) (own .total) s (next .place) * numberOf (c .times) left j)
-            (omega (arith, l .0)),
+                (weightAt (c .times) (c .dues) left (own .number) (own .total) s j * numberOf (c .times) left (next .place))
+                (weightAt (c .times) (c .dues) left (own .number) (own .total) s (next .place) * numberOf (c .times) left j)
+                (omega (arith, l .0)),
             eq-eqb
-            (weightAt (c .times) (c .dues) left (own .number) (own .total) s (next .place) * numberOf (c .times) left j)
-            (weightAt (c .times) (c .dues) left (own .number) (own .total) s j * numberOf (c .times) left (next .place))
-            (sym (l .0)),
+                (weightAt (c .times) (c .dues) left (own .number) (own .total) s (next .place) * numberOf (c .times) left j)
+                (weightAt (c .times) (c .dues) left (own .number) (own .total) s j * numberOf (c .times) left (next .place))
+                (sym (l .0)),
             are .sorted (next .place) j (l .1) b,
           )
           refl

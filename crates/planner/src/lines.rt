@@ -85,7 +85,18 @@ pub fn place_lines(
     let mut by_place = [0; PLACES];
     let mut line = 0;
     while line < 3 {
-        steps = place_line(&mut at, &mut counts, &mut by_place, steps, charges, clock, queue, caps, line, line + 1);
+        steps = place_line(
+            &mut at,
+            &mut counts,
+            &mut by_place,
+            steps,
+            charges,
+            clock,
+            queue,
+            caps,
+            line,
+            line + 1,
+        );
         line += 1;
     }
     let profile = Profile { steps, at, counts };
