@@ -4,7 +4,7 @@ pub mod Lists
 pub mod Rounding
 pub mod Counts
 pub mod Searches
-pub mod Candidates
+pub mod TestedStarts
 pub mod Sorting
 pub mod Tables
 pub mod Granted

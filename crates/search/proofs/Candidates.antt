@@ -12,7 +12,7 @@ use Rattle.rules.specs.Search.{added}
 use Rattle.rules.specs.Candidate.{testedBy}
 use Rattle.rules.proofs.Ranges.{below-or-not}
 use Rattle.rules.proofs.Counts.{share-most, sound-all, sound-same, sound-few}
-use Rattle.rules.proofs.Candidates.{FailsFirst, LookedTo, tested-fails, tested-passes, tested-told, tested-stops, tested-same, looked-bounds, counts-own}
+use Rattle.rules.proofs.TestedStarts.{FailsFirst, LookedTo, tested-fails, tested-passes, tested-told, tested-stops, tested-same, looked-bounds, counts-own}
 use Rattle.profile.specs.Steps.{mostSteps, In}
 use Rattle.profile.specs.Shows.{ofLines, lineOf, levelOf, firstMinute, lastMinute, mostDrawn, Shows}
 use Rattle.profile.specs.declared.Profile.{Profile}
@@ -160,14 +160,15 @@ module _ {p : Profile} {y : Limits} {a : Draw} {start until i s : ℕ} (can : Ca
       }
 
   module _ {r : Tested} (h : TestedAs p y a s r) where
-    pub fitting-done : r .fits ≡ true → FirstFitting p y a start until s
-    fitting-done e =
-        record {
-          low = w .low;
-          high = w .high;
-          failed = w .failed;
-          fits = λ c. tested-told (fitsIn p y a) (a .time) s (sym (ap (λ x. x .fits) (h .same)) ∙ e);
-        }
+    pub fitting-done : r .fits ≡ true → FirstFitting p y a start until s × (s ≤ max start (lastMinute p))
+    fitting-done e = (
+      record {
+        low = w .low;
+        failed = w .failed;
+        fits = λ c. tested-told (fitsIn p y a) (a .time) s (sym (ap (λ x. x .fits) (h .same)) ∙ e);
+      },
+      w .high,
+    )
 
     module _ (e : r .fits ≡ false) where
       stops : LookedTo (fitsIn p y a) (a .time) s (r .looked)
@@ -242,5 +243,6 @@ module _ {p : Profile} {y : Limits} {a : Draw} {start until i s : ℕ} (can : Ca
 
 -- the next candidate reaches `until`
 pub fitting-ends :
-    {p : Profile} {y : Limits} {a : Draw} {start until i s : ℕ} → Fitting p y a start until i s → until < s + a .time → FirstFitting p y a start until s
-fitting-ends w h = record { low = w .low; high = w .high; failed = w .failed; fits = λ c. absurd (omega arith) }
+    {p : Profile} {y : Limits} {a : Draw} {start until i s : ℕ} → Fitting p y a start until i s → until < s + a .time →
+    FirstFitting p y a start until s × (s ≤ max start (lastMinute p))
+fitting-ends w h = (record { low = w .low; failed = w .failed; fits = λ c. absurd (omega arith) }, w .high)

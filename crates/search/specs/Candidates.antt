@@ -1,5 +1,5 @@
 -- The test of a candidate start and the first start that fits, by the levels of a profile.
-use Prim.Native.Nat.{ℕ, _+_, _-_, _^_, _≤_, _<_, max}
+use Prim.Native.Nat.{ℕ, _+_, _-_, _^_, _≤_, _<_}
 use mathlib.Core.Path.{_≡_}
 use mathlib.Core.Bool.{Bool, true, false}
 use mathlib.Core.List.{List}
@@ -8,7 +8,7 @@ use Rattle.rules.specs.Load.{Load, IsRate, share, limits, draw, soundCounts}
 use Rattle.rules.specs.Candidate as tests
 use Rattle.rules.specs.Candidate.{testedBy, candidate}
 use Rattle.profile.specs.Steps.{In}
-use Rattle.profile.specs.Shows.{levelOf, firstMinute, lastMinute, Formed, Small, Shows}
+use Rattle.profile.specs.Shows.{levelOf, firstMinute, Formed, Small, Shows}
 use Rattle.profile.specs.declared.Profile.{Profile}
 use Rattle.search.specs.Starts.{CanStart}
 use Rattle.search.specs.declared.candidate.Limits.{Limits}
@@ -68,6 +68,5 @@ pub record FailsBelow (f : ℕ → Bool) (time s until : ℕ) : Type 0 where
 -- by the minutes below `until` every start before r fails; r fits, or reaches `until` or behind
 pub record FirstFitting (p : Profile) (y : Limits) (a : Draw) (start until r : ℕ) : Type 0 where
   pub low : start ≤ r
-  pub high : r ≤ max start (lastMinute p)
   pub failed : (s : ℕ) → start ≤ s → s < r → FailsBelow (fitsIn p y a) (a .time) s until
   pub fits : r + a .time ≤ until → (t : ℕ) → r ≤ t → t < r + a .time → fitsIn p y a t ≡ true

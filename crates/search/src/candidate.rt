@@ -7,7 +7,8 @@ use profile::STEPS;
 use profile::counts::count_of;
 use profile::counts::smaller;
 use profile::steps::place;
-ghost use Rattle.profile.specs.Shows.{profileOf};
+ghost use Prim.Native.Nat.{_≤_, max};
+ghost use Rattle.profile.specs.Shows.{profileOf, lastMinute};
 ghost use Rattle.search.specs.Candidates.{CanTest, TestedAs, CanFit, FirstFitting};
 
 // The limit N and the bound D.
@@ -83,7 +84,7 @@ pub fn first_fitting<'a>(
     until: u32,
 ) -> u32
     requires { ⌜ CanFit (profileOf n (now at) (now counts)) limits draw start ⌝ }
-    ensures { λ r. ⌜ FirstFitting (profileOf n (now (at .entry)) (now (counts .entry))) limits draw start until r ⌝ }
+    ensures { λ r. ⌜ FirstFitting (profileOf n (now (at .entry)) (now (counts .entry))) limits draw start until r × (r ≤ max start (lastMinute (profileOf n (now (at .entry)) (now (counts .entry))))) ⌝ }
 {
     let mut i = place(at, n, start);
     let mut s = start;

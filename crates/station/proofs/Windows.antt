@@ -16,12 +16,12 @@ use Rattle.rules.proofs.Ranges.{below-or-not, first-is}
 use Rattle.rules.proofs.Lists.{each-map, length-tabulate, keep-none}
 use Rattle.rules.proofs.Counts.{draws-before, count-append}
 use Rattle.rules.proofs.Ends.{last-until, until-kept}
-use Rattle.rules.proofs.Candidates.{counts-own, fails-unsound, fits-sound}
+use Rattle.rules.proofs.TestedStarts.{counts-own, fails-unsound, fits-sound}
 use Rattle.charges.specs.declared.Charges.{Charges}
 use Rattle.charges.specs.Arrays.{chargeAt, chargesOf}
 use Rattle.charges.proofs.Walking.{keep-hit, keep-miss, count-hit, keep-length}
 use Rattle.profile.specs.declared.Profile.{Profile}
-use Rattle.profile.specs.Shows.{profileOf, levelOf, Shows, LoadAdded, CanAdd}
+use Rattle.profile.specs.Shows.{levelOf, lastMinute, Shows, LoadAdded, CanAdd}
 use Rattle.profile.proofs.Lines.{sound-tests}
 use Rattle.profile.proofs.Shown.{added-shows}
 use Rattle.search.specs.declared.candidate.Limits as code
@@ -309,56 +309,59 @@ module _ {s : Station} {a : Draw} (v : Valid s) (f : Fits s a) where
           ends-fit = omega (arith, k .most, last-held s v, v .state .clock-high, f .time-most);
         }
 
-    module _ {r : ℕ} (h : FirstFitting q (limitsFor s) a start until r) where
-      -- a minute of a start's own below the window's end
-      own :
-          (j t : ℕ) → s .clock ≤ j → j ≤ t → t < j + a .time → t < until
-          → soundAt (limits (s .limit) (s .bound)) (added (loadsOf (chargesOf (s .charges))) (drawOf a) j) t ≡ fitsIn q (limitsFor s) a t
-      own j t b c d e =
-          sound-tests (limits (s .limit) (s .bound)) _ _
-          (λ l i.
-          omega (
-            arith,
-            counts-own (limits (s .limit) (s .bound)) (s .clock) (loadsOf (chargesOf (s .charges))) (drawOf a) j t c d l,
-            window-counts wider l t i (omega arith) e,
-          ))
+    -- a minute of a start's own below the window's end
+    own :
+        (j t : ℕ) → s .clock ≤ j → j ≤ t → t < j + a .time → t < until
+        → soundAt (limits (s .limit) (s .bound)) (added (loadsOf (chargesOf (s .charges))) (drawOf a) j) t ≡ fitsIn q (limitsFor s) a t
+    own j t b c d e =
+        sound-tests (limits (s .limit) (s .bound)) _ _
+        (λ l i.
+        omega (
+          arith,
+          counts-own (limits (s .limit) (s .bound)) (s .clock) (loadsOf (chargesOf (s .charges))) (drawOf a) j t c d l,
+          window-counts wider l t i (omega arith) e,
+        ))
 
+    -- r is what `first_fitting` answers
+    module _ {r : ℕ} (high : r ≤ max start (lastMinute q)) where
       pub seeking-most : r ≤ max (s .clock) (lastUntil (loadsOf (chargesOf (s .charges))))
       seeking-most =
-          omega (arith, h .high, k .most, wider .last, wider .shows .ends (q .steps - 1) (omega (arith, wider .shows .formed .some)))
+          omega (arith, high, k .most, wider .last, wider .shows .ends (q .steps - 1) (omega (arith, wider .shows .formed .some)))
 
-      pub seeking-failed : (j : ℕ) → s .clock ≤ j → j < r → soundFrom s a j ≡ false
-      seeking-failed j b c =
-          ⊎-elim
-          (λ d. k .failed j b d)
-          (λ d.
-          let x = h .failed j d c in
-          fails-unsound (limits (s .limit) (s .bound)) (s .clock) (loadsOf (chargesOf (s .charges))) (drawOf a) j (x .minute) (omega (arith, x .low))
-          (own j (x .minute) b (x .low) (x .high) (x .below) ∙ x .fails))
-          (below-or-not j start)
+      module _ (h : FirstFitting q (limitsFor s) a start until r) where
+        pub seeking-failed : (j : ℕ) → s .clock ≤ j → j < r → soundFrom s a j ≡ false
+        seeking-failed j b c =
+            ⊎-elim
+            (λ d. k .failed j b d)
+            (λ d.
+            let x = h .failed j d c in
+            fails-unsound (limits (s .limit) (s .bound)) (s .clock) (loadsOf (chargesOf (s .charges))) (drawOf a) j (x .minute) (omega (arith, x .low))
+            (own j (x .minute) b (x .low) (x .high) (x .below) ∙ x .fails))
+            (below-or-not j start)
 
-      -- a start that the window shows whole is the earliest of all
-      pub seeking-found : r + a .time ≤ until → startFor (view s) (drawOf a) ≡ at r
-      unfolding earliest
-      seeking-found b =
-          first-is (soundFrom s a) (suc (lastUntil (loadsOf (chargesOf (s .charges))) - s .clock)) (s .clock) r
-          (record {
-            low = omega (arith, k .from, h .low);
-            high = omega (arith, seeking-most);
-            here =
-                fits-sound (limits (s .limit) (s .bound)) (s .clock) (loadsOf (chargesOf (s .charges))) (drawOf a) r (v .state .sound-on)
-                (λ t c d. own r t (omega (arith, k .from, h .low)) c d (omega arith) ∙ h .fits b t c d);
-            least = seeking-failed;
-          })
+        -- a start that the window shows whole is the earliest of all
+        pub seeking-found : r + a .time ≤ until → startFor (view s) (drawOf a) ≡ at r
+        unfolding earliest
+        seeking-found b =
+            first-is (soundFrom s a) (suc (lastUntil (loadsOf (chargesOf (s .charges))) - s .clock)) (s .clock) r
+            (record {
+              low = omega (arith, k .from, h .low);
+              high = omega (arith, seeking-most);
+              here =
+                  fits-sound (limits (s .limit) (s .bound)) (s .clock) (loadsOf (chargesOf (s .charges))) (drawOf a) r (v .state .sound-on)
+                  (λ t c d. own r t (omega (arith, k .from, h .low)) c d (omega arith) ∙ h .fits b t c d);
+              least = seeking-failed;
+            })
 
-      -- one that reaches behind it begins the next
-      pub seeking-on : {next : ℕ} → until < r + a .time → r + a .time ≤ next → Seeking s a q r until next
-      seeking-on b c =
-          record {
-            window = wider;
-            from = omega (arith, k .from, h .low);
-            most = seeking-most;
-            wide = c;
-            order = omega arith;
-            failed = seeking-failed;
-          }
+        -- one that reaches behind it begins the next
+        pub seeking-on : {edge next : ℕ} → until < r + a .time → edge ≡ until → r + a .time ≤ next → Seeking s a q r edge next
+        seeking-on b same c =
+            rw same
+            (record {
+              window = wider;
+              from = omega (arith, k .from, h .low);
+              most = seeking-most;
+              wide = c;
+              order = omega arith;
+              failed = seeking-failed;
+            })

@@ -39,35 +39,35 @@ first-fitting-requires c κs =
 
 add-if1 : tie.Need-add-if1 Inv-loop μ-loop
 add-if1 c =
-    omega (arith, seeking-most (c .before .before .before .before .before .before .before .before .before .before .before .before .pre .0) (c .before .before .before .before .before .before .before .before .before .before .before .before .pre .1) (c .before .before .before .before .before .before .before .loop .inv) (c .before .before .before .before .add-started .ensures) (c .before .first-fitting .ensures), last-held _ (c .before .before .before .before .before .before .before .before .before .before .before .before .pre .0), c .before .before .before .before .before .before .before .before .before .before .before .before .pre .0 .state .clock-high, c .before .before .before .before .before .before .before .before .before .before .before .before .pre .1 .time-most)
+    omega (arith, seeking-most (c .before .before .before .before .before .before .before .before .before .before .before .before .pre .0) (c .before .before .before .before .before .before .before .before .before .before .before .before .pre .1) (c .before .before .before .before .before .before .before .loop .inv) (c .before .before .before .before .add-started .ensures) (c .before .first-fitting .ensures .1), last-held _ (c .before .before .before .before .before .before .before .before .before .before .before .before .pre .0), c .before .before .before .before .before .before .before .before .before .before .before .before .pre .0 .state .clock-high, c .before .before .before .before .before .before .before .before .before .before .before .before .pre .1 .time-most)
 
 returns : tie.Need-returns Inv-loop μ-loop
 returns c =
-    seeking-found (c .before .before .before .before .before .before .before .before .before .before .before .before .before .pre .0) (c .before .before .before .before .before .before .before .before .before .before .before .before .before .pre .1) (c .before .before .before .before .before .before .before .before .loop .inv) (c .before .before .before .before .before .add-started .ensures) (c .before .before .first-fitting .ensures) (omega (arith, c .if1 .taken))
+    seeking-found (c .before .before .before .before .before .before .before .before .before .before .before .before .before .pre .0) (c .before .before .before .before .before .before .before .before .before .before .before .before .before .pre .1) (c .before .before .before .before .before .before .before .before .loop .inv) (c .before .before .before .before .before .add-started .ensures) (c .before .before .first-fitting .ensures .1) (c .before .before .first-fitting .ensures .0) (omega (arith, c .if1 .taken))
 
 add-until-2 : tie.Need-add-until-2 Inv-loop μ-loop
 add-until-2 c =
-    omega (arith, seeking-most (c .before .before .before .before .before .before .before .before .before .before .before .before .before .before .pre .0) (c .before .before .before .before .before .before .before .before .before .before .before .before .before .before .pre .1) (c .before .before .before .before .before .before .before .before .before .loop .inv) (c .before .before .before .before .before .before .add-started .ensures) (c .before .before .before .first-fitting .ensures), last-held _ (c .before .before .before .before .before .before .before .before .before .before .before .before .before .before .pre .0), c .before .before .before .before .before .before .before .before .before .before .before .before .before .before .pre .0 .state .clock-high, c .before .before .before .before .before .before .before .before .before .before .before .before .before .before .pre .1 .time-most, c .before .if1 .left, c .before .before .before .before .before .before .before .before .before .loop .inv .wide, c .before .before .before .before .before .before .before .before .before .loop .inv .from)
+    omega (arith, seeking-most (c .before .before .before .before .before .before .before .before .before .before .before .before .before .before .pre .0) (c .before .before .before .before .before .before .before .before .before .before .before .before .before .before .pre .1) (c .before .before .before .before .before .before .before .before .before .loop .inv) (c .before .before .before .before .before .before .add-started .ensures) (c .before .before .before .first-fitting .ensures .1), last-held _ (c .before .before .before .before .before .before .before .before .before .before .before .before .before .before .pre .0), c .before .before .before .before .before .before .before .before .before .before .before .before .before .before .pre .0 .state .clock-high, c .before .before .before .before .before .before .before .before .before .before .before .before .before .before .pre .1 .time-most, c .before .if1 .left, c .before .before .before .before .before .before .before .before .before .loop .inv .wide, c .before .before .before .before .before .before .before .before .before .loop .inv .from)
 
 sub-until : tie.Need-sub-until Inv-loop μ-loop
 sub-until c =
-    omega (arith, seeking-most (c .before .before .before .before .before .before .before .before .before .before .before .before .before .before .pre .0) (c .before .before .before .before .before .before .before .before .before .before .before .before .before .before .pre .1) (c .before .before .before .before .before .before .before .before .before .loop .inv) (c .before .before .before .before .before .before .add-started .ensures) (c .before .before .before .first-fitting .ensures), last-held _ (c .before .before .before .before .before .before .before .before .before .before .before .before .before .before .pre .0), c .before .before .before .before .before .before .before .before .before .before .before .before .before .before .pre .0 .state .clock-high, c .before .before .before .before .before .before .before .before .before .before .before .before .before .before .pre .1 .time-most, c .before .if1 .left, c .before .before .before .before .before .before .before .before .before .loop .inv .wide, c .before .before .before .before .before .before .before .before .before .loop .inv .from)
+    omega (arith, seeking-most (c .before .before .before .before .before .before .before .before .before .before .before .before .before .before .pre .0) (c .before .before .before .before .before .before .before .before .before .before .before .before .before .before .pre .1) (c .before .before .before .before .before .before .before .before .before .loop .inv) (c .before .before .before .before .before .before .add-started .ensures) (c .before .before .before .first-fitting .ensures .1), last-held _ (c .before .before .before .before .before .before .before .before .before .before .before .before .before .before .pre .0), c .before .before .before .before .before .before .before .before .before .before .before .before .before .before .pre .0 .state .clock-high, c .before .before .before .before .before .before .before .before .before .before .before .before .before .before .pre .1 .time-most, c .before .if1 .left, c .before .before .before .before .before .before .before .before .before .loop .inv .wide, c .before .before .before .before .before .before .before .before .before .loop .inv .from)
 
 add-until-3 : tie.Need-add-until-3 Inv-loop μ-loop
 add-until-3 c =
-    omega (arith, seeking-most (c .before .before .before .before .before .before .before .before .before .before .before .before .before .before .pre .0) (c .before .before .before .before .before .before .before .before .before .before .before .before .before .before .pre .1) (c .before .before .before .before .before .before .before .before .before .loop .inv) (c .before .before .before .before .before .before .add-started .ensures) (c .before .before .before .first-fitting .ensures), last-held _ (c .before .before .before .before .before .before .before .before .before .before .before .before .before .before .pre .0), c .before .before .before .before .before .before .before .before .before .before .before .before .before .before .pre .0 .state .clock-high, c .before .before .before .before .before .before .before .before .before .before .before .before .before .before .pre .1 .time-most, c .before .if1 .left, c .before .before .before .before .before .before .before .before .before .loop .inv .wide, c .before .before .before .before .before .before .before .before .before .loop .inv .from)
+    omega (arith, seeking-most (c .before .before .before .before .before .before .before .before .before .before .before .before .before .before .pre .0) (c .before .before .before .before .before .before .before .before .before .before .before .before .before .before .pre .1) (c .before .before .before .before .before .before .before .before .before .loop .inv) (c .before .before .before .before .before .before .add-started .ensures) (c .before .before .before .first-fitting .ensures .1), last-held _ (c .before .before .before .before .before .before .before .before .before .before .before .before .before .before .pre .0), c .before .before .before .before .before .before .before .before .before .before .before .before .before .before .pre .0 .state .clock-high, c .before .before .before .before .before .before .before .before .before .before .before .before .before .before .pre .1 .time-most, c .before .if1 .left, c .before .before .before .before .before .before .before .before .before .loop .inv .wide, c .before .before .before .before .before .before .before .before .before .loop .inv .from)
 
 add-until-4 : tie.Need-add-until-4 Inv-loop μ-loop
 add-until-4 c =
-    omega (arith, seeking-most (c .before .before .before .before .before .before .before .before .before .before .before .before .before .before .pre .0) (c .before .before .before .before .before .before .before .before .before .before .before .before .before .before .pre .1) (c .before .before .before .before .before .before .before .before .before .loop .inv) (c .before .before .before .before .before .before .add-started .ensures) (c .before .before .before .first-fitting .ensures), last-held _ (c .before .before .before .before .before .before .before .before .before .before .before .before .before .before .pre .0), c .before .before .before .before .before .before .before .before .before .before .before .before .before .before .pre .0 .state .clock-high, c .before .before .before .before .before .before .before .before .before .before .before .before .before .before .pre .1 .time-most, c .before .if1 .left, c .before .before .before .before .before .before .before .before .before .loop .inv .wide, c .before .before .before .before .before .before .before .before .before .loop .inv .from)
+    omega (arith, seeking-most (c .before .before .before .before .before .before .before .before .before .before .before .before .before .before .pre .0) (c .before .before .before .before .before .before .before .before .before .before .before .before .before .before .pre .1) (c .before .before .before .before .before .before .before .before .before .loop .inv) (c .before .before .before .before .before .before .add-started .ensures) (c .before .before .before .first-fitting .ensures .1), last-held _ (c .before .before .before .before .before .before .before .before .before .before .before .before .before .before .pre .0), c .before .before .before .before .before .before .before .before .before .before .before .before .before .before .pre .0 .state .clock-high, c .before .before .before .before .before .before .before .before .before .before .before .before .before .before .pre .1 .time-most, c .before .if1 .left, c .before .before .before .before .before .before .before .before .before .loop .inv .wide, c .before .before .before .before .before .before .before .before .before .loop .inv .from)
 
 loop-less : tie.Need-loop-less Inv-loop μ-loop
 loop-less c =
-    omega (arith, seeking-most (c .before .before .before .before .before .before .before .before .before .before .before .before .before .before .pre .0) (c .before .before .before .before .before .before .before .before .before .before .before .before .before .before .pre .1) (c .before .before .before .before .before .before .before .before .before .loop .inv) (c .before .before .before .before .before .before .add-started .ensures) (c .before .before .before .first-fitting .ensures), last-held _ (c .before .before .before .before .before .before .before .before .before .before .before .before .before .before .pre .0), c .before .before .before .before .before .before .before .before .before .before .before .before .before .before .pre .0 .state .clock-high, c .before .before .before .before .before .before .before .before .before .before .before .before .before .before .pre .1 .time-most, c .before .if1 .left, c .before .before .before .before .before .before .before .before .before .loop .inv .wide, c .before .before .before .before .before .before .before .before .before .loop .inv .from)
+    omega (arith, seeking-most (c .before .before .before .before .before .before .before .before .before .before .before .before .before .before .pre .0) (c .before .before .before .before .before .before .before .before .before .before .before .before .before .before .pre .1) (c .before .before .before .before .before .before .before .before .before .loop .inv) (c .before .before .before .before .before .before .add-started .ensures) (c .before .before .before .first-fitting .ensures .1), last-held _ (c .before .before .before .before .before .before .before .before .before .before .before .before .before .before .pre .0), c .before .before .before .before .before .before .before .before .before .before .before .before .before .before .pre .0 .state .clock-high, c .before .before .before .before .before .before .before .before .before .before .before .before .before .before .pre .1 .time-most, c .before .if1 .left, c .before .before .before .before .before .before .before .before .before .loop .inv .wide, c .before .before .before .before .before .before .before .before .before .loop .inv .from)
 
 loop-again : tie.Need-loop-again Inv-loop μ-loop
 loop-again c =
-    seeking-on (c .before .before .before .before .before .before .before .before .before .before .before .before .before .before .pre .0) (c .before .before .before .before .before .before .before .before .before .before .before .before .before .before .pre .1) (c .before .before .before .before .before .before .before .before .before .loop .inv) (c .before .before .before .before .before .before .add-started .ensures) (c .before .before .before .first-fitting .ensures) (omega (arith, c .before .if1 .left)) (omega arith)
+    seeking-on (c .before .before .before .before .before .before .before .before .before .before .before .before .before .before .pre .0) (c .before .before .before .before .before .before .before .before .before .before .before .before .before .before .pre .1) (c .before .before .before .before .before .before .before .before .before .loop .inv) (c .before .before .before .before .before .before .add-started .ensures) (c .before .before .before .first-fitting .ensures .1) (c .before .before .before .first-fitting .ensures .0) (omega (arith, c .before .if1 .left)) (omega arith) (omega arith)
 
 pub earliest-start-spec : {M : Type 1} → statement M
 earliest-start-spec =
