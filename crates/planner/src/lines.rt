@@ -46,14 +46,35 @@ pub fn place_line(
     let own = queue.on_line(&charges.lines, line);
     let mut left = own.places;
     let mut n = own.count;
-    let crowd = crowd_of(&charges.times, &charges.active_times, &charges.rates, &left, n);
+    let crowd = crowd_of(
+        &charges.times,
+        &charges.active_times,
+        &charges.rates,
+        &left,
+        n,
+    );
     let one = shortest(&charges.times, &charges.rates, &left, n, 1);
     let two = shortest(&charges.times, &charges.rates, &left, n, 2);
     let mut least = shorter(one, two);
     let mut from = clock;
     let mut held = steps;
     while 0 < n {
-        let taken = next_charge(&*at, &*counts, held, &caps.caps, line, &charges.times, &charges.active_times, &charges.dues, &charges.rates, &left, n, crowd, least, from);
+        let taken = next_charge(
+            &*at,
+            &*counts,
+            held,
+            &caps.caps,
+            line,
+            &charges.times,
+            &charges.active_times,
+            &charges.dues,
+            &charges.rates,
+            &left,
+            n,
+            crowd,
+            least,
+            from,
+        );
         let j = taken.place;
         let i = left[j];
         let time = charges.active_times[i];

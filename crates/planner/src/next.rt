@@ -91,7 +91,20 @@ fn chosen_at<'a>(
     let two = run_under(at, counts, steps, caps, line, 2, crowd.longest_two, start);
     let number = crowd.number;
     let total = crowd.total;
-    choose(times, active_times, dues, rates, left, n, number, total, least, start, one, two)
+    choose(
+        times,
+        active_times,
+        dues,
+        rates,
+        left,
+        n,
+        number,
+        total,
+        least,
+        start,
+        one,
+        two,
+    )
 }
 
 // The smallest start of a charge of the rate and the time, not below `from`; no minute where the time is none.
@@ -154,7 +167,22 @@ pub fn next_charge<'a>(
     requires { ⌜ CanNext (profileOf steps (now at) (now counts)) (capsIn (now caps)) line (now times) (now «active_times») (now dues) (now rates) (now left) n crowd least from ⌝ }
     ensures { λ r. ⌜ NextIs (profileOf steps (now (at .entry)) (now (counts .entry))) (capsIn (now (caps .entry))) line (now (times .entry)) (now («active_times» .entry)) (now (dues .entry)) (now (rates .entry)) (now (left .entry)) n crowd from r ⌝ }
 {
-    let here = chosen_at(at, counts, steps, caps, line, times, active_times, dues, rates, left, n, crowd, least, from);
+    let here = chosen_at(
+        at,
+        counts,
+        steps,
+        caps,
+        line,
+        times,
+        active_times,
+        dues,
+        rates,
+        left,
+        n,
+        crowd,
+        least,
+        from,
+    );
     if here < n {
         return Next {
             start: from,
@@ -168,7 +196,22 @@ pub fn next_charge<'a>(
     let short_one = shortest(times, rates, left, n, 1);
     let short_two = shortest(times, rates, left, n, 2);
     let short = shorter(short_one, short_two);
-    let place = chosen_at(at, counts, steps, caps, line, times, active_times, dues, rates, left, n, crowd, short, start);
+    let place = chosen_at(
+        at,
+        counts,
+        steps,
+        caps,
+        line,
+        times,
+        active_times,
+        dues,
+        rates,
+        left,
+        n,
+        crowd,
+        short,
+        start,
+    );
     Next {
         start,
         place,

@@ -32,15 +32,15 @@ pub still-valid :
     → sound (limitsOf s) clock (loadsOf cs) ≡ true
     → ValidState
     (
-      record {
-        limit = s .limit;
-        percent = s .percent;
-        bound = s .bound;
-        tail = s .tail;
-        clock = clock;
-        next = next;
-        charges = cs;
-      }
+    record {
+      limit = s .limit;
+      percent = s .percent;
+      bound = s .bound;
+      tail = s .tail;
+      clock = clock;
+      next = next;
+      charges = cs;
+    }
     )
 still-valid s clock next cs v clock-high next-low next-high few each rising ends-high sound-on =
     record {

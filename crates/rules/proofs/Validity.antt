@@ -52,13 +52,13 @@ opening-valid x = go (firstOf (openRefusals x)) refl
     go (suc i) e =
         fresh-valid (settings 1 100 0)
         (
-          record {
-            limit-low = omega arith;
-            limit-high = omega arith;
-            percent-high = omega arith;
-            bound-low = omega arith;
-            tail-high = omega arith;
-          }
+        record {
+          limit-low = omega arith;
+          limit-high = omega arith;
+          percent-high = omega arith;
+          bound-low = omega arith;
+          tail-high = omega arith;
+        }
         )
 
 -- All calls

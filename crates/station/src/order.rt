@@ -120,7 +120,16 @@ impl Station {
                 let ticket = self.next;
                 let held = self.charges;
                 let active_time = time + self.tail;
-                let with = held.push(ticket, line, self.clock, time, active_time, due, start, rate);
+                let with = held.push(
+                    ticket,
+                    line,
+                    self.clock,
+                    time,
+                    active_time,
+                    due,
+                    start,
+                    rate,
+                );
                 let mut next = self;
                 next.next = ticket + 1;
                 next.charges = with;
