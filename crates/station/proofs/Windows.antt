@@ -272,16 +272,17 @@ pub record Seeking (s : Station) (a : Draw) (p : Profile) (start low until : ℕ
   pub failed : (j : ℕ) → s .clock ≤ j → j < start → soundFrom s a j ≡ false
 
 module _ {s : Station} {a : Draw} (v : Valid s) (f : Fits s a) where
-  pub seeking-begin : {p : Profile} {until : ℕ} → Shows p (s .clock) [] → until ≡ s .clock + a .time → Seeking s a p (s .clock) 0 until
-  seeking-begin {p} h e =
-      record {
-        window = window-none s p h;
+  pub seeking-begin : {p : Profile} {clock until : ℕ} → clock ≡ s .clock → Shows p clock [] → until ≡ clock + a .time → Seeking s a p clock 0 until
+  seeking-begin {p} same h e =
+      rw same
+      (record {
+        window = window-none s p (rw same at h);
         from = omega arith;
         most = omega arith;
         wide = omega arith;
         order = omega arith;
         failed = λ j c d. absurd (omega arith);
-      }
+      })
 
   module _ {p q : Profile} {start low until : ℕ} (k : Seeking s a p start low until) (more : StartedAdded p q (s .charges) low until) where
     wider : Window s until q

@@ -5,7 +5,7 @@ pub mod enquiry;
 pub mod open;
 pub mod order;
 pub mod plan;
-pub mod window;
+mod window;
 
 pub struct Station {
     limit: u32,

@@ -27,7 +27,7 @@ add-until c =
 
 loop-holds : tie.Need-loop-holds Inv-loop μ-loop
 loop-holds c =
-    seeking-begin (c .before .before .before .before .pre .0) (c .before .before .before .before .pre .1) (c .before .before .before .new .ensures) refl
+    seeking-begin (c .before .before .before .before .pre .0) (c .before .before .before .before .pre .1) (omega arith) (c .before .before .before .new .ensures) (omega arith)
 
 add-started-requires : tie.Need-add-started-requires Inv-loop μ-loop
 add-started-requires c κs =
