@@ -108,7 +108,7 @@ add-requires c κs =
     let s = l .before .before .before .before .before .before .before .before .before .before .before .before .before .before .before .before .before .before .before .before .before .before in
     let w = s .pre .3 in
     let v = l .loop .inv (w .cap) (w .shown) in
-    next-can-add (s .pre .0) (s .pre .4) (w .shown) v (c .before .before .before .before .before .before .before .before .before .before .before .before .before .before .before .loop-test .taken) (c .before .before .before .before .next-charge .ensures) (next-rated (s .pre .0) (s .pre .4) (w .shown) v (c .before .before .before .before .before .before .before .before .before .before .before .before .before .before .before .loop-test .taken) (c .before .before .before .before .next-charge .ensures))
+    next-can-add (s .pre .0) (s .pre .4) (w .shown) v (c .before .before .before .before .before .before .before .before .before .before .before .before .before .before .before .loop-test .taken) (c .before .before .before .before .next-charge .ensures) (omega (arith, next-rated (s .pre .0) (s .pre .4) (w .shown) v (c .before .before .before .before .before .before .before .before .before .before .before .before .before .before .before .loop-test .taken) (c .before .before .before .before .next-charge .ensures)))
 
 mul-by-place : tie.Need-mul-by-place Inv-loop μ-loop
 mul-by-place c =
@@ -132,7 +132,7 @@ remove-requires c κs =
     let s = l .before .before .before .before .before .before .before .before .before .before .before .before .before .before .before .before .before .before .before .before .before .before in
     let w = s .pre .3 in
     let v = l .loop .inv (w .cap) (w .shown) in
-    (v .are .full, v .are .few, c .before .before .before .before .before .before .next-charge .ensures .inside)
+    (v .are .full, v .are .few, omega (arith, c .before .before .before .before .before .before .next-charge .ensures .inside, c .before .before .before .before .before .before .before .before .before .before .before .before .before .before .before .before .before .loop-test .taken))
 
 sub-n : tie.Need-sub-n Inv-loop μ-loop
 sub-n c = omega (arith, c .before .before .before .before .before .before .before .before .before .before .before .before .before .before .before .before .before .before .loop-test .taken)
