@@ -18,7 +18,7 @@ returns : tie.Need-returns
 returns c =
     let s = c .before .before .before .before in
     record {
-      result = call-refused (s .args .self) (move (s .args .target) (s .args .report .now)) (c .before .move-refusal .result) (c .before .move-refusal .ensures) (omega arith);
+      result = search (call-refused (s .args .self) (move (s .args .target) (s .args .report .now)) (c .before .move-refusal .result) (c .before .move-refusal .ensures) (omega arith));
       valid = s .pre;
     }
 
@@ -59,7 +59,7 @@ returns-2 c =
     (c .before .before .before .before .before .before .before .by-start .result)
     (k .ensures)
     z
-    (c .before .before .before .before .before .before .before .by-start .ensures)
+    (search (c .before .before .before .before .before .before .before .by-start .ensures))
     (c .before .before .before .before .before .report .ensures))
 
 pub move-clock-spec : {M : Type 1} → statement M

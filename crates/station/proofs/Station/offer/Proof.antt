@@ -17,8 +17,8 @@ returns c =
     let s = c .before .before .before .before in
     record {
       result =
-          offer-refused (s .args .self) (s .args .starts .now) (c .before .waiting-count .result)
-          (c .before .waiting-count .ensures .0) (c .if1 .taken);
+          search (offer-refused (s .args .self) (s .args .starts .now) (c .before .waiting-count .result)
+          (c .before .waiting-count .ensures .0) (c .if1 .taken));
       valid = s .pre;
     }
 

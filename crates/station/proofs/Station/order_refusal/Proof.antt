@@ -34,11 +34,11 @@ returns-7 c =
 
 returns-8 : tie.Need-returns-8
 returns-8 c =
-    simp (le-ltb _ _ (c .before .before .before .before .before .before .before .before .before .if1 .left), le-ltb _ _ (c .before .before .before .before .before .before .before .before .if2 .left), le-ltb _ _ (c .before .before .before .before .before .before .before .if3 .left), le-ltb _ _ (c .before .before .before .before .before .before .if4 .left), le-ltb _ _ (c .before .before .before .before .before .if5 .left), le-ltb _ _ (c .before .before .before .before .if6 .left), le-ltb _ _ (c .before .before .if7 .left), lt-ltb _ _ (c .if8 .taken))
+    simp (le-ltb _ _ (c .before .before .before .before .before .before .before .before .before .if1 .left), le-ltb _ _ (c .before .before .before .before .before .before .before .before .if2 .left), le-ltb _ _ (c .before .before .before .before .before .before .before .if3 .left), le-ltb _ _ (c .before .before .before .before .before .before .if4 .left), le-ltb _ _ (c .before .before .before .before .before .if5 .left), le-ltb _ _ (c .before .before .before .before .if6 .left), le-ltb _ _ (c .before .before .if7 .left), lt-ltb (c .before .before .before .before .before .before .before .before .before .before .args .self .bound) (c .before .before .before .before .before .before .before .before .before .before .args .rate) (omega (arith, c .if8 .taken)))
 
 returns-9 : tie.Need-returns-9
 returns-9 c =
-    simp (le-ltb _ _ (c .before .before .before .before .before .before .before .before .before .before .if1 .left), le-ltb _ _ (c .before .before .before .before .before .before .before .before .before .if2 .left), le-ltb _ _ (c .before .before .before .before .before .before .before .before .if3 .left), le-ltb _ _ (c .before .before .before .before .before .before .before .if4 .left), le-ltb _ _ (c .before .before .before .before .before .before .if5 .left), le-ltb _ _ (c .before .before .before .before .before .if6 .left), le-ltb _ _ (c .before .before .before .if7 .left), le-ltb _ _ (c .before .if8 .left), lt-ltb _ _ (c .if9 .taken))
+    simp (le-ltb _ _ (c .before .before .before .before .before .before .before .before .before .before .if1 .left), le-ltb _ _ (c .before .before .before .before .before .before .before .before .before .if2 .left), le-ltb _ _ (c .before .before .before .before .before .before .before .before .if3 .left), le-ltb _ _ (c .before .before .before .before .before .before .before .if4 .left), le-ltb _ _ (c .before .before .before .before .before .before .if5 .left), le-ltb _ _ (c .before .before .before .before .before .if6 .left), le-ltb _ _ (c .before .before .before .if7 .left), le-ltb (c .before .before .before .before .before .before .before .before .before .before .before .args .self .bound) (c .before .before .before .before .before .before .before .before .before .before .before .args .rate) (omega (arith, c .before .if8 .left)), lt-ltb _ _ (c .if9 .taken))
 
 returns-10 : tie.Need-returns-10
 returns-10 c =

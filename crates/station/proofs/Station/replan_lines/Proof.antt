@@ -30,7 +30,7 @@ returns-3 c =
     call-gives (s .args .self) (replanLines (s .args .allowance)) (planAnswer (c .replanned .result .answer)) (c .replanned .result .station) [] (s .pre) (c .replanned .ensures .columns)
     (lines-tested (s .args .self) (planAnswer (c .replanned .result .answer)) (c .replanned .result .station) (s .args .allowance) _ _ (c .before .before .before .before .before .if1 .left) (c .before .before .before .before .if2 .left)
     (c .before .before .by-lines .ensures .same)
-    (c .replanned .ensures .result []))
+    (search (c .replanned .ensures .result [])))
 
 pub replan-lines-spec : {M : Type 1} → statement M
 replan-lines-spec = tie.close (tie.spec returns returns-2 by-lines-requires replanned-requires returns-3)

@@ -14,7 +14,7 @@ returns c =
     let s = c .before .before .before .before in
     let j = c .before .judged in
     record {
-      result = judged-result (s .args .self) _ (j .result) (j .ensures) (s .args .rounds);
+      result = search (judged-result (s .args .self) _ (j .result) (j .ensures) (s .args .rounds));
       columns = judged-columns (s .args .self) _ (j .result) (j .ensures) (s .pre .0 .columns);
     }
 
