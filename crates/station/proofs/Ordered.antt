@@ -106,15 +106,14 @@ committedStation s c =
     }
 
 pub call-committed :
-    (s : Station) (line time due rate start shown active : ℕ) (c : Charges)
+    (s : Station) (line time due rate start shown : ℕ) (c : Charges)
     → NoneHolds (orderRefusals (view s) line time due rate)
     → startFor (view s) (drawFor (view s) line time rate) ≡ at start
     → start ≡ shown
-    → active ≡ time + s .tail
     → {xs : List Charge}
     → Holds xs c
-    → xs ≡ chargesOf (s .charges) ++ (charge (s .next) line (s .clock) time active due start rate ∷ [])
+    → xs ≡ chargesOf (s .charges) ++ (charge (s .next) line (s .clock) time (time + s .tail) due start rate ∷ [])
     → giving (committed (s .next) start) (committedStation s c) [] ≡ step (view s) (commit line time due rate shown)
 unfolding committing
-call-committed s line time due rate start shown active c free f same long h e =
-    rw (h .charges, e, add-one (s .next), same, long) (sym (commit-taken (view s) line time due rate free shown (f ∙ ap at same)))
+call-committed s line time due rate start shown c free f same h e =
+    rw (h .charges, e, add-one (s .next), same) (sym (commit-taken (view s) line time due rate free shown (f ∙ ap at same)))
