@@ -5,16 +5,15 @@ use Prim.Native.Nat.{ℕ, zero, suc, _+_, _-_, _^_, max, _≤_, _<_}
 use mathlib.Core.Bool.{Bool, true, false, cond}
 use mathlib.Core.List.{List, [], _∷_, _++_, append-nil}
 use native.Mathlib.Omega.{arith}
-use native.Mathlib.Numerals.{add-one}
 use lib.Dec.{eqb}
 use lib.ListN.{length, getD, set, replicate, length-append}
 use borrow.Author.Tests.{eqb-true}
 use Rattle.rules.specs.Basics.{Each, keep}
 use Rattle.rules.specs.Load.{Load, IsLine, IsRate, lastUntil}
 use Rattle.rules.specs.Charge.{Charge, starting, drawOf, loadsOf}
-use Rattle.rules.specs.Search.{Caps, added}
+use Rattle.rules.specs.Search.{Caps}
 use Rattle.rules.specs.Priority.{crowdOf, Pick, chosen, fitsAt, picked, totalTime, withoutTicket}
-use Rattle.rules.specs.Replan.{Placed, all, placeOn, onLine}
+use Rattle.rules.specs.Replan.{all, placeOn, onLine}
 use Rattle.rules.proofs.Ranges.{below-or-not}
 use Rattle.rules.proofs.Lists.{each-append, each-tabulate, length-tabulate, length-keep}
 use Rattle.rules.proofs.LatestStarts.{latest-start-sums}
@@ -32,14 +31,14 @@ use Rattle.profile.proofs.Shown.{last-added}
 use Rattle.search.specs.declared.caps.LineCaps.{LineCaps}
 use Rattle.search.specs.Caps.{CapsShown}
 use Rattle.search.proofs.Lowerings.{can-cap}
-use Rattle.priority.specs.Chosen.{numberOf, CanFit, CanChoose}
+use Rattle.priority.specs.Chosen.{numberOf, CanFit}
 use Rattle.priority.specs.Crowds.{ShortTimes, LongestOf, ShortestOf}
 use Rattle.planner.specs.declared.next.Crowd as code
 use Rattle.planner.specs.declared.next.Next.{Next}
 use Rattle.planner.specs.Next.{Counted, Both, CanNext, NextIs}
 use Rattle.planner.specs.Ready.{begunOf}
 use Rattle.planner.specs.Placed.{PlanShown, AllPlaced}
-use Rattle.planner.specs.Lines.{waitingOf, InOrder, linesPlaced, Capped, Missing, manyUpTo, LinesDone}
+use Rattle.planner.specs.Lines.{waitingOf, InOrder, linesPlaced, Missing, manyUpTo, LinesDone}
 use Rattle.planner.proofs.Profiles.{shown-can-start}
 use Rattle.planner.proofs.Queueing.{places-apart}
 use Rattle.planner.proofs.Showing.{length-loads-of, begun-and-waiting, begun-end-most}

@@ -1,7 +1,7 @@
 -- The next charge of a line: found at the last start, or at the smallest one behind it.
 use mathlib.Core.Logic.{_⊎_, inl, inr, ⊎-elim}
-use mathlib.Core.Path.{_≡_, refl, sym, _∙_}
-use Prim.Native.Nat.{ℕ, _+_, min, max, _^_, _≤_, _<_}
+use mathlib.Core.Path.{_≡_, sym, _∙_}
+use Prim.Native.Nat.{ℕ, _+_, _^_, _≤_, _<_}
 use mathlib.Core.Bool.{Bool, true, false, true≢false}
 use mathlib.Core.List.{List}
 use native.Mathlib.Omega.{arith}
@@ -13,7 +13,6 @@ use Rattle.profile.specs.declared.Profile.{Profile}
 use Rattle.profile.specs.Shows.{firstMinute, lastMinute}
 use Rattle.search.specs.declared.caps.LineCaps.{LineCaps}
 use Rattle.search.specs.Rooms.{Misses, Least}
-use Rattle.search.specs.Starts.{CanStart}
 use Rattle.search.specs.Caps.{roomUnder, CanRun}
 use Rattle.search.proofs.Within.{first-last}
 use Rattle.priority.specs.Chosen.{numberOf, fitsRun, CanChoose}

@@ -2,17 +2,16 @@
 use mathlib.Core.Logic.{_⊎_, inl, inr, ⊎-elim}
 use mathlib.Core.Path.{_≡_, refl, sym, _∙_, ap, subst}
 use Prim.Native.Nat.{ℕ, _+_, _-_, _*_, max, _≤_, _<_}
-use mathlib.Core.Bool.{Bool, true, false, cond, _||_, true≢false}
+use mathlib.Core.Bool.{Bool, true, false, _||_, true≢false}
 use mathlib.Core.List.{List, [], _∷_, _++_}
 use native.Mathlib.Omega.{arith}
-use lib.Dec.{ltb, leb, eqb}
 use lib.ListN.{getD}
 use borrow.Author.Tests.{lt-ltb, le-ltb, eq-eqb}
-use Rattle.rules.specs.Basics.{Found, at, runOf, Each, keep, some}
+use Rattle.rules.specs.Basics.{at, runOf, Each, keep, some}
 use Rattle.rules.specs.Load.{Load, IsLine, lastUntil}
-use Rattle.rules.specs.Charge.{Charge, starting, drawOf, loadsOf}
-use Rattle.rules.specs.Search.{Caps, fitsUnder}
-use Rattle.rules.specs.Priority.{Crowd, takenBefore, Pick, chosen, foremost, Fitting, fitsAt, firstFit, picked}
+use Rattle.rules.specs.Charge.{Charge, starting}
+use Rattle.rules.specs.Search.{Caps}
+use Rattle.rules.specs.Priority.{Crowd, takenBefore, chosen, foremost, Fitting, fitsAt, firstFit, picked}
 use Rattle.rules.proofs.Ranges.{below-or-not}
 use Rattle.rules.proofs.Lists.{each-keep}
 use Rattle.rules.proofs.Fitting.{NoneBelow, first-fit-is}
@@ -25,7 +24,7 @@ use Rattle.profile.specs.Shows.{Shows}
 use Rattle.search.specs.declared.caps.LineCaps.{LineCaps}
 use Rattle.search.specs.Caps.{CapsShown, roomUnder}
 use Rattle.search.proofs.Unders.{run-shows, misses-fails}
-use Rattle.priority.specs.Chosen.{numberOf, fitsRun, weightAt, Ahead, Choice}
+use Rattle.priority.specs.Chosen.{numberOf, fitsRun, weightAt, Ahead}
 use Rattle.priority.specs.Crowds.{LongestOf}
 use Rattle.planner.specs.declared.next.Crowd as code
 use Rattle.planner.specs.declared.next.Next.{Next}

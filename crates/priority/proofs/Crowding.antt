@@ -1,13 +1,13 @@
 -- One charge more: the sum, the longest and the shortest time of a rate.
-use mathlib.Core.Logic.{_⊎_, inl, inr, ⊎-elim}
-use mathlib.Core.Path.{_≡_, refl, sym, _∙_, ap}
+use mathlib.Core.Logic.{_⊎_, inl, ⊎-elim}
+use mathlib.Core.Path.{_≡_, refl, _∙_, ap}
 use Prim.Native.Nat.{ℕ, zero, suc, _+_, _*_, _≤_, _<_}
 use mathlib.Core.List.{List}
 use native.Mathlib.Omega.{arith}
 use native.Mathlib.Numerals.{add-one}
 use Rattle.rules.proofs.Ranges.{below-or-not}
 use Rattle.priority.specs.Chosen.{numberOf}
-use Rattle.priority.specs.Crowds.{sumOf, ShortTimes, Longer, LongestOf, Shorter, Found, ShortestOf}
+use Rattle.priority.specs.Crowds.{sumOf, Longer, LongestOf, Shorter, ShortestOf}
 
 -- The sum
 

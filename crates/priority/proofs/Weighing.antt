@@ -1,12 +1,14 @@
 -- Weights fall with the slack; and the products that are compared are numbers of 64 bits.
 use mathlib.Core.Logic.{_⊎_, inl, inr}
-use mathlib.Core.Path.{_≡_, refl, subst⁻¹}
+use mathlib.Core.Path.{_≡_, refl, ap, subst⁻¹}
+use mathlib.Core.List.{List}
+use lib.ListN.{getD}
 use Prim.Native.Nat.{ℕ, zero, suc, _+_, _-_, _*_, _/_, _^_, _≤_, _<_}
 use native.Mathlib.Omega.{arith}
 use native.Mathlib.Nat.{le-of-lt, lt-of-le-of-lt, mul-le-mul, mul-le-mul-left, mul-le-mul-right, mul-lt-mul-of-pos-right, zero-div, zero-mul}
 use lib.Ieee.Nearest.{div-mono}
 use lib.Pow.{pow-pos, pow-add}
-use Rattle.rules.specs.Priority.{fading, weightOf}
+use Rattle.rules.specs.Priority.{fading, weights, weightOf}
 use Rattle.rules.proofs.Ranges.{below-or-not}
 use Rattle.rules.proofs.Weights.{weight-within, weight-beyond}
 
@@ -25,6 +27,11 @@ pub product-fits : (k : ℕ) {a b : ℕ} → a < 2 ^ k → b < 2 ^ k → a * b <
 product-fits k {a} {b} ha hb =
     subst⁻¹ (λ (n : ℕ). a * b < n) (pow-add 2 k k)
     (lt-of-le-of-lt (mul-le-mul-left a (le-of-lt hb)) (mul-lt-mul-of-pos-right ha (pow-pos k)))
+
+-- the weight stands in the table
+pub table-at : (table : List ℕ) (k : ℕ) → table ≡ weights → getD table k 0 ≡ weightOf k
+unfolding weightOf
+table-at table k e = ap (λ (t : List ℕ). getD t k 0) e
 
 -- E falls
 fading-next : (k : ℕ) → fading (suc k) ≤ fading k

@@ -1,9 +1,11 @@
 // The charges left on a line, in the order of d − p, then ticket: those that fit at a start, and the one that is taken.
+use crate::table;
 use crate::urgency;
 use charges::PLACES;
 ghost use mathlib.Core.Path.{_≡_};
 ghost use Prim.Native.Nat.{_*_, _≤_};
 ghost use lib.Dec.{ltb};
+ghost use Rattle.rules.specs.Priority.{weights as weightsOf};
 ghost use Rattle.priority.specs.Chosen.{runFor, FirstFitting, CanFit, CanWeigh, WeighedAt, CanChoose, Choice};
 
 fn run_for(one: u32, two: u32, rate: u32) -> u32
@@ -43,6 +45,7 @@ pub struct Weighed {
 
 // The j-th charge at a start.
 fn weigh<'a>(
+    weights: &'a [u32; 512],
     times: &'a [u32; PLACES],
     dues: &'a [u32; PLACES],
     left: &'a [usize; PLACES],
@@ -51,12 +54,12 @@ fn weigh<'a>(
     start: u32,
     j: usize,
 ) -> Weighed
-    requires { ⌜ CanWeigh (now dues) (now left) number total j ⌝ }
+    requires { ⌜ (now weights ≡ weightsOf) × CanWeigh (now dues) (now left) number total j ⌝ }
     ensures { λ r. ⌜ WeighedAt (now (times .entry)) (now (dues .entry)) (now (left .entry)) number total start j r ⌝ }
 {
     let i = left[j];
     let time = times[i];
-    let weight = urgency(dues[i], time, start, number, total);
+    let weight = urgency(weights, dues[i], time, start, number, total);
     Weighed { time, weight }
 }
 
@@ -93,10 +96,11 @@ pub fn choose<'a>(
     if n <= best {
         return n;
     }
-    let mut taken = weigh(times, dues, left, number, total, start, best);
+    let weights = table();
+    let mut taken = weigh(&weights, times, dues, left, number, total, start, best);
     let mut j = fitting(active_times, rates, left, n, one, two, best + 1);
     while j < n {
-        let next = weigh(times, dues, left, number, total, start, j);
+        let next = weigh(&weights, times, dues, left, number, total, start, j);
         if !heavier(next.weight, shortest, taken.weight, taken.time) {
             return best;
         }

@@ -4,7 +4,7 @@ pub mod crowd;
 
 ghost use mathlib.Core.Path.{_≡_};
 ghost use Prim.Native.Nat.{_+_, _-_, _*_, _/_, _<_, _≤_};
-ghost use Rattle.rules.specs.Priority.{weightOf};
+ghost use Rattle.rules.specs.Priority.{weights as weightsOf, weightOf};
 
 // "E(0) is 2^30, and E(k + 1) is E(k) × 63 / 64 rounded down; E stands as a table for k from 0 to 511."
 const WEIGHTS: [u32; 512] = [
@@ -522,21 +522,22 @@ const WEIGHTS: [u32; 512] = [
     343490,
 ];
 
-fn entry(k: usize) -> u32
-    requires { ⌜ k < 512 ⌝ }
-    ensures { λ r. ⌜ r ≡ weightOf k ⌝ }
+// The table, to be lent: a constant array is copied wherever it is read.
+pub fn table() -> [u32; 512]
+    ensures { λ r. ⌜ r ≡ weightsOf ⌝ }
 {
-    WEIGHTS[k]
+    WEIGHTS
 }
 
 // "and the weight is 0 beyond"
-pub fn weight(k: u64) -> u32
+pub fn weight<'a>(weights: &'a [u32; 512], k: u64) -> u32
+    requires { ⌜ now weights ≡ weightsOf ⌝ }
     ensures { λ r. ⌜ (r ≡ weightOf k) × (r ≤ 1073741824) ⌝ }
 {
     if 511 < k {
         return 0;
     }
-    entry(k as usize)
+    weights[k as usize]
 }
 
 // "m = max(0, d − start − p)"
@@ -549,14 +550,21 @@ pub fn slack(due: u32, start: u32, time: u32) -> u64
 }
 
 // What a charge weighs at a start, on a line that had `number` waiting charges of `total` minutes when the round began.
-pub fn urgency(due: u32, time: u32, start: u32, number: u32, total: u32) -> u32
-    requires { ⌜ (due ≤ 2000000) × (number ≤ 180) × (1 ≤ total) ⌝ }
+pub fn urgency<'a>(
+    weights: &'a [u32; 512],
+    due: u32,
+    time: u32,
+    start: u32,
+    number: u32,
+    total: u32,
+) -> u32
+    requires { ⌜ (now weights ≡ weightsOf) × (due ≤ 2000000) × (number ≤ 180) × (1 ≤ total) ⌝ }
     ensures { λ r. ⌜ (r ≡ weightOf (256 * (due - (start + time)) * number / total)) × (r ≤ 1073741824) ⌝ }
 {
     let m = slack(due, start, time);
     // Late already: nothing to divide.
     if m == 0 {
-        return weight(0);
+        return weight(weights, 0);
     }
-    weight(256 * m * number as u64 / total as u64)
+    weight(weights, 256 * m * number as u64 / total as u64)
 }

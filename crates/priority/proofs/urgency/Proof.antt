@@ -23,7 +23,7 @@ mul-weight : tie.Need-mul-weight
 mul-weight c = search needs
 
 mul-weight-2 : tie.Need-mul-weight-2
-mul-weight-2 c = record { fits = scaled-fits (omega (arith, c .before .slack .ensures .1, c .before .before .pre .0)) (c .before .before .pre .1) }
+mul-weight-2 c = record { fits = scaled-fits (omega (arith, c .before .slack .ensures .1, c .before .before .pre .1)) (c .before .before .pre .2) }
 
 div-weight : tie.Need-div-weight
 div-weight c = search needs

@@ -2,7 +2,6 @@
 use native.Mathlib.Omega.{arith}
 use Prim.Native.Nat.{ℕ, _≤_, _-_}
 use mathlib.Core.Path.{_≡_, refl, subst}
-use borrow.Author.Needs.{needs}
 use Rattle.profile.specs.Shows.{profileOf}
 use Rattle.planner.specs.Lines.{LinesUnder}
 use Rattle.planner.proofs.LinePlans.{lines-start}

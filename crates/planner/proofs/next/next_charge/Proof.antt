@@ -1,5 +1,4 @@
 -- At the last start, or at the next one.
-use native.Mathlib.Omega.{arith}
 use borrow.Author.Needs.{needs}
 use Rattle.planner.proofs.Nexts.{can-here, next-here, can-seek, can-there, next-there}
 use Rattle.planner.proofs.next.next_charge.Statement.{statement}

@@ -1,6 +1,5 @@
 use native.Mathlib.Omega.{arith}
 use mathlib.Core.Path.{refl}
-use borrow.Author.Needs.{needs}
 use Rattle.planner.proofs.next.start_for.Statement.{statement}
 use Rattle.planner.proofs.next.start_for.Tie as tie
 

@@ -10,11 +10,11 @@ use Rattle.priority.proofs.choice.choose.Statement.{statement}
 use Rattle.priority.proofs.choice.choose.Tie as tie
 
 abbrev Inv-loop : tie.InvT-loop
-Inv-loop times actives dues rates left n number total shortest start one two best₀ taken₀ j₀ best taken j =
+Inv-loop times actives dues rates left n number total shortest start one two best₀ weights taken₀ j₀ best taken j =
     BestSoFar times actives dues rates left n number total start one two best (taken .time) (taken .weight) j
 
 abbrev μ-loop : tie.MeasureT-loop
-μ-loop times actives dues rates left n number total shortest start one two best₀ taken₀ j₀ best taken j = n - j
+μ-loop times actives dues rates left n number total shortest start one two best₀ weights taken₀ j₀ best taken j = n - j
 
 fitting-requires : tie.Need-fitting-requires Inv-loop μ-loop
 fitting-requires c κs = (c .pre .can-fit, omega arith)
@@ -22,28 +22,33 @@ fitting-requires c κs = (c .pre .can-fit, omega arith)
 returns : tie.Need-returns Inv-loop μ-loop
 returns c = none-fits (c .before .fitting .ensures) (c .if1 .taken)
 
+table-requires : tie.Need-table-requires Inv-loop μ-loop
+table-requires c κs = search needs
+
 weigh-requires : tie.Need-weigh-requires Inv-loop μ-loop
-weigh-requires c κs = can-weigh (c .before .before .pre) (omega (arith, c .if1 .left))
+weigh-requires c κs = (c .before .table .ensures, can-weigh (c .before .before .before .before .pre) (omega (arith, c .before .before .if1 .left)))
 
 add-fitting : tie.Need-add-fitting Inv-loop μ-loop
-add-fitting c = omega (arith, c .before .if1 .left, c .before .before .before .pre .can-fit .few)
+add-fitting c = omega (arith, c .before .before .before .if1 .left, c .before .before .before .before .before .pre .can-fit .few)
 
 fitting-requires-2 : tie.Need-fitting-requires-2 Inv-loop μ-loop
-fitting-requires-2 c κs = (c .before .before .before .pre .can-fit, omega (arith, c .before .if1 .left))
+fitting-requires-2 c κs = (c .before .before .before .before .before .pre .can-fit, omega (arith, c .before .before .before .if1 .left))
 
 loop-holds : tie.Need-loop-holds Inv-loop μ-loop
-loop-holds c = best-first (c .before .before .before .fitting .ensures) (omega (arith, c .before .before .if1 .left)) (c .fitting2 .ensures) (c .before .weigh .ensures .time-is) (c .before .weigh .ensures .weight-is)
+loop-holds c = best-first (c .before .before .before .before .before .fitting .ensures) (omega (arith, c .before .before .before .before .if1 .left)) (c .fitting2 .ensures) (c .before .weigh .ensures .time-is) (c .before .weigh .ensures .weight-is)
 
 weigh-requires-2 : tie.Need-weigh-requires-2 Inv-loop μ-loop
-weigh-requires-2 c κs = can-weigh (c .before .before .before .before .before .before .pre) (c .loop-test .taken)
+weigh-requires-2 c κs =
+    let l = c .before .before in
+    (l .before .before .before .before .table .ensures, can-weigh (l .before .before .before .before .before .before .before .pre) (c .before .loop-test .taken))
 
 heavier-requires : tie.Need-heavier-requires Inv-loop μ-loop
 heavier-requires c κs = search needs
 
 returns-2 : tie.Need-returns-2 Inv-loop μ-loop
 returns-2 c =
-    let l = c .before .before .before .before in
-    best-stop (l .loop .inv) (l .before .before .before .before .before .pre) (c .before .before .before .loop-test .taken) (c .before .before .weigh2 .ensures .time-is) (c .before .before .weigh2 .ensures .weight-is)
+    let l = c .before .before .before .before .before in
+    best-stop (l .loop .inv) (l .before .before .before .before .before .before .before .pre) (c .before .before .before .before .loop-test .taken) (c .before .before .weigh2 .ensures .time-is) (c .before .before .weigh2 .ensures .weight-is)
     (ltb-false _ _ (sym (c .before .heavier .ensures) ∙ not-true _ (c .if2 .taken)))
 
 heavier-requires-2 : tie.Need-heavier-requires-2 Inv-loop μ-loop
@@ -51,22 +56,22 @@ heavier-requires-2 c κs = search needs
 
 add-fitting-2 : tie.Need-add-fitting-2 Inv-loop μ-loop
 add-fitting-2 c =
-    let l = c .before .before .before .before .before .before in
-    omega (arith, c .before .before .before .before .before .loop-test .taken, l .before .before .before .before .before .pre .can-fit .few)
+    let l = c .before .before .before .before .before .before .before in
+    omega (arith, c .before .before .before .before .before .before .loop-test .taken, l .before .before .before .before .before .before .before .pre .can-fit .few)
 
 fitting-requires-3 : tie.Need-fitting-requires-3 Inv-loop μ-loop
 fitting-requires-3 c κs =
-    let l = c .before .before .before .before .before .before in
-    (l .before .before .before .before .before .pre .can-fit, omega (arith, c .before .before .before .before .before .loop-test .taken))
+    let l = c .before .before .before .before .before .before .before in
+    (l .before .before .before .before .before .before .before .pre .can-fit, omega (arith, c .before .before .before .before .before .before .loop-test .taken))
 
 loop-less : tie.Need-loop-less Inv-loop μ-loop
-loop-less c = omega (arith, c .fitting3 .ensures .low, c .before .before .before .before .before .before .loop-test .taken)
+loop-less c = omega (arith, c .fitting3 .ensures .low, c .before .before .before .before .before .before .before .loop-test .taken)
 
 loop-again : tie.Need-loop-again Inv-loop μ-loop
 loop-again c =
-    let l = c .before .before .before .before .before .before .before in
-    let can = l .before .before .before .before .before .pre in
-    let more = c .before .before .before .before .before .before .loop-test .taken in
+    let l = c .before .before .before .before .before .before .before .before in
+    let can = l .before .before .before .before .before .before .before .pre in
+    let more = c .before .before .before .before .before .before .before .loop-test .taken in
     let w = c .before .before .before .before .before .weigh2 .ensures in
     ⊎-elim
     (λ x. rw (x .1, x .2) (best-moves (l .loop .inv) can more (w .time-is) (w .weight-is) (c .fitting3 .ensures) (ltb-true _ _ (sym (c .before .before .heavier2 .ensures) ∙ x .0 .taken))))
@@ -84,6 +89,7 @@ choose-spec =
     μ-loop
     fitting-requires
     returns
+    table-requires
     weigh-requires
     add-fitting
     fitting-requires-2
