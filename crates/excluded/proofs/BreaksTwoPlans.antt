@@ -2,7 +2,7 @@
 -- where the field follows from others.
 use mathlib.Core.Path.{_≡_, refl}
 use mathlib.Core.Bool.{true}
-use mathlib.Core.List.{[], _∷_, map}
+use mathlib.Core.List.{[], _∷_}
 use Rattle.rules.specs.Basics.{Each}
 use Rattle.rules.specs.Load.{limited, balanced, sound}
 use Rattle.rules.specs.Search.{earliest, firstUnbalanced}
@@ -12,29 +12,29 @@ use Rattle.rules.specs.Judgement.{judged}
 use Rattle.rules.specs.Calls.{offering, replanningLatest, replanningLines}
 use Rattle.excluded.specs.Same.{every}
 use Rattle.excluded.specs.Breaks.{Exactly, aloneIn}
-use Rattle.excluded.specs.FieldsBetter.{Merit, not-before-clock, limit, balance, no-later, less-late, merits, rank, Plan, Merits, merited}
-use Rattle.excluded.specs.FieldsTwoPlans.{Field, waiting-starts, begun-same, charges-same, station-same, unchanged, answer, same-list, fields, place, Trial, Holds, tested}
-use Rattle.excluded.specs.BreaksTwoPlans.{computedPlan, plans, computed, wrongEntries, entries}
+use Rattle.excluded.specs.FieldsBetter.{Merit, not-before-clock, limit, balance, no-later, less-late, rank, Plan, Merits, merited}
+use Rattle.excluded.specs.FieldsTwoPlans.{Field, waiting-starts, begun-same, charges-same, station-same, unchanged, answer, same-list, place, Trial, Holds, tested}
+use Rattle.excluded.specs.BreaksTwoPlans.{agreesPlan, plans, agrees, wrongEntries, entries}
 use Rattle.excluded.proofs.Breaks.{each-exactly}
 use Rattle.excluded.proofs.TestsBetter.{better-tested}
 use Rattle.excluded.proofs.TestsTwoPlans.{plans-tested}
 
 -- the checker computes every test
-pub plans-hold : map computedPlan plans ≡ plans
+pub plans-hold : every agreesPlan plans ≡ true
 unfolding limited balanced sound
 plans-hold = refl
 
 -- so of each offered plan the field that its entry names is false, and no other
 pub exactly-better : Each (Exactly Plan Merit Merits) plans
-exactly-better = each-exactly Plan Merit Merits merited merits better-tested plans plans-hold
+exactly-better = each-exactly Plan Merit Merits merited better-tested plans plans-hold
 
-pub entries-hold : map computed entries ≡ entries
+pub entries-hold : every agrees entries ≡ true
 unfolding limited balanced sound earliest firstUnbalanced placeAll latest fading weights weightOf firstFit picked placeOn round roundsFrom byLines judged offering replanningLatest replanningLines
 entries-hold = refl
 
 -- so each wrong station breaks the fields that its entry names, and no other, and the rules break none
 pub exactly-two-plans : Each (Exactly Trial Field Holds) entries
-exactly-two-plans = each-exactly Trial Field Holds tested fields plans-tested entries entries-hold
+exactly-two-plans = each-exactly Trial Field Holds tested plans-tested entries entries-hold
 
 -- each field alone, but for `taken`, which follows from `answer` and demand 1
 pub alone-two-plans :

@@ -1,11 +1,9 @@
 -- The fields of demand 1 one by one are demand 1, of a call and of an opening.
 use mathlib.Core.Logic.{_↔_}
-use mathlib.Core.Path.{_≡_}
-use mathlib.Core.List.{[]}
-use Rattle.rules.specs.Calls.{Settings, settings, State, Result, fresh, openRefusals, Call, lent, refusals}
+use Rattle.rules.specs.Calls.{Settings, State, Result, Call}
 use Rattle.guarantee.specs.Past.{Gives}
 use Rattle.guarantee.specs.DemandOne.{RefusedBy, NoneApplies, DemandOne, DemandOneOpening}
-use Rattle.excluded.specs.FieldsOne.{Field, number, same-station, same-list, answered, Trial, calledOn, openedBy, Tried, tried, OwnAnswer, Holds}
+use Rattle.excluded.specs.FieldsOne.{Field, number, same-station, same-list, answered, Trial, calledOn, openedBy, tried, OwnAnswer, Holds}
 
 abbrev Refused : Trial → Type 0
 Refused r = RefusedBy (tried r .rows) (tried r .station) (tried r .list) (tried r .result)

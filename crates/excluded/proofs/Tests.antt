@@ -2,11 +2,11 @@
 use mathlib.Core.Logic.{_⊎_, inl, inr, _↔_}
 use mathlib.Core.Path.{_≡_, refl}
 use Prim.Native.Nat.{ℕ, _≤_, _<_}
-use mathlib.Core.Bool.{Bool, true, false, cond, not, _&&_, _||_, false≢true}
-use mathlib.Core.List.{List, [], _∷_, map}
+use mathlib.Core.Bool.{Bool, true, false, not, _&&_, _||_, false≢true}
+use mathlib.Core.List.{List, [], _∷_}
 use lib.Dec.{leb, ltb, eqb}
 use borrow.Author.Tests.{leb-true, ltb-true, eqb-true, le-leb, lt-ltb, eq-eqb, not-true}
-use Rattle.rules.specs.Basics.{Each, keep}
+use Rattle.rules.specs.Basics.{Each}
 use Rattle.rules.proofs.Ranges.{and-left, and-right, and-both}
 use Rattle.excluded.specs.Same.{every, where-so, sameTest}
 
@@ -76,23 +76,3 @@ same-tests {a = false} {b = b} h k = (
 pub not-tests : {b : Bool} {P : Type 0} → Tests b P → Tests (not b) (P → ⊥)
 not-tests {b = true} h = ((λ e p. false≢true e), (λ f. absurd (f (h .0 refl))))
 not-tests {b = false} h = ((λ e p. false≢true (h .1 p)), (λ f. refl))
-
--- Lists
-
--- what the test of each member that is kept means
-pub each-kept :
-    {A : Type 0} (f : A → Bool) (P : A → Type 0) → ((a : A) → f a ≡ true → P a) → (l : List A) → Each P (keep f l)
-each-kept f P h [] = tt
-each-kept f P h (a ∷ l) = go (f a) refl (each-kept f P h l)
-  where
-    go : (b : Bool) → f a ≡ b → Each P (keep f l) → Each P (cond b (a ∷ keep f l) (keep f l))
-    go true p r = (h a p, r)
-    go false p r = r
-
--- a function that leaves a list as it is leaves each member
-pub each-same : {A : Type 0} (f : A → A) (l : List A) → map f l ≡ l → Each (λ a. f a ≡ a) l
-each-same f [] e = tt
-each-same f (a ∷ l) e =
-    let p : f a ≡ a = cc in
-    let q : map f l ≡ l = cc in
-    (p, each-same f l q)

@@ -5,9 +5,9 @@ use Prim.Native.Nat.{ℕ}
 use mathlib.Core.Bool.{Bool, true, false, cond}
 use mathlib.Core.List.{List, [], _∷_}
 use native.Mathlib.Omega.{arith}
-use Rattle.rules.specs.Calls.{Settings, State, Answer, refused, opened, previewed, committed, moved, planned, waiting, charging, Result, fresh, Call, preview, commit, move, offer, replanLatest, replanLines, enquire}
-use Rattle.guarantee.specs.Past.{Gives, isRefused}
-use Rattle.guarantee.specs.DemandOne.{FirstIs, AnswerTo, DemandOne, DemandOneOpening}
+use Rattle.rules.specs.Calls.{Answer, refused, opened, previewed, committed, moved, planned, waiting, charging, fresh, Call, preview, commit, move, offer, replanLatest, replanLines, enquire}
+use Rattle.guarantee.specs.Past.{isRefused}
+use Rattle.guarantee.specs.DemandOne.{FirstIs, AnswerTo}
 use Rattle.excluded.specs.Same.{sameList, sameAnswer, numberIn}
 use Rattle.excluded.specs.FieldsOne.{Field, number, same-station, same-list, answered, Trial, calledOn, openedBy, tried, OwnAnswer, Holds, refusalIn, firstIn, answersTo, ownAnswer, tested}
 use Rattle.excluded.proofs.Tests.{Tests, is-true, fails-tests, both-tests, either-tests, every-tests, where-so-tests}

@@ -7,15 +7,13 @@ use native.Mathlib.Omega.{arith}
 use lib.Dec.{eqb}
 use borrow.Author.Tests.{eqb-true, eq-eqb}
 use Rattle.rules.specs.Basics.{Each, some}
-use Rattle.rules.specs.Calls.{Settings, State, limitsOf, refused, waiting, charging, opening, Call, step}
+use Rattle.rules.specs.Calls.{State, limitsOf, refused, waiting, charging, Call}
 use Rattle.rules.proofs.Ranges.{and-left, and-right, and-both}
 use Rattle.guarantee.specs.Past.{Gives, Order, Report, Past, beginning, extended, after, past, timesReported, enquiry, startOf, endOf, activeUntil, loadOf, Numbered, totalTime, lastMinute}
 use Rattle.guarantee.specs.DemandThree.{Unmoved}
 use Rattle.excluded.specs.Same.{every}
 use Rattle.excluded.specs.FieldsThree.{Field, limit, balance, tickets, not-early, in-time, reported, not-reported, waits, charges, finished, no-other, unmoved, Holds}
 use Rattle.excluded.specs.TestsThree.{numbered, afterEach, unmovedFrom, tested}
-use Rattle.guarantee.proofs.DemandThree.{demand-three}
-use Rattle.excluded.proofs.FieldsThree.{three-fields}
 use Rattle.excluded.proofs.Tests.{Tests, leb-tests, ltb-tests, eqb-tests, every-tests, where-so-tests}
 use Rattle.excluded.proofs.TestsMinutes.{limit-tests, balance-tests}
 use Rattle.excluded.proofs.Same.{same-answer}
@@ -152,9 +150,3 @@ three-tested gives s calls unmoved =
       (λ e part rest q. at (past gives s part) .0 (each .0 e part rest q)),
       (λ p. each .1 (λ part rest q. at (past gives s part) .1 (p part rest q))),
     )
-
--- of the rules every test is true, on every list
-pub rules-tested : (x : Settings) (calls : List Call) (f : Field) → tested step (opening x .state) calls f ≡ true
-rules-tested x calls f =
-    three-tested step (opening x .state) calls f .1
-    (three-fields step (opening x .state) calls .0 (demand-three x calls) f)

@@ -1,18 +1,19 @@
 -- For each field of demand 1 a wrong station and a call, and a wrong opening, for which that field is false and no other.
+use mathlib.Core.Bool.{Bool}
 use mathlib.Core.List.{List, [], _∷_, _++_, map}
 use Rattle.rules.specs.Entry.{lentList}
 use Rattle.rules.specs.Calls.{settings, preview, commit, move, opening, step}
 use Rattle.excluded.specs.WrongOrders.{shownAsWaiting, anySoundStart, shownIgnored}
 use Rattle.excluded.specs.WrongRefusals.{lineAccepted, lastRow, lowestNumber, rateAboveBound, shownFirst, otherNumber, alwaysFull, hurryRefused, standstillRefused, ticketUsedUp, listCleared, ticketNotSaid, openedAsAsked, openingWrites, limitSaid, percentLost, zeroBound, smallProductRefused, roundedDown, longTailOpened, tailLookedAtFirst, refusedTailKept, tailLost}
 use Rattle.excluded.specs.Stations.{station, stationTwo}
-use Rattle.excluded.specs.Breaks.{Entry, computedBy, onlyOf}
+use Rattle.excluded.specs.Breaks.{Entry, agreesBy, onlyOf}
 use Rattle.excluded.specs.FieldsOne.{Field, number, same-station, same-list, answered, fields, place, Trial, calledOn, openedBy, tested}
 
 abbrev pub Breach : Type 0
 Breach = Entry Trial Field
 
-abbrev pub computed : Breach → Breach
-computed = computedBy tested fields
+abbrev pub agrees : Breach → Bool
+agrees = agreesBy tested
 
 abbrev only : Trial → List Field → Breach
 only = onlyOf place fields

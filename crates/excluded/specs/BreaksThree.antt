@@ -5,11 +5,12 @@ use mathlib.Core.List.{List, [], _∷_, _++_, map}
 use Rattle.rules.specs.Entry.{lentList}
 use Rattle.rules.specs.Calls.{settings, State, Call, preview, commit, move, offer, replanLatest, opening, step}
 use Rattle.guarantee.specs.Past.{Gives}
+use Rattle.excluded.specs.Same.{sameState}
 use Rattle.excluded.specs.WrongOrders.{ownLineOnly, neighboursOnly, limitIgnored, chargesCounted, ratesInLimitOnly, tailsLeftOut, tailsInLimitOnly, fixedStart, previewTakesTicket, shownBeforeTaken, ticketSkipped}
 use Rattle.excluded.specs.WrongMoves.{startAtClockLeftOut, firstReportOnly, reportedTwice, startAtTargetReported, nobodyReported, slowClock, droppedEarly, droppedLate, droppedAtItsEnd, neverDropped, shownLate, shownBegun, shownEarly, endWithTail}
 use Rattle.excluded.specs.WrongPlans.{untested, rateLost, begunMoved}
 use Rattle.excluded.specs.FieldsThree.{Field, limit, balance, tickets, not-early, in-time, reported, not-reported, waits, charges, finished, no-other, unmoved, fields, place, Holds}
-use Rattle.excluded.specs.Breaks.{Entry, computedBy, onlyOf}
+use Rattle.excluded.specs.Breaks.{Entry, agreesBy, onlyOf}
 use Rattle.excluded.specs.TestsThree.{tested}
 
 -- a station, its first state and the calls made to it
@@ -27,10 +28,10 @@ testOf r f = tested (r .gives) (r .first) (r .calls) f
 abbrev pub Breach : Type 0
 Breach = Entry Trial Field
 
-abbrev pub computed : Breach → Breach
-computed = computedBy testOf fields
+abbrev pub agrees : Breach → Bool
+agrees = agreesBy testOf
 
-abbrev only : Gives → State → List Call → List Field → Breach
+abbrev pub only : Gives → State → List Call → List Field → Breach
 only gives s calls broken = onlyOf place fields (record { gives = gives; first = s; calls = calls }) broken
 
 -- the station of 1, 100 and that of 2, 50, both with D = 1
@@ -73,9 +74,8 @@ fourOrders start = from 1 start ∷ from 2 start ∷ from 3 start ∷ from 1 sta
 abbrev pub to : ℕ → Call
 to target = move target lentList
 
--- counts and tickets
-abbrev pub wrongCounts : List Breach
-wrongCounts =
+abbrev pub wrongEntries : List Breach
+wrongEntries =
     only limitIgnored one (fourOrders 0) (limit ∷ [])
     ∷ only fixedStart one (fourOrders 5) (limit ∷ [])
     ∷ only ownLineOnly two (single ∷ single ∷ []) (balance ∷ [])
@@ -87,12 +87,7 @@ wrongCounts =
     ∷ only tailsInLimitOnly twoTailed (single ∷ from 1 10 ∷ []) (balance ∷ [])
     ∷ only ticketSkipped one (single ∷ from 1 10 ∷ []) (tickets ∷ [])
     ∷ only previewTakesTicket one (preview 1 10 60 1 ∷ single ∷ []) (tickets ∷ [])
-    ∷ []
-
--- each order's one charge
-abbrev pub wrongCharges : List Breach
-wrongCharges =
-    only slowClock one (to 5 ∷ from 1 4 ∷ to 6 ∷ []) (not-early ∷ [])
+    ∷ only slowClock one (to 5 ∷ from 1 4 ∷ to 6 ∷ []) (not-early ∷ [])
     -- ordered in minute 5 with the start 0, which no move passes any more
     ∷ only shownBeforeTaken one (preview 1 10 60 1 ∷ to 5 ∷ single ∷ []) (not-early ∷ reported ∷ [])
     ∷ only (untested 4) one (single ∷ commit 1 10 15 1 10 ∷ offer (11 ∷ 0 ∷ []) ∷ []) (in-time ∷ [])
@@ -114,12 +109,13 @@ wrongCharges =
     ∷ only shownEarly one (single ∷ from 1 10 ∷ to 9 ∷ to 11 ∷ []) (unmoved ∷ [])
     ∷ []
 
-abbrev pub wrongEntries : List Breach
-wrongEntries = wrongCounts ++ wrongCharges
+-- an opening with its own N, c and r leads to this station
+abbrev pub isOpened : State → Bool
+isOpened s = sameState (opening (settings (s .limit) (s .percent) (s .tail)) .state) s
 
 -- and the rules themselves on the same calls, where nothing breaks
-abbrev pub withRules : List Breach → List Breach
-withRules es = es ++ map (λ e. only step (e .thing .first) (e .thing .calls) []) es
+abbrev pub byRules : Breach → Breach
+byRules e = only step (e .thing .first) (e .thing .calls) []
 
 abbrev pub entries : List Breach
-entries = withRules wrongCounts ++ withRules wrongCharges
+entries = wrongEntries ++ map byRules wrongEntries

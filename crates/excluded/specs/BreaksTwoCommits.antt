@@ -1,19 +1,20 @@
 -- For each field of demand 2 for commits a wrong station and a commit for which that field is false and no other.
 use Prim.Native.Nat.{ℕ}
+use mathlib.Core.Bool.{Bool}
 use mathlib.Core.List.{List, [], _∷_, _++_, map}
 use Rattle.rules.specs.Calls.{State, step}
 use Rattle.guarantee.specs.Past.{Gives}
 use Rattle.excluded.specs.WrongRefusals.{otherNumber}
 use Rattle.excluded.specs.WrongOrders.{queued, anySoundStart, shownIgnored, shownBeforeTaken, otherTicket, othersPutOff}
 use Rattle.excluded.specs.Stations.{station, stationFive, stationH}
-use Rattle.excluded.specs.Breaks.{Entry, computedBy, onlyOf}
+use Rattle.excluded.specs.Breaks.{Entry, agreesBy, onlyOf}
 use Rattle.excluded.specs.FieldsTwoCommits.{Field, answer, refusal, others-same, fields, place, Trial, tested}
 
 abbrev pub Breach : Type 0
 Breach = Entry Trial Field
 
-abbrev pub computed : Breach → Breach
-computed = computedBy tested fields
+abbrev pub agrees : Breach → Bool
+agrees = agreesBy tested
 
 -- a commit of 10 minutes, due at 60, of rate 1
 abbrev only : Gives → State → ℕ → ℕ → List Field → Breach

@@ -1,21 +1,22 @@
 -- For each field of demand 2 for offers and replans a wrong station and a call for which that field is false, and no other
 -- where that can be.
 use Prim.Native.Nat.{ℕ}
+use mathlib.Core.Bool.{Bool}
 use mathlib.Core.List.{List, [], _∷_, _++_, map}
 use Rattle.rules.specs.Replan.{starts, latest, Replanned, byLines}
 use Rattle.rules.specs.Calls.{State, limitsOf, offer, replanLatest, replanLines, step}
 use Rattle.guarantee.specs.Past.{Gives}
 use Rattle.excluded.specs.WrongPlans.{untested, neverTaken, offerCleared, takenLater, begunPutOff, lineChanged, rateLost, takenForTicket, keptForTicket, lateWithTails, alwaysKept, spentAfterNone, byLatestStartInLines, roundsInvented}
 use Rattle.excluded.specs.Stations.{station, stationFour, stationH, stationHTwo, stationShort, stationTailed, stationRated, waitingSince, begunAndWaiting}
-use Rattle.excluded.specs.Breaks.{Entry, computedBy, onlyOf}
+use Rattle.excluded.specs.Breaks.{Entry, agreesBy, onlyOf}
 use Rattle.excluded.specs.FieldsBetter.{Merit, not-before-clock, limit, balance, no-later, less-late, merits, rank, Plan, merited}
 use Rattle.excluded.specs.FieldsTwoPlans.{Field, taken, waiting-starts, begun-same, charges-same, station-same, unchanged, answer, same-list, fields, place, Trial, tested}
 
 abbrev pub Breach : Type 0
 Breach = Entry Trial Field
 
-abbrev pub computed : Breach → Breach
-computed = computedBy tested fields
+abbrev pub agrees : Breach → Bool
+agrees = agreesBy tested
 
 abbrev only : Trial → List Field → Breach
 only = onlyOf place fields
@@ -52,8 +53,8 @@ plans =
     ∷ onlyOf rank merits (record { station = stationH; list = 0 ∷ 10 ∷ [] }) (less-late ∷ [])
     ∷ []
 
-abbrev pub computedPlan : Entry Plan Merit → Entry Plan Merit
-computedPlan = computedBy merited merits
+abbrev pub agreesPlan : Entry Plan Merit → Bool
+agreesPlan = agreesBy merited
 
 abbrev pub wrongEntries : List Breach
 wrongEntries =

@@ -1,12 +1,11 @@
 -- A request as it is read: its numbers, from the left, into the lent list; its call by name; the request as a whole.
 use mathlib.Core.Path.{_≡_, refl, sym, ap, _∙_}
-use mathlib.Core.Bool.{true, false}
+use mathlib.Core.Bool.{false}
 use mathlib.Core.List.{List, [], _∷_, _++_, append-assoc, append-nil}
-use Prim.Native.Nat.{ℕ, zero, suc, _+_, _-_, _≤_, _<_}
+use Prim.Native.Nat.{ℕ, suc, _+_, _-_, _≤_, _<_}
 use native.Mathlib.Numerals.{add-one}
 use native.Mathlib.Omega.{arith}
 use borrow.Author.Tests.{lt-ltb, le-ltb, eq-eqb, ne-eqb}
-use lib.Dec.{ltb}
 use lib.ListN.{length, take, getD, set, length-set}
 use lib.Seq.{slice, sets, take-length, take-take, length-take-le, take-suc-set}
 use Rattle.text.specs.Numbers.{numberOf}
@@ -126,14 +125,14 @@ module _ {text : List ℕ} {from least most : ℕ} {lent list : List ℕ} {at co
       }
 
   -- a word is left
-  module _ (h : at < length text) {end : ℕ} (p : PartEnd 32 text (at + 1) (length text) end) where
-    parts-left : partsAfter 32 text at (length text) ≡ slice (at + 1) end text ∷ partsAfter 32 text end (length text)
-    parts-left = rw (lt-ltb at (length text) h, ← add-one at) (p .parts)
+  module _ (h : at < length text) {start end : ℕ} (p : PartEnd 32 text start (length text) end) (next : start ≡ at + 1) where
+    parts-left : partsAfter 32 text at (length text) ≡ slice start end text ∷ partsAfter 32 text end (length text)
+    parts-left = rw (lt-ltb at (length text) h, ← add-one at, ← next) (p .parts)
 
     module _ (k : count < most) where
       reads-word :
           readNumbers least most words
-          ≡ after (take count list) (followed (numberOf (slice (at + 1) end text)) (readNumbers (least - count - 1) (most - (count + 1)) (partsAfter 32 text end (length text))))
+          ≡ after (take count list) (followed (numberOf (slice start end text)) (readNumbers (least - count - 1) (most - (count + 1)) (partsAfter 32 text end (length text))))
       unfolding readNumbers
       reads-word =
           let e : most - count ≡ suc (most - (count + 1)) = omega arith in
@@ -141,7 +140,7 @@ module _ {text : List ℕ} {from least most : ℕ} {lent list : List ℕ} {at co
 
       value-word :
           valuesRead (most - count) (partsAfter 32 text at (length text))
-          ≡ before (numberOf (slice (at + 1) end text)) (valuesRead (most - (count + 1)) (partsAfter 32 text end (length text)))
+          ≡ before (numberOf (slice start end text)) (valuesRead (most - (count + 1)) (partsAfter 32 text end (length text)))
       unfolding valuesRead
       value-word =
           let e : most - count ≡ suc (most - (count + 1)) = omega arith in
@@ -150,7 +149,7 @@ module _ {text : List ℕ} {from least most : ℕ} {lent list : List ℕ} {at co
       -- a word that is no number
       pub reads-wrong :
           (word : Number) (reason : Reason) → ((rest : Numbers) → followed word rest ≡ wrong reason)
-          → ((ns : List ℕ) → before word ns ≡ []) → numberOf (slice (at + 1) end text) ≡ word
+          → ((ns : List ℕ) → before word ns ≡ []) → numberOf (slice start end text) ≡ word
           → TakesNumbers least most words lent list (told.Wrong reason)
       reads-wrong word reason none-follows none-before q =
           record {
@@ -160,7 +159,7 @@ module _ {text : List ℕ} {from least most : ℕ} {lent list : List ℕ} {at co
           }
 
       pub reads-more :
-          (n : ℕ) → most ≤ length list → numberOf (slice (at + 1) end text) ≡ Value n
+          (n : ℕ) → most ≤ length list → numberOf (slice start end text) ≡ Value n
           → Reads text from least most lent (set list count n) end (count + 1)
       reads-more n l q =
           let e : least - count - 1 ≡ least - (count + 1) = omega arith in

@@ -7,11 +7,11 @@ use mathlib.Core.List.{List}
 use native.Mathlib.Omega.{arith}
 use borrow.Author.Tests.{not-true, not-false}
 use Rattle.rules.specs.Basics.{Found, at, nothing, first}
-use Rattle.rules.specs.Load.{Load, Draw, loadFrom, IsLine, share, count, counts, lastUntil, Limits, soundCounts, soundAt, sound}
+use Rattle.rules.specs.Load.{Load, Draw, loadFrom, share, count, counts, lastUntil, Limits, soundAt, sound}
 use Rattle.rules.specs.Search.{added, earliest}
-use Rattle.rules.specs.Candidate.{Tested, lookedUpTo, testedBy, candidate}
+use Rattle.rules.specs.Candidate.{lookedUpTo, testedBy, candidate}
 use Rattle.rules.proofs.Ranges.{fails, below-or-not, IsFirst, first-found, first-none, first-is, first-nothing}
-use Rattle.rules.proofs.Counts.{draws-before, draws-after, draws-in, Sound, sound-at, sound-all, sound-same, sound-from, sound-true}
+use Rattle.rules.proofs.Counts.{draws-after, draws-in, Sound, sound-at, sound-all, sound-same, sound-from, sound-true}
 use Rattle.rules.proofs.Searches.{count-added, count-added-before}
 
 -- The test of any minutes

@@ -1,20 +1,19 @@
 -- The test of a candidate start, step by step, is the rules' test; the search over it skips no start that fits.
-use Prim.Native.Nat.{ℕ, suc, _+_, _-_, _≤_, _<_, max, min}
-use mathlib.Core.Path.{_≡_, refl, sym, _∙_, ap, subst}
+use Prim.Native.Nat.{ℕ, _+_, _-_, _≤_, _<_, max, min}
+use mathlib.Core.Path.{_≡_, sym, _∙_, ap, subst}
 use mathlib.Core.Bool.{Bool, true, false, true≢false}
-use mathlib.Core.List.{List}
 use mathlib.Core.Logic.{⊎-elim}
 use native.Mathlib.Omega.{arith}
 use native.Mathlib.Numerals.{add-one}
 use lib.ListN.{getD}
-use Rattle.rules.specs.Load.{Load, IsLine, share, counts, soundCounts}
+use Rattle.rules.specs.Load.{IsLine, share, counts, soundCounts}
 use Rattle.rules.specs.Search.{added}
 use Rattle.rules.specs.Candidate.{testedBy}
 use Rattle.rules.proofs.Ranges.{below-or-not}
 use Rattle.rules.proofs.Counts.{share-most, sound-all, sound-same, sound-few}
-use Rattle.rules.proofs.TestedStarts.{FailsFirst, LookedTo, tested-fails, tested-passes, tested-told, tested-stops, tested-same, looked-bounds, counts-own}
+use Rattle.rules.proofs.TestedStarts.{LookedTo, tested-fails, tested-passes, tested-told, tested-stops, tested-same, looked-bounds, counts-own}
 use Rattle.profile.specs.Steps.{mostSteps, In}
-use Rattle.profile.specs.Shows.{ofLines, lineOf, levelOf, firstMinute, lastMinute, mostDrawn, Shows}
+use Rattle.profile.specs.Shows.{ofLines, lineOf, levelOf, lastMinute, mostDrawn}
 use Rattle.profile.specs.declared.Profile.{Profile}
 use Rattle.profile.proofs.Lines.{each-line, sound-tests}
 use Rattle.profile.proofs.Levels.{level-in, at-step, in-more, rising-le}

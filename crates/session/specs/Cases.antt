@@ -1,7 +1,6 @@
 -- A small run, by computing: an enquiry, one to pass over, an empty one, and a last one without line feed.
-use Prim.Native.Nat.{ℕ}
 use mathlib.Core.Path.{_≡_, refl}
-use mathlib.Core.List.{List, [], _∷_}
+use mathlib.Core.List.{[], _∷_}
 use Rattle.rules.specs.Calls.{enquiring}
 use Rattle.text.specs.Numbers.{valueFrom, numberOf, digitsWithin}
 use Rattle.text.specs.Parts.{split, sameText}

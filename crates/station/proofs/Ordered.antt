@@ -1,11 +1,12 @@
 -- An order: what is known of one that is not refused, and that what a preview and a commit give is what the rules give.
 use mathlib.Core.Path.{_≡_, refl, ap, sym, _∙_}
 use Prim.Native.Nat.{ℕ, zero, suc, _+_, _≤_, _<_}
-use mathlib.Core.List.{[], _∷_, _++_}
+use mathlib.Core.List.{List, [], _∷_, _++_}
 use native.Mathlib.Omega.{arith}
 use native.Mathlib.Numerals.{add-one}
 use Rattle.rules.specs.Basics.{Found, at, nothing, firstOf}
 use Rattle.rules.specs.Load.{IsRate}
+use Rattle.rules.specs.Charge.{Charge}
 use Rattle.rules.specs.Calls.{Answer, refused, committed, Result, answering, preview, commit, drawFor, startFor, orderRefusals, previewedAt, previewing, committing, step}
 use Rattle.rules.proofs.Tables.{NoneHolds}
 use Rattle.rules.proofs.Granted.{order-granted}
@@ -105,13 +106,14 @@ committedStation s c =
     }
 
 pub call-committed :
-    (s : Station) (line time due rate start shown active : ℕ) (c : Charges)
+    (s : Station) (line time due rate start shown : ℕ) (c : Charges)
     → NoneHolds (orderRefusals (view s) line time due rate)
     → startFor (view s) (drawFor (view s) line time rate) ≡ at start
     → start ≡ shown
-    → active ≡ time + s .tail
-    → Holds (chargesOf (s .charges) ++ (charge (s .next) line (s .clock) time active due start rate ∷ [])) c
+    → {xs : List Charge}
+    → Holds xs c
+    → xs ≡ chargesOf (s .charges) ++ (charge (s .next) line (s .clock) time (time + s .tail) due start rate ∷ [])
     → giving (committed (s .next) start) (committedStation s c) [] ≡ step (view s) (commit line time due rate shown)
 unfolding committing
-call-committed s line time due rate start shown active c free f same long h =
-    rw (h .charges, add-one (s .next), same, long) (sym (commit-taken (view s) line time due rate free shown (f ∙ ap at same)))
+call-committed s line time due rate start shown c free f same h e =
+    rw (h .charges, e, add-one (s .next), same) (sym (commit-taken (view s) line time due rate free shown (f ∙ ap at same)))

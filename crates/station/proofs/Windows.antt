@@ -1,13 +1,13 @@
 -- The windows of a search for a start: the charges that begin before a window's end draw below it what all held ones do.
 use mathlib.Core.Logic.{_⊎_, inl, inr, ⊎-elim}
-use mathlib.Core.Path.{_≡_, refl, sym, _∙_, ap}
-use Prim.Native.Nat.{ℕ, zero, suc, _+_, _-_, _*_, _^_, _≤_, _<_, max}
+use mathlib.Core.Path.{_≡_, refl, _∙_}
+use Prim.Native.Nat.{ℕ, zero, suc, _+_, _-_, _^_, _≤_, _<_, max}
 use mathlib.Core.Bool.{Bool, true, false}
 use mathlib.Core.List.{List, [], _∷_, _++_, append-nil, append-assoc}
 use native.Mathlib.Omega.{arith}
 use lib.ListN.{length, length-append}
 use borrow.Author.Tests.{lt-ltb, le-ltb, le-leb, lt-leb}
-use Rattle.rules.specs.Basics.{Each, tabulate, keep, at}
+use Rattle.rules.specs.Basics.{Each, tabulate, at}
 use Rattle.rules.specs.Load.{Load, IsLine, IsRate, draws, count, lastUntil, limits, soundAt, sound}
 use Rattle.rules.specs.Charge.{Charge, loadOf, loadsOf, isBegun, begunCharges}
 use Rattle.rules.specs.Search.{added, earliest}
@@ -33,7 +33,7 @@ use Rattle.planner.proofs.Showing.{length-loads-of, loads-append, listed-ends, 
 use Rattle.station.specs.declared.Station.{Station}
 use Rattle.station.specs.View.{view, Valid}
 use Rattle.station.proofs.Listing.{valid-listed}
-use Rattle.station.specs.Windows.{started, RoomFor, CanAddStarted, StartedAdded, Fits}
+use Rattle.station.specs.Windows.{started, CanAddStarted, StartedAdded, Fits}
 
 -- The charges of two windows, one behind the other
 

@@ -1,7 +1,7 @@
 -- Texts that are put into a buffer one after another.
 use mathlib.Core.Path.{_≡_, refl, sym, ap, _∙_}
 use mathlib.Core.List.{List, [], _∷_, _++_, append-assoc, append-nil}
-use Prim.Native.Nat.{ℕ, zero, suc, _+_, _/_, _%_, _^_, _≤_, _<_}
+use Prim.Native.Nat.{ℕ, suc, _+_, _/_, _%_, _^_, _≤_, _<_}
 use native.Mathlib.Nat.{add-zero, add-suc, suc-add}
 use native.Mathlib.Numerals.{add-one}
 use native.Mathlib.Omega.{arith}
@@ -9,7 +9,7 @@ use lib.ListN.{length, take, getD, set, length-append}
 use lib.Seq.{sets, length-sets, take-suc, take-length}
 use Rattle.text.specs.Numbers.{decimal}
 use Rattle.text.proofs.Values.{decimal-small, decimal-more}
-use Rattle.text.specs.Printed.{Printed, field, spaced, listed}
+use Rattle.text.specs.Printed.{Printed, spaced, listed}
 
 pub sets-join : (l : List ℕ) (i : ℕ) (xs ys : List ℕ) → sets l i (xs ++ ys) ≡ sets (sets l i xs) (i + length xs) ys
 sets-join l i [] ys = rw (add-zero i)

@@ -1,18 +1,18 @@
 -- Where the parts of a text end, and when two texts are the same.
-use mathlib.Core.Path.{_≡_, refl, sym, ap, _∙_}
+use mathlib.Core.Path.{_≡_, refl, ap, _∙_}
 use mathlib.Core.Bool.{Bool, true, false, cond}
-use mathlib.Core.List.{List, [], _∷_, _++_}
-use Prim.Native.Nat.{ℕ, zero, suc, _+_, _-_, _≤_, _<_, zero-le}
-use native.Mathlib.Nat.{suc-add, add-suc, le-of-suc-le-suc, not-suc-le-zero}
+use mathlib.Core.List.{List, [], _∷_}
+use Prim.Native.Nat.{ℕ, zero, suc, _+_, _-_, _≤_, _<_}
+use native.Mathlib.Nat.{suc-add, add-suc}
 use native.Mathlib.Numerals.{add-one}
 use native.Mathlib.Omega.{arith}
 use mathlib.Core.Logic.{⊎-elim}
 use borrow.Author.Tests.{lt-ltb, le-ltb, eq-eqb, ne-eqb}
-use lib.Dec.{ltb, eqb, leb·suc-suc, leb·zero}
+use lib.Dec.{ltb, eqb, leb·suc-suc}
 use lib.ListN.{length, take, drop, getD, drop-of-length-le}
 use lib.Seq.{slice, length-slice, take-take, drop-drop, drop-cons}
 use Rattle.bytes.specs.Bytes.{indexOf, indexAfter}
-use Rattle.text.specs.Parts.{joined, split, partsAfter, PartEnd, sameText}
+use Rattle.text.specs.Parts.{split, PartEnd, sameText}
 use Rattle.rules.proofs.Ranges.{below-or-not}
 
 -- the parts of a text: the first one up to the first separator, and those after it

@@ -1,6 +1,5 @@
 -- A chain of calls gives what the rules give, so that the demands hold of it.
 use mathlib.Core.Path.{_≡_, refl, sym, ap, subst, _∙_}
-use Prim.Native.Nat.{ℕ}
 use mathlib.Core.List.{List, [], _∷_, map}
 use Rattle.rules.specs.Basics.{Each}
 use Rattle.rules.specs.Calls as rules
@@ -12,9 +11,8 @@ use Rattle.guarantee.specs.DemandThree.{DemandThree}
 use Rattle.guarantee.specs.Demands.{reached}
 use Rattle.guarantee.proofs.Demands.{demands}
 use Rattle.station.specs.declared.Station.{Station}
-use Rattle.station.specs.declared.open.OpenAnswer.{OpenAnswer}
 use Rattle.station.specs.View.{view, Valid}
-use Rattle.theorem.specs.Theorem.{Made, MeetsOpen, MeetsApply, Chain, callMade, given, left, known, Guaranteed, Theorem}
+use Rattle.theorem.specs.Theorem.{Made, MeetsApply, Chain, callMade, given, left, known, Theorem}
 
 -- one call: what it gave is one step of the rules
 one-step : (s : Station) (m : Made) → Valid s → MeetsApply s m → given m ≡ step (view s) (callMade m)

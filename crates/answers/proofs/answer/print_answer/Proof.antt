@@ -1,6 +1,6 @@
 -- `answers::print_answer` meets its contract, case by case.
 use Rattle.answers.specs.Answers.{answerText}
-use Rattle.answers.proofs.Answering.{enquiry-line}
+use Rattle.answers.proofs.Answering.{printed-as, enquiry-line}
 use borrow.Author.Needs.{needs}
 use Rattle.answers.proofs.answer.print_answer.Statement.{statement}
 use Rattle.answers.proofs.answer.print_answer.Tie as tie
@@ -103,56 +103,56 @@ same-length c = search needs
 
 returns : tie.Need-returns
 unfolding answerText
-returns c = rw (c .before .before .before .before .before .before .before .before .before .answer .given .1, c .before .before .before .before .before .before .preview .given .1) (c .before .before .print-one .ensures)
+returns c = rw (c .before .before .before .before .before .before .before .before .before .answer .given .1, c .before .before .before .before .before .before .preview .given .1) (printed-as (c .before .before .print-one .ensures) (search))
 
 same-length-2 : tie.Need-same-length-2
 same-length-2 c = search needs
 
 returns-2 : tie.Need-returns-2
 unfolding answerText
-returns-2 c = rw (c .before .before .before .before .before .before .before .before .answer .given .1, c .before .before .before .before .before .preview2 .given .1) (c .before .before .print-refused .ensures)
+returns-2 c = rw (c .before .before .before .before .before .before .before .before .answer .given .1, c .before .before .before .before .before .preview2 .given .1) (printed-as (c .before .before .print-refused .ensures) (search))
 
 same-length-3 : tie.Need-same-length-3
 same-length-3 c = search needs
 
 returns-3 : tie.Need-returns-3
 unfolding answerText
-returns-3 c = rw (c .before .before .before .before .before .before .before .before .before .before .answer2 .given .1, c .before .before .before .before .before .before .before .commit .given .1) (c .before .before .print-two .ensures)
+returns-3 c = rw (c .before .before .before .before .before .before .before .before .before .before .answer2 .given .1, c .before .before .before .before .before .before .before .commit .given .1) (printed-as (c .before .before .print-two .ensures) (search))
 
 same-length-4 : tie.Need-same-length-4
 same-length-4 c = search needs
 
 returns-4 : tie.Need-returns-4
 unfolding answerText
-returns-4 c = rw (c .before .before .before .before .before .before .before .before .answer2 .given .1, c .before .before .before .before .before .commit2 .given .1) (c .before .before .print-refused2 .ensures)
+returns-4 c = rw (c .before .before .before .before .before .before .before .before .answer2 .given .1, c .before .before .before .before .before .commit2 .given .1) (printed-as (c .before .before .print-refused2 .ensures) (search))
 
 same-length-5 : tie.Need-same-length-5
 same-length-5 c = search needs
 
 returns-5 : tie.Need-returns-5
 unfolding answerText
-returns-5 c = rw (c .before .before .before .before .before .before .before .before .answer3 .given .1, c .before .before .before .before .before .moved .given .1) (c .before .before .print-moved .ensures)
+returns-5 c = rw (c .before .before .before .before .before .before .before .before .answer3 .given .1, c .before .before .before .before .before .moved .given .1) (printed-as (c .before .before .print-moved .ensures) (search))
 
 same-length-6 : tie.Need-same-length-6
 same-length-6 c = search needs
 
 returns-6 : tie.Need-returns-6
 unfolding answerText
-returns-6 c = rw (c .before .before .before .before .before .before .before .before .answer3 .given .1, c .before .before .before .before .before .moved2 .given .1) (c .before .before .print-refused3 .ensures)
+returns-6 c = rw (c .before .before .before .before .before .before .before .before .answer3 .given .1, c .before .before .before .before .before .moved2 .given .1) (printed-as (c .before .before .print-refused3 .ensures) (search))
 
 same-length-7 : tie.Need-same-length-7
 same-length-7 c = search needs
 
 returns-7 : tie.Need-returns-7
 unfolding answerText
-returns-7 c = rw (c .before .before .before .before .before .before .before .before .before .answer4 .given .1, c .before .before .before .before .before .before .plan .given .1) (c .before .before .print-four .ensures)
+returns-7 c = rw (c .before .before .before .before .before .before .before .before .before .answer4 .given .1, c .before .before .before .before .before .before .plan .given .1) (printed-as (c .before .before .print-four .ensures) (search))
 
 same-length-8 : tie.Need-same-length-8
 same-length-8 c = search needs
 
 returns-8 : tie.Need-returns-8
 unfolding answerText
-returns-8 c = rw (c .before .before .before .before .before .before .before .before .answer4 .given .1, c .before .before .before .before .before .plan2 .given .1) (c .before .before .print-refused4 .ensures)
+returns-8 c = rw (c .before .before .before .before .before .before .before .before .answer4 .given .1, c .before .before .before .before .before .plan2 .given .1) (printed-as (c .before .before .print-refused4 .ensures) (search))
 
 same-length-9 : tie.Need-same-length-9
 same-length-9 c = search needs

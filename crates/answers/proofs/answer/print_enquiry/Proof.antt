@@ -1,6 +1,6 @@
 -- `answers::print_enquiry` meets its contract, case by case.
 use Rattle.answers.specs.Answers.{answerText}
-use Rattle.answers.proofs.Answering.{refused-left}
+use Rattle.answers.proofs.Answering.{printed-as, refused-left}
 use borrow.Author.Needs.{needs}
 use Rattle.answers.proofs.answer.print_enquiry.Statement.{statement}
 use Rattle.answers.proofs.answer.print_enquiry.Tie as tie
@@ -28,7 +28,7 @@ same-length c = search needs
 
 returns : tie.Need-returns
 unfolding answerText
-returns c = rw (c .before .before .before .before .before .before .before .answer .given .1) (c .before .before .print-two .ensures)
+returns c = rw (c .before .before .before .before .before .before .before .answer .given .1) (printed-as (c .before .before .print-two .ensures) (search))
 
 enum-known-answer-2 : tie.Need-enum-known-answer-2
 enum-known-answer-2 c = search needs
@@ -41,7 +41,7 @@ same-length-2 c = search needs
 
 returns-2 : tie.Need-returns-2
 unfolding answerText
-returns-2 c = rw (refused-left (c .before .before .before .before .before .before .before .args .answer) (c .before .before .before .before .before .match .keys2) (c .before .before .before .before .match2 .keys2)) (c .before .before .print-refused .ensures)
+returns-2 c = rw (refused-left (c .before .before .before .before .before .before .before .args .answer) (c .before .before .before .before .before .match .keys2) (c .before .before .before .before .match2 .keys2)) (printed-as (c .before .before .print-refused .ensures) (search))
 
 slice-aggregate-print-three : tie.Need-slice-aggregate-print-three
 slice-aggregate-print-three c = search needs
@@ -63,7 +63,7 @@ same-length-3 c = search needs
 
 returns-3 : tie.Need-returns-3
 unfolding answerText
-returns-3 c = rw (c .before .before .before .before .before .before .answer2 .given .1) (c .before .before .print-three .ensures)
+returns-3 c = rw (c .before .before .before .before .before .before .answer2 .given .1) (printed-as (c .before .before .print-three .ensures) (search))
 
 pub print-enquiry-spec : {M : Type 1} → statement M
 print-enquiry-spec =

@@ -1,5 +1,6 @@
 -- `answers::print_error` meets its contract: in each case the text is that of the reason.
 
+use Rattle.answers.proofs.Answering.{printed-as}
 use borrow.Author.Needs.{needs}
 use Rattle.answers.proofs.answer.print_error.Statement.{statement}
 use Rattle.answers.proofs.answer.print_error.Tie as tie
@@ -62,37 +63,37 @@ same-length : tie.Need-same-length
 same-length c = search needs
 
 returns : tie.Need-returns
-returns c = rw (c .before .before .before .before .before .enum-told .given .1) (c .before .before .print-text .ensures)
+returns c = rw (c .before .before .before .before .before .enum-told .given .1) (printed-as (c .before .before .print-text .ensures) (search))
 
 same-length-2 : tie.Need-same-length-2
 same-length-2 c = search needs
 
 returns-2 : tie.Need-returns-2
-returns-2 c = rw (c .before .before .before .before .before .enum-told2 .given .1) (c .before .before .print-text2 .ensures)
+returns-2 c = rw (c .before .before .before .before .before .enum-told2 .given .1) (printed-as (c .before .before .print-text2 .ensures) (search))
 
 same-length-3 : tie.Need-same-length-3
 same-length-3 c = search needs
 
 returns-3 : tie.Need-returns-3
-returns-3 c = rw (c .before .before .before .before .before .enum-told3 .given .1) (c .before .before .print-text3 .ensures)
+returns-3 c = rw (c .before .before .before .before .before .enum-told3 .given .1) (printed-as (c .before .before .print-text3 .ensures) (search))
 
 same-length-4 : tie.Need-same-length-4
 same-length-4 c = search needs
 
 returns-4 : tie.Need-returns-4
-returns-4 c = rw (c .before .before .before .before .before .enum-told4 .given .1) (c .before .before .print-text4 .ensures)
+returns-4 c = rw (c .before .before .before .before .before .enum-told4 .given .1) (printed-as (c .before .before .print-text4 .ensures) (search))
 
 same-length-5 : tie.Need-same-length-5
 same-length-5 c = search needs
 
 returns-5 : tie.Need-returns-5
-returns-5 c = rw (c .before .before .before .before .before .enum-told5 .given .1) (c .before .before .print-text5 .ensures)
+returns-5 c = rw (c .before .before .before .before .before .enum-told5 .given .1) (printed-as (c .before .before .print-text5 .ensures) (search))
 
 same-length-6 : tie.Need-same-length-6
 same-length-6 c = search needs
 
 returns-6 : tie.Need-returns-6
-returns-6 c = rw (c .before .before .before .before .before .enum-told6 .given .1) (c .before .before .print-text6 .ensures)
+returns-6 c = rw (c .before .before .before .before .before .enum-told6 .given .1) (printed-as (c .before .before .print-text6 .ensures) (search))
 
 pub print-error-spec : {M : Type 1} → statement M
 print-error-spec =

@@ -1,6 +1,7 @@
 -- `answers::print_moved` meets its contract: its parts are printed one after another.
 use Rattle.answers.specs.Answers.{answerText}
 use Rattle.text.proofs.Printing.{printed-then}
+use Rattle.answers.proofs.Answering.{printed-as}
 use borrow.Author.Needs.{needs}
 use Rattle.answers.proofs.answer.print_moved.Statement.{statement}
 use Rattle.answers.proofs.answer.print_moved.Tie as tie
@@ -35,9 +36,11 @@ same-length c = search needs
 returns : tie.Need-returns
 unfolding answerText
 returns c =
-    printed-then (c .before .before .before .before .before .before .before .before .before .before .before .before .before .before .before .before .print-field .ensures .0)
+    printed-as
+    (printed-then (c .before .before .before .before .before .before .before .before .before .before .before .before .before .before .before .before .print-field .ensures .0)
     (printed-then (c .before .before .before .before .before .before .before .before .before .before .before .print-field2 .ensures .0)
-    (printed-then (c .before .before .before .before .before .before .before .print-list .ensures .0) (c .before .before .print-text .ensures)))
+    (printed-then (c .before .before .before .before .before .before .before .print-list .ensures .0) (c .before .before .print-text .ensures))))
+    (search)
 
 pub print-moved-spec : {M : Type 1} → statement M
 print-moved-spec =

@@ -1,5 +1,6 @@
 -- `answers::print_one` meets its contract: its parts are printed one after another.
 use Rattle.text.proofs.Printing.{printed-then}
+use Rattle.answers.proofs.Answering.{printed-as}
 use borrow.Author.Needs.{needs}
 use Rattle.answers.proofs.answer.print_one.Statement.{statement}
 use Rattle.answers.proofs.answer.print_one.Tie as tie
@@ -17,7 +18,7 @@ same-length : tie.Need-same-length
 same-length c = search needs
 
 returns : tie.Need-returns
-returns c = printed-then (c .before .before .before .before .before .before .before .print-field .ensures .0) (c .before .before .print-text .ensures)
+returns c = printed-as (printed-then (c .before .before .before .before .before .before .before .print-field .ensures .0) (c .before .before .print-text .ensures)) (search)
 
 pub print-one-spec : {M : Type 1} → statement M
 print-one-spec =

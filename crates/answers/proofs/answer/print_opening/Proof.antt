@@ -1,5 +1,6 @@
 -- `answers::print_opening` meets its contract, case by case.
 use Rattle.answers.specs.Answers.{answerText}
+use Rattle.answers.proofs.Answering.{printed-as}
 use borrow.Author.Needs.{needs}
 use Rattle.answers.proofs.answer.print_opening.Statement.{statement}
 use Rattle.answers.proofs.answer.print_opening.Tie as tie
@@ -27,14 +28,14 @@ same-length c = search needs
 
 returns : tie.Need-returns
 unfolding answerText
-returns c = rw (c .before .before .before .before .before .before .answer .given .1) (c .before .before .print-one .ensures)
+returns c = rw (c .before .before .before .before .before .before .answer .given .1) (printed-as (c .before .before .print-one .ensures) (search))
 
 same-length-2 : tie.Need-same-length-2
 same-length-2 c = search needs
 
 returns-2 : tie.Need-returns-2
 unfolding answerText
-returns-2 c = rw (c .before .before .before .before .before .answer2 .given .1) (c .before .before .print-refused .ensures)
+returns-2 c = rw (c .before .before .before .before .before .answer2 .given .1) (printed-as (c .before .before .print-refused .ensures) (search))
 
 pub print-opening-spec : {M : Type 1} → statement M
 print-opening-spec =

@@ -1,5 +1,6 @@
 -- `answers::print_refused` meets its contract.
 use Rattle.answers.specs.Answers.{answerText}
+use Rattle.answers.proofs.Answering.{printed-as}
 use borrow.Author.Needs.{needs}
 use Rattle.answers.proofs.answer.print_refused.Statement.{statement}
 use Rattle.answers.proofs.answer.print_refused.Tie as tie
@@ -15,7 +16,7 @@ same-length c = search needs
 
 returns : tie.Need-returns
 unfolding answerText
-returns c = c .before .before .print-one .ensures
+returns c = printed-as (c .before .before .print-one .ensures) (search)
 
 pub print-refused-spec : {M : Type 1} → statement M
 print-refused-spec =

@@ -1,5 +1,6 @@
 -- `answers::print_three` meets its contract: its parts are printed one after another.
 use Rattle.text.proofs.Printing.{printed-then}
+use Rattle.answers.proofs.Answering.{printed-as}
 use borrow.Author.Needs.{needs}
 use Rattle.answers.proofs.answer.print_three.Statement.{statement}
 use Rattle.answers.proofs.answer.print_three.Tie as tie
@@ -20,7 +21,7 @@ same-length : tie.Need-same-length
 same-length c = search needs
 
 returns : tie.Need-returns
-returns c = printed-then (c .before .before .before .before .before .before .before .before .print-field .ensures .0) (c .before .before .print-two .ensures)
+returns c = printed-as (printed-then (c .before .before .before .before .before .before .before .before .print-field .ensures .0) (c .before .before .print-two .ensures)) (search)
 
 pub print-three-spec : {M : Type 1} → statement M
 print-three-spec =

@@ -1,5 +1,6 @@
 -- `answers::print_two` meets its contract: its parts are printed one after another.
 use Rattle.text.proofs.Printing.{printed-then}
+use Rattle.answers.proofs.Answering.{printed-as}
 use borrow.Author.Needs.{needs}
 use Rattle.answers.proofs.answer.print_two.Statement.{statement}
 use Rattle.answers.proofs.answer.print_two.Tie as tie
@@ -14,7 +15,7 @@ same-length : tie.Need-same-length
 same-length c = search needs
 
 returns : tie.Need-returns
-returns c = printed-then (c .before .before .before .before .before .before .print-field .ensures .0) (c .before .before .print-one .ensures)
+returns c = printed-as (printed-then (c .before .before .before .before .before .before .print-field .ensures .0) (c .before .before .print-one .ensures)) (search)
 
 pub print-two-spec : {M : Type 1} → statement M
 print-two-spec = tie.close (tie.spec print-field-requires print-one-requires same-length returns)

@@ -35,7 +35,7 @@ loop-again c =
     let a = l .before .args in (
       omega arith,
       simp length-set (l .loop .inv .1),
-      rw (l .loop .inv .2) (filled-more (a .list .now) (l .loop .i) 4294967295 (omega arith)),
+      rw (l .loop .inv .2) (search (filled-more (a .list .now) (l .loop .i) 4294967295 (omega arith))),
     )
 
 same-length : tie.Need-same-length Inv-loop μ-loop

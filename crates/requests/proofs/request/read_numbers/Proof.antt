@@ -25,7 +25,7 @@ same-length : tie.Need-same-length Inv-loop μ-loop
 same-length c = c .before .before .loop .inv .long
 
 returns : tie.Need-returns Inv-loop μ-loop
-returns c = reads-extra (c .before .before .loop .inv) (c .before .loop-test .taken) (c .if1 .taken)
+returns c = reads-extra (c .before .before .loop .inv) (c .before .loop-test .taken) (omega (arith, c .if1 .taken))
 
 add-start : tie.Need-add-start Inv-loop μ-loop
 add-start c = omega arith
@@ -43,7 +43,7 @@ same-length-2 : tie.Need-same-length-2 Inv-loop μ-loop
 same-length-2 c = c .before .before .before .before .before .before .loop .inv .long
 
 returns-2 : tie.Need-returns-2 Inv-loop μ-loop
-returns-2 c = reads-wrong (c .before .before .before .before .before .before .loop .inv) (c .before .before .before .before .before .loop-test .taken) (c .before .before .before .part-end .ensures) (omega arith) number.NotANumber reason.NotANumber (λ rest. refl) (λ ns. refl) (sym (c .before .before .read-number .ensures) ∙ c .enum-told .given .1)
+returns-2 c = reads-wrong (c .before .before .before .before .before .before .loop .inv) (c .before .before .before .before .before .loop-test .taken) (c .before .before .before .part-end .ensures) (omega arith) (omega arith) number.NotANumber reason.NotANumber (λ rest. refl) (λ ns. refl) (sym (c .before .before .read-number .ensures) ∙ c .enum-told .given .1)
 
 enum-told-2 : tie.Need-enum-told-2 Inv-loop μ-loop
 enum-told-2 c = search needs
@@ -52,7 +52,7 @@ same-length-3 : tie.Need-same-length-3 Inv-loop μ-loop
 same-length-3 c = c .before .before .before .before .before .before .loop .inv .long
 
 returns-3 : tie.Need-returns-3 Inv-loop μ-loop
-returns-3 c = reads-wrong (c .before .before .before .before .before .before .loop .inv) (c .before .before .before .before .before .loop-test .taken) (c .before .before .before .part-end .ensures) (omega arith) number.TooLarge reason.NumberTooLarge (λ rest. refl) (λ ns. refl) (sym (c .before .before .read-number .ensures) ∙ c .enum-told2 .given .1)
+returns-3 c = reads-wrong (c .before .before .before .before .before .before .loop .inv) (c .before .before .before .before .before .loop-test .taken) (c .before .before .before .part-end .ensures) (omega arith) (omega arith) number.TooLarge reason.NumberTooLarge (λ rest. refl) (λ ns. refl) (sym (c .before .before .read-number .ensures) ∙ c .enum-told2 .given .1)
 
 enum-known-number : tie.Need-enum-known-number Inv-loop μ-loop
 enum-known-number c = search needs
@@ -73,19 +73,19 @@ loop-again : tie.Need-loop-again Inv-loop μ-loop
 loop-again c =
     let l = c .before .before .before .before .before .before .before in
     let n = c .before .number .given in
-    reads-more (l .loop .inv) (c .before .before .before .before .before .before .loop-test .taken) (c .before .before .before .before .part-end .ensures) (omega arith) (n .0 .0) (omega arith) (sym (c .before .before .before .read-number .ensures) ∙ n .1)
+    reads-more (l .loop .inv) (c .before .before .before .before .before .before .loop-test .taken) (c .before .before .before .before .part-end .ensures) (omega arith) (omega arith) (n .0 .0) (omega arith) (sym (c .before .before .before .read-number .ensures) ∙ n .1)
 
 same-length-4 : tie.Need-same-length-4 Inv-loop μ-loop
 same-length-4 c = c .before .before .loop .inv .long
 
 returns-4 : tie.Need-returns-4 Inv-loop μ-loop
-returns-4 c = reads-missing (c .before .before .loop .inv) (c .before .loop-test .left) (c .if2 .taken)
+returns-4 c = reads-missing (c .before .before .loop .inv) (c .before .loop-test .left) (omega (arith, c .if2 .taken))
 
 same-length-5 : tie.Need-same-length-5 Inv-loop μ-loop
 same-length-5 c = c .before .before .loop .inv .long
 
 returns-5 : tie.Need-returns-5 Inv-loop μ-loop
-returns-5 c = reads-all (c .before .before .loop .inv) (c .before .loop-test .left) (c .if2 .left)
+returns-5 c = reads-all (c .before .before .loop .inv) (c .before .loop-test .left) (omega (arith, c .if2 .left))
 
 pub read-numbers-spec : {M : Type 1} → statement M
 read-numbers-spec =

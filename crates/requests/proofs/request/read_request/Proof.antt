@@ -2,21 +2,22 @@
 use mathlib.Core.Path.{sym}
 use lib.Seq.{length-take-le}
 use Rattle.requests.proofs.Reading.{text-too-long, text-empty, text-comment, text-call}
+use native.Mathlib.Omega.{arith}
 use borrow.Author.Needs.{needs}
 use Rattle.requests.proofs.request.read_request.Statement.{statement}
 use Rattle.requests.proofs.request.read_request.Tie as tie
 
 returns : tie.Need-returns
-returns c = text-too-long _ (c .before .before .before .args .numbers .now) (c .if1 .taken)
+returns c = text-too-long (c .before .before .before .args .text .now) (c .before .before .before .args .numbers .now) (omega (arith, c .if1 .taken))
 
 returns-2 : tie.Need-returns-2
-returns-2 c = text-empty _ (c .before .before .before .before .args .numbers .now) (c .if2 .taken)
+returns-2 c = text-empty (c .before .before .before .before .args .text .now) (c .before .before .before .before .args .numbers .now) (omega (arith, c .if2 .taken))
 
 shared-slice-read-if3 : tie.Need-shared-slice-read-if3
 shared-slice-read-if3 c = search needs
 
 returns-3 : tie.Need-returns-3
-returns-3 c = text-comment _ (c .before .before .before .before .before .before .args .numbers .now) (c .before .before .before .if1 .left) (c .before .before .if2 .left) (c .if3 .taken)
+returns-3 c = text-comment (c .before .before .before .before .before .before .args .text .now) (c .before .before .before .before .before .before .args .numbers .now) (omega (arith, c .before .before .before .if1 .left)) (c .before .before .if2 .left) (omega (arith, c .if3 .taken))
 
 part-end-requires : tie.Need-part-end-requires
 part-end-requires c κs = search needs
@@ -36,7 +37,7 @@ same-length c = search needs
 returns-4 : tie.Need-returns-4
 returns-4 c =
     let s = c .before .before .before .before .before .before .before .before .before .before .before .before .before in
-    text-call (s .args .text .now) (s .args .numbers .now) (c .before .before .before .before .before .before .before .before .before .before .if1 .left) (c .before .before .before .before .before .before .before .before .before .if2 .left) (c .before .before .before .before .before .before .part-end .result) (c .before .before .before .before .call-named .result) (c .before .before .before .before .before .before .before .if3 .left) (c .before .before .before .before .before .before .part-end .ensures) (c .before .before .before .before .call-named .ensures) (c .before .before .read-call .ensures)
+    text-call (s .args .text .now) (s .args .numbers .now) (omega (arith, c .before .before .before .before .before .before .before .before .before .before .if1 .left)) (c .before .before .before .before .before .before .before .before .before .if2 .left) (c .before .before .before .before .before .before .part-end .result) (c .before .before .before .before .call-named .result) (λ e. omega (arith, e, c .before .before .before .before .before .before .before .if3 .left)) (c .before .before .before .before .before .before .part-end .ensures) (c .before .before .before .before .call-named .ensures) (c .before .before .read-call .ensures)
 
 pub read-request-spec : {M : Type 1} → statement M
 read-request-spec =

@@ -63,6 +63,7 @@ returns c =
       c .before .before .before .before .before .before .before .before .before .before .before .before .named-or2 .ensures,
       c .before .before .before .before .before .before .before .before .before .before .before .before .before .before .named-or .ensures,
     )
+    (search)
 
 pub call-named-spec : {M : Type 1} → statement M
 call-named-spec =

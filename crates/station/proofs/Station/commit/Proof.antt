@@ -72,8 +72,8 @@ returns-3 c =
     let s = begun f in
     call-gives (s .args .self) (commit (s .args .line) (s .args .time) (s .args .due) (s .args .rate) (s .args .shown)) _
     (committedStation (s .args .self) (c .push .result)) _ (s .pre) (c .push .ensures .columns)
-    (call-committed (s .args .self) (s .args .line) (s .args .time) (s .args .due) (s .args .rate) _ (s .args .shown) _ (c .push .result)
-    (free f) (found f) (omega (arith, c .before .before .before .if1 .left)) (omega arith) (c .push .ensures))
+    (call-committed (s .args .self) (s .args .line) (s .args .time) (s .args .due) (s .args .rate) _ (s .args .shown) (c .push .result)
+    (free f) (found f) (omega (arith, c .before .before .before .if1 .left)) (c .push .ensures) (search))
 
 pub commit-spec : {M : Type 1} → statement M
 commit-spec =

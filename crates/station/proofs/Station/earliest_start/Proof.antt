@@ -1,7 +1,6 @@
 -- `Station::earliest_start` meets its contract. The invariant: no start before `start` is sound, and the profile has the charges
 -- that begin before `low`.
 use Prim.Native.Nat.{_-_}
-use mathlib.Core.Path.{refl}
 use native.Mathlib.Omega.{arith}
 use borrow.Author.Needs.{needs}
 use Rattle.profile.specs.Shows.{profileOf}
@@ -43,7 +42,7 @@ add-if1 c =
 
 returns : tie.Need-returns Inv-loop μ-loop
 returns c =
-    seeking-found (c .before .before .before .before .before .before .before .before .before .before .before .before .before .pre .0) (c .before .before .before .before .before .before .before .before .before .before .before .before .before .pre .1) (c .before .before .before .before .before .before .before .before .loop .inv) (c .before .before .before .before .before .add-started .ensures) (c .before .before .first-fitting .ensures .1) (c .before .before .first-fitting .ensures .0) (omega (arith, c .if1 .taken))
+    seeking-found (c .before .before .before .before .before .before .before .before .before .before .before .before .before .pre .0) (c .before .before .before .before .before .before .before .before .before .before .before .before .before .pre .1) (c .before .before .before .before .before .before .before .before .loop .inv) (c .before .before .before .before .before .add-started .ensures) (c .before .before .first-fitting .ensures .1) (search (c .before .before .first-fitting .ensures)) (omega (arith, c .if1 .taken))
 
 add-until-2 : tie.Need-add-until-2 Inv-loop μ-loop
 add-until-2 c =
@@ -67,7 +66,7 @@ loop-less c =
 
 loop-again : tie.Need-loop-again Inv-loop μ-loop
 loop-again c =
-    seeking-on (c .before .before .before .before .before .before .before .before .before .before .before .before .before .before .pre .0) (c .before .before .before .before .before .before .before .before .before .before .before .before .before .before .pre .1) (c .before .before .before .before .before .before .before .before .before .loop .inv) (c .before .before .before .before .before .before .add-started .ensures) (c .before .before .before .first-fitting .ensures .1) (c .before .before .before .first-fitting .ensures .0) (omega (arith, c .before .if1 .left)) (omega arith) (omega arith)
+    seeking-on (c .before .before .before .before .before .before .before .before .before .before .before .before .before .before .pre .0) (c .before .before .before .before .before .before .before .before .before .before .before .before .before .before .pre .1) (c .before .before .before .before .before .before .before .before .before .loop .inv) (c .before .before .before .before .before .before .add-started .ensures) (c .before .before .before .first-fitting .ensures .1) (search (c .before .before .before .first-fitting .ensures)) (omega (arith, c .before .if1 .left)) (omega arith) (omega arith)
 
 pub earliest-start-spec : {M : Type 1} → statement M
 earliest-start-spec =

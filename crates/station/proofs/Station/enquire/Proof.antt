@@ -38,14 +38,15 @@ module _ (c : tie.After-i) where
       valid-listed (s .args .self) (s .pre) .small place low
 
   says :
-      {a : Answer}
+      {a b : Answer}
       → toldOf (c .before .before .before .before .args .self .clock) (chargeAt (c .before .before .before .before .args .self .charges) place) ≡ a
-      → Gives (step (view (c .before .before .before .before .args .self)) (enquire (c .before .before .before .before .args .ticket))) a (c .before .before .before .before .args .self) []
-  says e =
+      → a ≡ b
+      → Gives (step (view (c .before .before .before .before .args .self)) (enquire (c .before .before .before .before .args .ticket))) b (c .before .before .before .before .args .self) []
+  says e same =
       let s = c .before .before .before .before in
       record {
         result =
-            sym (enquire-found (s .args .self) (s .args .ticket) place (c .before .before .find .ensures ∙ ap foundAt (c .i .given .1)) ∙ ap (λ a. giving a (s .args .self) []) e);
+            sym (enquire-found (s .args .self) (s .args .ticket) place (c .before .before .find .ensures ∙ ap foundAt (c .i .given .1)) ∙ ap (λ a. giving a (s .args .self) []) (e ∙ same));
         valid = s .pre;
       }
 
@@ -84,13 +85,13 @@ returns-2 : tie.Need-returns-2
 returns-2 c =
     let f = c .before .before .before .before .before .before in
     let s = f .before .before .before .before .args .self in
-    says f (told-charging (s .clock) (chargeAt (s .charges) (place f)) (c .if1 .taken))
+    says f (told-charging (s .clock) (chargeAt (s .charges) (place f)) (omega (arith, c .if1 .taken))) (search)
 
 returns-3 : tie.Need-returns-3
 returns-3 c =
     let f = c .before .before .before .before .before .before in
     let s = f .before .before .before .before .args .self in
-    says f (told-waiting (s .clock) (chargeAt (s .charges) (place f)) (c .if1 .left))
+    says f (told-waiting (s .clock) (chargeAt (s .charges) (place f)) (omega (arith, c .if1 .left))) (search)
 
 pub enquire-spec : {M : Type 1} → statement M
 enquire-spec =

@@ -1,3 +1,4 @@
+use native.Mathlib.Omega.{arith}
 use borrow.Author.Tests.{lt-ltb, le-ltb, le-leb, lt-leb}
 use Rattle.rules.proofs.Lists.{length-tabulate}
 use Rattle.station.proofs.Station.order_refusal.Statement.{statement}
@@ -41,7 +42,7 @@ returns-9 c =
 
 returns-10 : tie.Need-returns-10
 returns-10 c =
-    simp (le-ltb _ _ (c .before .before .before .before .before .before .before .before .before .before .before .before .if1 .left), le-ltb _ _ (c .before .before .before .before .before .before .before .before .before .before .before .if2 .left), le-ltb _ _ (c .before .before .before .before .before .before .before .before .before .before .if3 .left), le-ltb _ _ (c .before .before .before .before .before .before .before .before .before .if4 .left), le-ltb _ _ (c .before .before .before .before .before .before .before .before .if5 .left), le-ltb _ _ (c .before .before .before .before .before .before .before .if6 .left), le-ltb _ _ (c .before .before .before .before .before .if7 .left), le-ltb _ _ (c .before .before .before .if8 .left), le-ltb _ _ (c .before .before .if9 .left), length-tabulate, le-leb _ _ (c .if10 .taken))
+    simp (le-ltb _ _ (c .before .before .before .before .before .before .before .before .before .before .before .before .if1 .left), le-ltb _ _ (c .before .before .before .before .before .before .before .before .before .before .before .if2 .left), le-ltb _ _ (c .before .before .before .before .before .before .before .before .before .before .if3 .left), le-ltb _ _ (c .before .before .before .before .before .before .before .before .before .if4 .left), le-ltb _ _ (c .before .before .before .before .before .before .before .before .if5 .left), le-ltb _ _ (c .before .before .before .before .before .before .before .if6 .left), le-ltb _ _ (c .before .before .before .before .before .if7 .left), le-ltb _ _ (c .before .before .before .if8 .left), le-ltb _ _ (c .before .before .if9 .left), length-tabulate, le-leb 180 (c .before .before .before .before .before .before .before .before .before .before .before .before .before .args .self .charges .held) (omega (arith, c .if10 .taken)))
 
 returns-11 : tie.Need-returns-11
 returns-11 c =

@@ -1,7 +1,7 @@
 use mathlib.Core.Path.{_≡_, sym, _∙_}
 use native.Mathlib.Omega.{arith}
 use Rattle.rules.specs.Basics.{at}
-use Rattle.rules.specs.Calls.{preview}
+use Rattle.rules.specs.Calls.{preview, drawFor, startFor}
 use Rattle.rules.proofs.Granted.{refusals-none}
 use Rattle.station.specs.View.{view}
 use Rattle.station.proofs.Ordered.{Orderable, orderable, shown-refused, shown-found}
@@ -49,8 +49,9 @@ returns-2 : tie.Need-returns-2
 returns-2 c =
     let s = c .before .before .before .before in
     let r = c .before .before .before .order-refusal in
+    let found : startFor (view (s .args .self)) (drawFor (view (s .args .self)) (s .args .line) (s .args .time) (s .args .rate)) ≡ at (c .earliest-start .result) = search (c .earliest-start .ensures) in
     shown-found (s .args .self) (s .args .line) (s .args .time) (s .args .due) (s .args .rate) (r .result) (at _) (r .ensures)
-    (none (c .before .before)) (c .earliest-start .ensures)
+    (none (c .before .before)) found
 
 pub start-for-spec : {M : Type 1} → statement M
 start-for-spec =

@@ -1,5 +1,5 @@
 -- `text::print_decimal` meets its contract. It calls itself on a tenth of the number, which is the measure, and then puts the last digit.
-use mathlib.Core.Path.{_≡_, ap}
+use mathlib.Core.Path.{ap}
 use native.Mathlib.Omega.{arith}
 use lib.ListN.{length, length-set}
 use Rattle.text.proofs.Values.{decimal-small, decimal-longer}
