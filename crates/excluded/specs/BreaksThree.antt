@@ -74,9 +74,8 @@ fourOrders start = from 1 start ∷ from 2 start ∷ from 3 start ∷ from 1 sta
 abbrev pub to : ℕ → Call
 to target = move target lentList
 
--- counts and tickets
-abbrev pub wrongCounts : List Breach
-wrongCounts =
+abbrev pub wrongEntries : List Breach
+wrongEntries =
     only limitIgnored one (fourOrders 0) (limit ∷ [])
     ∷ only fixedStart one (fourOrders 5) (limit ∷ [])
     ∷ only ownLineOnly two (single ∷ single ∷ []) (balance ∷ [])
@@ -88,12 +87,7 @@ wrongCounts =
     ∷ only tailsInLimitOnly twoTailed (single ∷ from 1 10 ∷ []) (balance ∷ [])
     ∷ only ticketSkipped one (single ∷ from 1 10 ∷ []) (tickets ∷ [])
     ∷ only previewTakesTicket one (preview 1 10 60 1 ∷ single ∷ []) (tickets ∷ [])
-    ∷ []
-
--- each order's one charge
-abbrev pub wrongCharges : List Breach
-wrongCharges =
-    only slowClock one (to 5 ∷ from 1 4 ∷ to 6 ∷ []) (not-early ∷ [])
+    ∷ only slowClock one (to 5 ∷ from 1 4 ∷ to 6 ∷ []) (not-early ∷ [])
     -- ordered in minute 5 with the start 0, which no move passes any more
     ∷ only shownBeforeTaken one (preview 1 10 60 1 ∷ to 5 ∷ single ∷ []) (not-early ∷ reported ∷ [])
     ∷ only (untested 4) one (single ∷ commit 1 10 15 1 10 ∷ offer (11 ∷ 0 ∷ []) ∷ []) (in-time ∷ [])
@@ -114,9 +108,6 @@ wrongCharges =
     ∷ only nobodyReported one (to 1 ∷ []) (no-other ∷ [])
     ∷ only shownEarly one (single ∷ from 1 10 ∷ to 9 ∷ to 11 ∷ []) (unmoved ∷ [])
     ∷ []
-
-abbrev pub wrongEntries : List Breach
-wrongEntries = wrongCounts ++ wrongCharges
 
 -- an opening with its own N, c and r leads to this station
 abbrev pub isOpened : State → Bool

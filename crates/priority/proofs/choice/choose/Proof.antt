@@ -20,7 +20,7 @@ fitting-requires : tie.Need-fitting-requires Inv-loop μ-loop
 fitting-requires c κs = (c .pre .can-fit, omega arith)
 
 returns : tie.Need-returns Inv-loop μ-loop
-returns c = none-fits (c .before .fitting .ensures) (c .if1 .taken)
+returns c = none-fits (search (c .before .fitting .ensures)) (c .if1 .taken)
 
 table-requires : tie.Need-table-requires Inv-loop μ-loop
 table-requires c κs = search needs
