@@ -164,7 +164,7 @@ fn difference_found(program: &dyn Answering, batch: &[Script], place: usize) -> 
 /// commits after it are not the earliest any more, so they are filled in anew, unless
 /// the difference lies in how a start is written.
 fn shrunk(program: &dyn Answering, lines: Vec<Line>) -> Vec<Line> {
-    let filled = |lines: &[Line]| fill(Station::fresh(1, 100), lines);
+    let filled = |lines: &[Line]| fill(Station::fresh(1, 100, 0), lines);
     let fails = |lines: &[Line]| differs(program, lines).is_some();
     let open = unfill(&lines);
     match fails(&filled(&open)) {

@@ -49,6 +49,8 @@ impl Order {
 struct Trace {
     limit: u64,
     bound: u64,
+    /// r, for which "a point" counts "as drawing for r minutes after its end" (N7).
+    tail: u64,
     clock: u64,
     orders: Vec<Order>,
     /// Whether an enquiry was answered since the last other call.
@@ -57,7 +59,7 @@ struct Trace {
 
 /// Checks the answers to a script.
 pub fn check(lines: &[Line], answers: &[Line]) -> Result<(), Broken> {
-    let mut trace = Trace::from_opening(1, 100, true);
+    let mut trace = Trace::from_opening([1, 100, 0], true);
     let mut answer = 0;
     for line in script::answered(lines) {
         let text = answers.get(answer).map(|text| script::show(text));
@@ -115,11 +117,12 @@ fn nearest(hundredths: u64) -> u64 {
 
 impl Trace {
     /// "limit and bound are that station's N and D", "also from the one beside a
-    /// refusal", which is the station of 1, 100.
-    fn from_opening(limit: u32, percent: u32, refused: bool) -> Trace {
-        let (limit, percent) = if refused { (1, 100) } else { (limit.into(), percent.into()) };
+    /// refusal", which is the station of 1, 100; there "r is 0" (N7).
+    fn from_opening(settings: [u32; 3], refused: bool) -> Trace {
+        let settings = if refused { [1, 100, 0] } else { settings };
+        let [limit, percent, tail] = settings.map(u64::from);
         let bound = nearest(limit * percent);
-        Trace { limit, bound, clock: 0, orders: Vec::new(), asked: false }
+        Trace { limit, bound, tail, clock: 0, orders: Vec::new(), asked: false }
     }
 
     fn step(&mut self, call: &Call, answer: &Answer) -> Checked {
@@ -129,8 +132,8 @@ impl Trace {
         }
         self.leave(matches!(call, Call::Open { .. }))?;
         match (call, answer.refused()) {
-            (Call::Open { limit, percent }, refused) => {
-                *self = Trace::from_opening(*limit, *percent, refused);
+            (Call::Open { limit, percent, tail }, refused) => {
+                *self = Trace::from_opening([*limit, *percent, *tail], refused);
                 Ok(())
             }
             (Call::Commit { order, .. }, false) => self.accepted(order, answer),
@@ -215,9 +218,10 @@ impl Trace {
     /// "An enquiry finds a begun order charging until it is finished, with its
     /// reported start, and that start + p as the end; for a finished one the
     /// answer is refusal 15." "Any other order has never been reported, and an
-    /// enquiry finds it waiting." "Enquiries show the rate" (N4).
+    /// enquiry finds it waiting." "Enquiries show the rate" (N4). It "is finished when
+    /// s + p + r is at or below the clock" (N7).
     fn enquiry(&mut self, ticket: u32, answer: &Answer) -> Checked {
-        let clock = self.clock;
+        let (clock, tail) = (self.clock, self.tail);
         let Some(order) = self.order(u64::from(ticket)) else {
             return ensure(answer.refused(), || format!("ticket {ticket} found, not given"));
         };
@@ -230,10 +234,10 @@ impl Trace {
                 Ok(())
             }
             (Some(start), "charging", [shown, end, rate]) => {
-                let right = *shown == start && *end == start + order.time && clock < *end;
+                let right = *shown == start && *end == start + order.time && clock < *end + tail;
                 ensure(right && *rate == order.rate.into(), found)
             }
-            (Some(start), "refused", [15]) => ensure(start + order.time <= clock, found),
+            (Some(start), "refused", [15]) => ensure(start + order.time + tail <= clock, found),
             _ => Err(found()),
         }
     }
@@ -253,10 +257,12 @@ impl Trace {
     }
 
     /// "No charge ends later than the last minute in which an order was accepted
-    /// plus the charging times of all accepted orders."
+    /// plus the charging times of all accepted orders." "The ceiling on ends gains r for
+    /// each accepted order" (N7).
     fn check_ends(&self) -> Checked {
         let Some(last) = self.orders.last() else { return Ok(()) };
-        let ceiling = last.order + self.orders.iter().map(|order| order.time).sum::<u64>();
+        let times = self.orders.iter().map(|order| order.time + self.tail);
+        let ceiling = last.order + times.sum::<u64>();
         for (place, order) in self.orders.iter().enumerate() {
             let end = order.start().unwrap_or(0) + order.time;
             ensure(end <= ceiling, || {
@@ -269,14 +275,15 @@ impl Trace {
     /// "in every minute, gone or to come under the plan held, no line has more
     /// than its limit charging and no two lines differ by more than the bound";
     /// "A line's count in a minute takes all accepted orders of the list, dropped
-    /// ones too"; they are "weighted counts" (N4). Counts change only where an order starts or ends, so these
-    /// minutes stand for all.
+    /// ones too"; they are "weighted counts" (N4), in which each is active in "minutes s to
+    /// s + p + r − 1" (N7). Counts change only where an order starts or its tail ends, so
+    /// these minutes stand for all.
     fn check_counts(&self) -> Checked {
         let mut changes = Vec::new();
         for order in &self.orders {
             let (start, line) = (order.start().unwrap_or(0), order.line as usize - 1);
             changes.push((start, line, i64::from(order.rate)));
-            changes.push((start + order.time, line, -i64::from(order.rate)));
+            changes.push((start + order.time + self.tail, line, -i64::from(order.rate)));
         }
         changes.sort_unstable();
         let mut counts = [0i64; 3];

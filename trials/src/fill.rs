@@ -35,7 +35,7 @@ pub fn fill<Y: Yard>(yard: Y, lines: &[Line]) -> Vec<Line> {
 /// Leaves the start open in every commit that the reference takes: the script can then
 /// lose lines, or be filled in by another yard, and its orders are still placed.
 pub fn unfill(lines: &[Line]) -> Vec<Line> {
-    let mut interpreter = Interpreter::new(Station::fresh(1, 100));
+    let mut interpreter = Interpreter::new(Station::fresh(1, 100, 0));
     let mut open = Vec::new();
     for line in lines {
         let mut answer = Vec::new();
@@ -68,15 +68,15 @@ mod tests {
     use crate::script::{join, show, split};
 
     const OPEN: &str =
-        "open 1 100\ncommit 1 5 9 1 ?\ncommit 1 5 9 1 ?\ncommit 1 5 9 1 3\nlatest ?\n\
+        "open 1 100 0\ncommit 1 5 9 1 ?\ncommit 1 5 9 1 ?\ncommit 1 5 9 1 3\nlatest ?\n\
                         commit 4 5 9 1 ?\ncommit 1 x 9 1 ?\ncommit 1 5 9 1 7?\n";
     const FILLED: &str =
-        "open 1 100\ncommit 1 5 9 1 0\ncommit 1 5 9 1 5\ncommit 1 5 9 1 3\nlatest ?\n\
+        "open 1 100 0\ncommit 1 5 9 1 0\ncommit 1 5 9 1 5\ncommit 1 5 9 1 3\nlatest ?\n\
                           commit 4 5 9 1 0\ncommit 1 x 9 1 ?\ncommit 1 5 9 1 7?\n";
 
     #[test]
     fn open_starts_are_those_that_would_be_shown() {
-        let filled = fill(Station::fresh(1, 100), &split(OPEN.as_bytes()));
+        let filled = fill(Station::fresh(1, 100, 0), &split(OPEN.as_bytes()));
         assert_eq!(show(&join(&filled)), FILLED);
     }
 

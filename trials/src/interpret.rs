@@ -49,8 +49,8 @@ impl<Y: Yard> Interpreter<Y> {
     fn try_call(&mut self, call: &Call, out: &mut Vec<u8>) -> Result<(), Refusal> {
         let yard = &mut self.yard;
         match call {
-            Call::Open { limit, percent } => {
-                protocol::write_opened(out, yard.open(*limit, *percent)?);
+            Call::Open { limit, percent, tail } => {
+                protocol::write_opened(out, yard.open(*limit, *percent, *tail)?);
             }
             Call::Preview { order } => protocol::write_previewed(out, yard.preview(*order)?),
             Call::Commit { order, shown } => {

@@ -161,7 +161,7 @@ fn cut_once() -> Trial {
         }
     }
     let (mut input, mut sizes) = (Vec::new(), Vec::new());
-    for (line, cut) in fill(Station::fresh(1, 100), &lines).into_iter().zip(cuts) {
+    for (line, cut) in fill(Station::fresh(1, 100, 0), &lines).into_iter().zip(cuts) {
         let length = line.len() + 1;
         let first = cut.min(length);
         input.extend(line);
@@ -296,7 +296,7 @@ fn short_lines() -> Trial {
 
 /// Answers of a thousand bytes and more, among short ones.
 fn long_reports() -> Trial {
-    let mut input = b"open 60 100\n".to_vec();
+    let mut input = b"open 60 100 0\n".to_vec();
     for turn in 1.. {
         if input.len() > 4 * BLOCK {
             break;

@@ -88,8 +88,8 @@ fn main() -> ExitCode {
 
 fn run(words: &Words) -> Outcome {
     match words.others.first().map(String::as_str) {
-        Some("answers") => serve(reference::Station::fresh(1, 100)),
-        Some("fast") => serve(fast::Station::fresh(1, 100)),
+        Some("answers") => serve(reference::Station::fresh(1, 100, 0)),
+        Some("fast") => serve(fast::Station::fresh(1, 100, 0)),
         Some("fill") => fill_script(),
         Some("generate") => print_scripts(&words.choice(1)?),
         Some("compare") => run_comparison(words),
@@ -109,7 +109,7 @@ fn serve(yard: impl trials::yard::Yard) -> Outcome {
 fn fill_script() -> Outcome {
     let mut bytes = Vec::new();
     io::stdin().lock().read_to_end(&mut bytes).map_err(|error| error.to_string())?;
-    print_lines(&fill::fill(reference::Station::fresh(1, 100), &script::split(&bytes)))
+    print_lines(&fill::fill(reference::Station::fresh(1, 100, 0), &script::split(&bytes)))
 }
 
 fn print_scripts(choice: &Choice) -> Outcome {

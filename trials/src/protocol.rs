@@ -2,7 +2,7 @@
 //!
 //! | line | answer |
 //! | --- | --- |
-//! | `open N c` | `open 0 D`, or `refused K` |
+//! | `open N c r` | `open 0 D`, or `refused K` |
 //! | `preview line p d rate` | `start S`, or `refused K` |
 //! | `commit line p d rate S` | `ticket T start S`, or `refused K` |
 //! | `move target places` | `moved R dropped X T S T S ..`, or `refused K` |
@@ -23,7 +23,7 @@ pub const MOST_PLACES: u32 = 4096;
 
 #[derive(Clone, Debug, PartialEq, Eq)]
 pub enum Call {
-    Open { limit: u32, percent: u32 },
+    Open { limit: u32, percent: u32, tail: u32 },
     Preview { order: Order },
     Commit { order: Order, shown: u32 },
     Move { target: u32, places: u32 },
@@ -67,7 +67,7 @@ pub fn read_call(text: &[u8]) -> Result<Option<Call>, Fault> {
     }
     let mut words = text.split(|byte| *byte == b' ');
     let call = match words.next().unwrap_or(b"") {
-        b"open" => numbers(words).map(|[limit, percent]| Call::Open { limit, percent }),
+        b"open" => numbers(words).map(|[limit, percent, tail]| Call::Open { limit, percent, tail }),
         b"preview" => numbers(words).map(|[line, time, due, rate]| {
             let order = Order { line, time, due, rate };
             Call::Preview { order }
@@ -125,7 +125,7 @@ fn number(word: &[u8]) -> Result<u32, Fault> {
 /// Writes the line of a call; `read_call` reads it back.
 pub fn write_call(call: &Call) -> String {
     match call {
-        Call::Open { limit, percent } => format!("open {limit} {percent}"),
+        Call::Open { limit, percent, tail } => format!("open {limit} {percent} {tail}"),
         Call::Preview { order } => format!("preview {}", write_order(order)),
         Call::Commit { order, shown } => format!("commit {} {shown}", write_order(order)),
         Call::Move { target, places } => format!("move {target} {places}"),

@@ -32,7 +32,7 @@ pub fn answers_of<Y: Yard>(yard: Y, lines: &[Line]) -> Vec<Line> {
 }
 
 pub fn reference_answers(lines: &[Line]) -> Vec<Line> {
-    answers_of(Station::fresh(1, 100), lines)
+    answers_of(Station::fresh(1, 100, 0), lines)
 }
 
 /// The lines that get an answer, so that answers can be paired with them.

@@ -48,8 +48,9 @@ pub enum Found {
 /// A place where a station stands; every call works on that station.
 pub trait Yard {
     /// Puts a fresh station in place and answers its bound. Beside a refusal
-    /// the fresh station of 1, 100 is put in place.
-    fn open(&mut self, limit: u32, percent: u32) -> Result<u32, Refusal>;
+    /// the fresh station of 1, 100 and r = 0 is put in place. "Opening takes r, 0 to 5": the
+    /// minutes for which a point counts as drawing after its end (N7).
+    fn open(&mut self, limit: u32, percent: u32, tail: u32) -> Result<u32, Refusal>;
     /// "answers the start it would give and changes nothing"; a faulty yard may.
     fn preview(&mut self, order: Order) -> Result<u64, Refusal>;
     /// "takes the same order with the start shown"

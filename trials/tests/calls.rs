@@ -13,21 +13,21 @@ const WORD: &str = "4294967295";
 #[test]
 fn openings_refused() {
     expect(
-        "open 0 100\nopen 61 101\nopen 1 101\nopen 60 101",
+        "open 0 100 0\nopen 61 101 0\nopen 1 101 0\nopen 60 101 0",
         &["refused 1", "refused 1", "refused 2", "refused 2"],
     );
     expect(
-        "open 1 50\nopen 1 51\nopen 50 1\nopen 51 1\nopen 59 0",
+        "open 1 50 0\nopen 1 51 0\nopen 50 1 0\nopen 51 1 0\nopen 59 0 0",
         &["refused 3", "open 0 1", "refused 3", "open 0 1", "refused 3"],
     );
-    expect(&format!("open {WORD} {WORD}\nopen 60 {WORD}"), &["refused 1", "refused 2"]);
+    expect(&format!("open {WORD} {WORD} {WORD}\nopen 60 {WORD} 0"), &["refused 1", "refused 2"]);
 }
 
 /// "Beside a refused opening stands the fresh station of 1, 100."
 #[test]
 fn a_refused_opening_leaves_the_small_station() {
     let text =
-        "open 60 100\ncommit 1 5 5 1 0\ncommit 1 5 5 1 0\nopen 60 101\ncommit 1 5 5 1 0\ncommit 1 5 9 1 5\nenquire 3";
+        "open 60 100 0\ncommit 1 5 5 1 0\ncommit 1 5 5 1 0\nopen 60 101 0\ncommit 1 5 5 1 0\ncommit 1 5 9 1 5\nenquire 3";
     let expected = [
         "open 0 60",
         "ticket 1 start 0",
@@ -69,7 +69,7 @@ fn orders_refused_by_the_first_place() {
 #[test]
 fn previews_change_nothing() {
     let text =
-        "open 1 100\npreview 1 5 9 1\npreview 1 5 9 1\nenquire 1\nlatest\noffer\nmove 9 360\n\
+        "open 1 100 0\npreview 1 5 9 1\npreview 1 5 9 1\nenquire 1\nlatest\noffer\nmove 9 360\n\
                 preview 1 5 9 1\ncommit 1 5 9 1 9";
     let mut expected = vec!["open 0 1", "start 0", "start 0", "refused 15", "plan 7 0 0 0"];
     expected.extend(["plan 7 0 0 0", "moved 0 dropped 0", "start 9", "ticket 1 start 9"]);
@@ -82,7 +82,7 @@ fn previews_change_nothing() {
 #[test]
 fn starts_that_are_not_the_earliest_any_more() {
     let text = format!(
-        "open 1 100\ncommit 1 10 60 1 0\ncommit 1 10 15 1 10\npreview 2 5 90 1\nmove 1 360\n\
+        "open 1 100 0\ncommit 1 10 60 1 0\ncommit 1 10 15 1 10\npreview 2 5 90 1\nmove 1 360\n\
          commit 2 5 90 1 0\ncommit 2 5 90 1 2\ncommit 2 5 90 1 1\npreview 2 5 90 1\n\
          commit 2 5 90 1 6\ncommit 2 5 90 1 6\ncommit 2 5 90 1 {WORD}\npreview 2 5 90 1\ncommit 2 5 90 1 11"
     );
@@ -92,7 +92,7 @@ fn starts_that_are_not_the_earliest_any_more() {
     expected.extend(["start 11", "ticket 5 start 11"]);
     expect(&text, &expected);
     let text =
-        "open 1 100\ncommit 1 5 60 1 0\ncommit 1 5 5 1 5\ncommit 2 3 60 1 0\npreview 2 3 60 1\n\
+        "open 1 100 0\ncommit 1 5 60 1 0\ncommit 1 5 5 1 5\ncommit 2 3 60 1 0\npreview 2 3 60 1\n\
                 offer 5 0 4\ncommit 2 3 60 1 3\ncommit 2 3 60 1 7\ncommit 2 3 60 1 0";
     let mut expected = vec!["open 0 1", "ticket 1 start 0", "ticket 2 start 5"];
     expected.extend(["ticket 3 start 0", "start 3", "plan 0 5 0 0"]);
@@ -125,7 +125,7 @@ fn moves_refused() {
 #[test]
 fn lists_allowances_and_tickets_refused() {
     let text = format!(
-        "open 1 100\ncommit 1 10 60 1 0\noffer\noffer 0 0\nlines 0\nlines 1001\nlines {WORD}\n\
+        "open 1 100 0\ncommit 1 10 60 1 0\noffer\noffer 0 0\nlines 0\nlines 1001\nlines {WORD}\n\
          enquire 0\nenquire 2\nenquire {WORD}\nenquire 1\nmove 10 360\nenquire 1"
     );
     let expected = [
@@ -148,7 +148,7 @@ fn lists_allowances_and_tickets_refused() {
 
 /// "the station and every list stay", and "Places after them keep what they held".
 fn report_list<Y: Yard>(mut yard: Y) {
-    yard.open(2, 50).unwrap();
+    yard.open(2, 50, 0).unwrap();
     yard.commit(Order { line: 1, time: 5, due: 9, rate: 1 }, 0).unwrap();
     yard.commit(Order { line: 2, time: 5, due: 9, rate: 1 }, 0).unwrap();
     let untouched: Vec<u32> = (0..400).map(|place| 7 * place + 1).collect();
@@ -174,7 +174,7 @@ fn report_lists_are_left_alone() {
 #[test]
 fn a_move_over_everything() {
     let text =
-        "open 1 100\ncommit 1 3 9 1 0\ncommit 1 3 9 1 3\ncommit 2 3 9 1 0\nmove 7 360\nmove 7 360";
+        "open 1 100 0\ncommit 1 3 9 1 0\ncommit 1 3 9 1 3\ncommit 2 3 9 1 0\nmove 7 360\nmove 7 360";
     let expected = [
         "open 0 1",
         "ticket 1 start 0",
@@ -191,7 +191,7 @@ fn a_move_over_everything() {
 #[test]
 fn causes_of_offers_in_their_order() {
     let text = format!(
-        "open 2 50\ncommit 1 5 5 1 0\ncommit 1 5 5 1 5\ncommit 1 5 5 1 10\nmove 1 360\n\
+        "open 2 50 0\ncommit 1 5 5 1 0\ncommit 1 5 5 1 5\ncommit 1 5 5 1 10\nmove 1 360\n\
          offer 0 {WORD}\noffer {WORD} 10\noffer 4294967290 10\noffer 11 10\n\
          offer 5 5\noffer 1 5\noffer 5 6\noffer 1 1\noffer 10 5\noffer 5 10"
     );
@@ -218,7 +218,7 @@ fn causes_of_offers_in_their_order() {
 /// A difference in an early minute and a count too high in a late one: cause 5.
 #[test]
 fn a_late_count_beats_an_early_difference() {
-    let text = "open 2 50\ncommit 1 5 5 1 0\ncommit 1 5 5 1 5\ncommit 1 5 5 1 10\ncommit 1 5 5 1 15\ncommit 1 5 5 1 20\n\
+    let text = "open 2 50 0\ncommit 1 5 5 1 0\ncommit 1 5 5 1 5\ncommit 1 5 5 1 10\ncommit 1 5 5 1 15\ncommit 1 5 5 1 20\n\
                 offer 0 0 10 10 10";
     let last = trials::script::reference_answers(&common::lines(text)).pop().unwrap();
     assert_eq!(trials::script::show(&last), "plan 5 50 50 0");
@@ -229,7 +229,7 @@ fn a_late_count_beats_an_early_difference() {
 fn counts_past_a_byte() {
     for count in [128, 180] {
         let queue = "commit 1 1 1 2 ?\n".repeat(count);
-        let text = format!("open 60 100\n{queue}offer{}", " 0".repeat(count));
+        let text = format!("open 60 100 0\n{queue}offer{}", " 0".repeat(count));
         let text = script::show(&script::join(&fill(reference(), &lines(&text))));
         for answers in [answers(reference(), &text), answers(fast(), &text)] {
             assert!(answers.last().is_some_and(|last| last.starts_with("plan 5 ")));
@@ -241,7 +241,7 @@ fn counts_past_a_byte() {
 /// starts too early, and nothing of line 1 was placed.
 #[test]
 fn by_lines_without_a_placed_charge() {
-    let text = "open 6 17\ncommit 1 9 9 1 0\ncommit 2 2 2 1 0\ncommit 2 7 7 1 2\ncommit 3 9 9 1 0\ncommit 1 9 9 1 0\n\
+    let text = "open 6 17 0\ncommit 1 9 9 1 0\ncommit 2 2 2 1 0\ncommit 2 7 7 1 2\ncommit 3 9 9 1 0\ncommit 1 9 9 1 0\n\
                 move 1 360\nlines 1\nlines 1000";
     let expected = [
         "open 0 1",

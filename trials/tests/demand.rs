@@ -6,7 +6,7 @@ use common::lines;
 use trials::demand;
 use trials::script::{self, Line};
 
-const SCRIPT: &str = "open 2 50
+const SCRIPT: &str = "open 2 50 0
 commit 1 10 60 1 0
 commit 1 10 15 1 10
 commit 2 5 60 1 0
@@ -116,7 +116,8 @@ fn counts_and_ends() {
 /// that is long gone.
 #[test]
 fn minutes_gone() {
-    let text = "open 1 100\ncommit 1 5 5 1 0\ncommit 1 5 10 1 5\nmove 20 360\nenquire 1\nenquire 2";
+    let text =
+        "open 1 100 0\ncommit 1 5 5 1 0\ncommit 1 5 10 1 5\nmove 20 360\nenquire 1\nenquire 2";
     let mut answers = script::reference_answers(&lines(text));
     assert_eq!(demand::check(&lines(text), &answers), Ok(()));
     answers[3] = b"moved 2 dropped 2 1 0 2 4".to_vec();
@@ -138,8 +139,8 @@ fn unknown_starts() {
 #[test]
 fn stations_one_after_the_other() {
     let text =
-        "commit 1 5 5 1 0\nenquire 1\nopen 61 1\ncommit 2 5 5 1 0\ncommit 2 5 9 1 5\nmove 5 360\n\
-                enquire 1\nenquire 2\nopen 60 100\ncommit 3 1 1 1 0\nenquire 1";
+        "commit 1 5 5 1 0\nenquire 1\nopen 61 1 0\ncommit 2 5 5 1 0\ncommit 2 5 9 1 5\nmove 5 360\n\
+                enquire 1\nenquire 2\nopen 60 100 0\ncommit 3 1 1 1 0\nenquire 1";
     let answers = script::reference_answers(&lines(text));
     assert_eq!(demand::check(&lines(text), &answers), Ok(()));
 }
@@ -148,7 +149,7 @@ fn stations_one_after_the_other() {
 #[test]
 fn rates() {
     let text =
-        "open 4 50\ncommit 1 10 60 2 0\ncommit 1 10 60 1 10\nmove 1 360\nenquire 1\nenquire 2";
+        "open 4 50 0\ncommit 1 10 60 2 0\ncommit 1 10 60 1 10\nmove 1 360\nenquire 1\nenquire 2";
     let answers = script::reference_answers(&lines(text));
     assert_eq!(demand::check(&lines(text), &answers), Ok(()));
     let falsified = |place: usize, wrong: &str| {
@@ -162,12 +163,44 @@ fn rates() {
     assert!(falsified(5, "waiting 10").contains("ticket 2"));
 }
 
+/// N7: in its tail an order is found charging and counts; the ceiling has r for each order.
+#[test]
+fn tails() {
+    let text = "open 1 100 2\ncommit 1 10 60 1 0\ncommit 1 10 60 1 12\nmove 11 360\nenquire 1\n\
+                enquire 2\nmove 12 360\nenquire 1\nenquire 2";
+    let answers = script::reference_answers(&lines(text));
+    assert_eq!(demand::check(&lines(text), &answers), Ok(()));
+    let falsified = |place: usize, wrong: &str| {
+        let mut answers = answers.clone();
+        answers[place] = wrong.as_bytes().to_vec();
+        demand::check(&lines(text), &answers).map_err(|broken| broken.what)
+    };
+    let fails = |place, wrong| falsified(place, wrong).expect_err(wrong);
+    assert!(fails(4, "refused 15").contains("ticket 1"));
+    assert!(fails(4, "charging 0 12 1").contains("ticket 1"));
+    assert!(fails(7, "charging 0 10 1").contains("ticket 1"));
+    assert_eq!(fails(5, "waiting 11 1"), "minute 11 has counts [2, 0, 0]");
+    // Two orders accepted in minute 0, of 10 minutes and a tail of 2 each: 24.
+    assert_eq!(falsified(8, "waiting 14 1"), Ok(()));
+    assert_eq!(fails(8, "waiting 15 1"), "ticket 2 ends in 25, after 24");
+}
+
+/// N7: beside a refused opening r is 0, so the order is gone at its end.
+#[test]
+fn no_tail_beside_a_refused_opening() {
+    let text = "open 2 50 6\ncommit 1 5 5 1 0\nmove 5 360\nenquire 1";
+    let mut answers = script::reference_answers(&lines(text));
+    assert_eq!(demand::check(&lines(text), &answers), Ok(()));
+    answers[3] = b"charging 0 5 1".to_vec();
+    assert!(demand::check(&lines(text), &answers).is_err());
+}
+
 /// N3: beside empty lines so many of one line hold as the bound says, and one more
 /// does not.
 #[test]
 fn bounds_rounded_to_nearest() {
     for (limit, percent, bound) in [(30, 5, 2), (30, 15, 4), (17, 3, 1), (9, 11, 1), (2, 75, 2)] {
-        let mut text = format!("open {limit} {percent}\n");
+        let mut text = format!("open {limit} {percent} 0\n");
         text += &"commit 1 1 1 1 0\n".repeat(bound);
         text += "commit 1 1 1 1 1\n";
         text.extend((1..=bound + 1).map(|ticket| format!("enquire {ticket}\n")));

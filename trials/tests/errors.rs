@@ -11,7 +11,7 @@ use common::faulty::Error;
 #[test]
 fn balance_only_at_the_start() {
     let text =
-        "open 2 50\ncommit 2 5 60 1 0\ncommit 1 10 60 1 0\ncommit 3 10 60 1 0\npreview 1 10 60 1";
+        "open 2 50 0\ncommit 2 5 60 1 0\ncommit 1 10 60 1 0\ncommit 3 10 60 1 0\npreview 1 10 60 1";
     caught(Error::BalanceOnlyAtTheStart, text, "start 10", "start 0");
 }
 
@@ -20,10 +20,10 @@ fn balance_only_at_the_start() {
 #[test]
 fn begun_charges_alone() {
     let text =
-        "open 2 50\ncommit 1 10 60 1 0\ncommit 3 10 60 1 0\ncommit 2 5 60 1 0\ncommit 2 5 60 1 0\n\
+        "open 2 50 0\ncommit 1 10 60 1 0\ncommit 3 10 60 1 0\ncommit 2 5 60 1 0\ncommit 2 5 60 1 0\n\
                 commit 2 5 20 1 5\ncommit 1 10 60 1 0\nmove 1 360\ncommit 3 3 10 1 1\nlatest";
     caught(Error::BegunTakenAsSound, text, "plan 1 0 0 0", "plan 7 0 0 0");
-    let text = "open 1 100\ncommit 1 10 60 1 0\npreview 1 10 15 1";
+    let text = "open 1 100 0\ncommit 1 10 60 1 0\npreview 1 10 15 1";
     caught(Error::WaitingIgnored, text, "start 10", "start 0");
 }
 
@@ -31,14 +31,14 @@ fn begun_charges_alone() {
 /// minute late."
 #[test]
 fn counted_in_the_minute_of_the_end() {
-    let text = "open 1 100\ncommit 1 10 60 1 0\npreview 1 10 15 1";
+    let text = "open 1 100 0\ncommit 1 10 60 1 0\npreview 1 10 15 1";
     caught(Error::CountedInTheMinuteOfTheEnd, text, "start 10", "start 11");
 }
 
 /// "Treating a start equal to the clock as begun."
 #[test]
 fn start_at_the_clock() {
-    let h = "open 1 100\ncommit 1 10 60 1 0\ncommit 1 10 15 1 10\n";
+    let h = "open 1 100 0\ncommit 1 10 60 1 0\ncommit 1 10 15 1 10\n";
     let error = Error::StartAtTheClockIsBegun;
     caught(error, &format!("{h}latest"), "plan 0 5 0 0", "plan 7 5 5 0");
     caught(error, &format!("{h}enquire 1"), "waiting 0 1", "charging 0 10 1");
@@ -50,6 +50,6 @@ fn start_at_the_clock() {
 /// none of line 3 are balanced pair by neighbouring pair.
 #[test]
 fn neighbouring_lines_only() {
-    let text = "open 2 50\ncommit 2 10 60 1 0\ncommit 1 10 60 1 0\npreview 1 10 60 1";
+    let text = "open 2 50 0\ncommit 2 10 60 1 0\ncommit 1 10 60 1 0\npreview 1 10 60 1";
     caught(Error::NeighbouringLinesOnly, text, "start 10", "start 0");
 }

@@ -11,7 +11,7 @@ use trials::script::Line;
 use trials::{demand, generate, script};
 
 /// With the kind of scripts that finds them, and how many lines are left at most.
-const FAULTY: [(&str, usize, &[Error]); 9] = [
+const FAULTY: [(&str, usize, &[Error]); 10] = [
     (
         "leaning",
         13,
@@ -70,7 +70,7 @@ const FAULTY: [(&str, usize, &[Error]); 9] = [
     ),
     (
         "rates",
-        9,
+        13,
         &[
             Error::RateNotInTheBalance,
             Error::SecondHalfOnTheNextLine,
@@ -104,8 +104,21 @@ const FAULTY: [(&str, usize, &[Error]); 9] = [
     ),
     (
         "searches",
-        15,
+        20,
         &[Error::StartAndLastMinuteOnly, Error::CandidateSkipped, Error::WindowNotWidened],
+    ),
+    (
+        "tails",
+        12,
+        &[
+            Error::TailNotInTheBalance,
+            Error::TailNotInTheCaps,
+            Error::DroppedAtTheEnd,
+            Error::LatenessWithTheTail,
+            Error::EndShownWithTheTail,
+            Error::TailOfARefusedOpening,
+            Error::TailBeforeTheBound,
+        ],
     ),
 ];
 
@@ -133,7 +146,7 @@ fn the_comparison_finds_every_faulty_yard() {
 /// is put into them.
 #[test]
 fn own_rounds_without_an_error() {
-    for kind in ["leaning", "rates", "priority", "weights"] {
+    for kind in ["leaning", "rates", "priority", "weights", "tails"] {
         let yard = Inside(|| Faulty::new(Error::OwnRounds));
         let found = compare(&yard, &choice(kind, 40)).map_err(|failure| failure.what);
         assert_eq!(found.map(|summary| summary.scripts), Ok(41), "{kind}");
@@ -161,6 +174,9 @@ fn demand_3_finds_what_it_should() {
         Error::NumbersShrink,
         Error::LatestStartBeforeWeight,
         Error::ChargeChosenFirst,
+        Error::TailNotInTheCaps,
+        Error::LatenessWithTheTail,
+        Error::TailBeforeTheBound,
     ];
     let unsound = [
         Error::BalanceOnlyAtTheStart,
@@ -177,7 +193,12 @@ fn demand_3_finds_what_it_should() {
         Error::RateLostByAPlan,
         Error::RateNotShown,
         Error::StartAndLastMinuteOnly,
+        Error::CandidateSkipped,
         Error::WindowNotWidened,
+        Error::TailNotInTheBalance,
+        Error::DroppedAtTheEnd,
+        Error::EndShownWithTheTail,
+        Error::TailOfARefusedOpening,
     ];
     let breaks = |lines: &[Line], error: Error| {
         demand::check(lines, &script::answers_of(Faulty::new(error), lines)).is_err()
@@ -190,8 +211,9 @@ fn demand_3_finds_what_it_should() {
             breaks(&lines, error) || breaks(&own, error)
         })
     };
-    let found =
-        |error: Error| ["leaning", "commits", "rates"].iter().any(|kind| fails(kind, error));
+    let found = |error: Error| {
+        ["leaning", "commits", "rates", "tails"].iter().any(|kind| fails(kind, error))
+    };
     for error in sound {
         assert!(!found(error), "{error:?}");
     }

@@ -37,7 +37,7 @@ fn every_script_begins_with_an_opening() {
 }
 
 const REFUSALS: [(&str, &[u32]); 7] = [
-    ("open", &[1, 2, 3]),
+    ("open", &[1, 2, 3, 19]),
     ("preview", &[4, 5, 17, 18, 6, 13, 14]),
     ("commit", &[4, 5, 17, 18, 6, 13, 14, 16]),
     ("move", &[8, 9, 12]),
@@ -230,6 +230,41 @@ fn sorts_of_weights(station: &Station, line: u32, seen: &mut BTreeSet<&'static s
     seen.extend((rates.len() == 2).then_some("both rates"));
 }
 
+/// N7: every r, moves that end inside tails, and full yards whose places are held by them.
+#[test]
+fn tails_of_all_sorts_occur() {
+    let mut seen = BTreeSet::new();
+    for number in 0..200 {
+        let mut yard = Interpreter::new(reference());
+        for line in generate::script_of_kind("tails", 1, number).unwrap().lines {
+            let mut answer = Vec::new();
+            yard.answer(&line, &mut answer);
+            let Station { clock, tail, charges, .. } = yard.yard();
+            let in_tail = charges.iter().filter(|charge| charge.end() <= *clock).count();
+            match read_call(&line) {
+                Ok(Some(Call::Open { .. })) => seen.insert(format!("opened with {tail}")),
+                Ok(Some(Call::Move { .. })) if in_tail > 0 => {
+                    seen.insert(format!("a move into a tail of {tail}"))
+                }
+                Ok(Some(Call::Commit { .. })) if in_tail == 180 => {
+                    seen.insert("a yard full of tails".to_string())
+                }
+                Ok(Some(Call::Enquire { .. })) if answer.starts_with(b"charging") => {
+                    let words: Vec<u64> = script::show(&answer)
+                        .split(' ')
+                        .filter_map(|word| word.parse().ok())
+                        .collect();
+                    let below = if words[1] < *clock { "below" } else { "from" };
+                    let at = if words[1] == *clock { "at" } else { below };
+                    seen.insert(format!("an end {at} the clock"))
+                }
+                _ => false,
+            };
+        }
+    }
+    assert_eq!(seen.len(), 6 + 5 + 1 + 3, "{seen:?}");
+}
+
 #[test]
 fn the_fast_program_agrees() {
     let scripts = Choice { without: Some(LOOPS), ..choice(400, 11) };
@@ -240,7 +275,7 @@ fn the_fast_program_agrees() {
 #[test]
 fn shrinking_leaves_what_fails() {
     let script =
-        lines("open 5 20\ncommit 1 10 60 1 0\ncommit 2 11 60 1 0\nmove 900 360\nlatest\nlatest");
+        lines("open 5 20 0\ncommit 1 10 60 1 0\ncommit 2 11 60 1 0\nmove 900 360\nlatest\nlatest");
     let fails = |lines: &[Vec<u8>]| {
         let move_far =
             |line: &Vec<u8>| line.starts_with(b"move") && line.len() >= b"move 90 360".len();

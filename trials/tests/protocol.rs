@@ -27,12 +27,14 @@ fn unknown_calls() {
 fn words_that_are_no_numbers() {
     for text in [
         "open x 1",
-        "open  1 1",
+        "open  1 1 0",
         "open 1 ",
-        "open 1 20\r",
-        "open +1 20",
-        "open -1 20",
-        "open 1_0 20",
+        "open 1 20 ",
+        "open 1 20 0\r",
+        "open +1 20 0",
+        "open -1 20 0",
+        "open 1_0 20 0",
+        "open 1 20 -1",
         "offer ",
         "offer 1 ",
         "offer 1  2",
@@ -68,6 +70,8 @@ fn the_first_fault_counts() {
     assert_eq!(fault(b"commit"), Fault::MissingNumber);
     assert_eq!(fault(b"commit 1 2 3 1 4 x"), Fault::ExtraNumber);
     assert_eq!(fault(b"commit 1 2 3 1 4 "), Fault::ExtraNumber);
+    assert_eq!(fault(b"open 2 50"), Fault::MissingNumber);
+    assert_eq!(fault(b"open 2 50 0 0"), Fault::ExtraNumber);
     assert_eq!(fault(b"preview 1 2 3"), Fault::MissingNumber);
     assert_eq!(fault(b"preview 1 2 3 1 4"), Fault::ExtraNumber);
     assert_eq!(fault(b"latest "), Fault::ExtraNumber);
@@ -113,7 +117,7 @@ fn lines_of_4096_bytes() {
 #[test]
 fn written_calls_are_read_back() {
     for call in [
-        Call::Open { limit: 0, percent: u32::MAX },
+        Call::Open { limit: 0, percent: u32::MAX, tail: 5 },
         Call::Preview { order: Order { line: 1, time: 10, due: 100, rate: 2 } },
         Call::Commit { order: Order { line: 1, time: 10, due: 100, rate: 0 }, shown: u32::MAX },
         Call::Move { target: 7, places: 360 },
@@ -131,9 +135,10 @@ fn written_calls_are_read_back() {
 /// nothing.
 #[test]
 fn errors_change_nothing() {
-    let text = "commit 1 5 5 1 0\n\n# comment\ncommit 1 5 5 0\nopen 2 50 0\ncommit 1 5 10 1 5";
-    let expected =
-        ["ticket 1 start 0", "error missing number", "error extra number", "ticket 2 start 5"];
+    let text = "commit 1 5 5 1 0\n\n# comment\ncommit 1 5 5 0\nopen 2 50 0 0\nopen 2 50\n\
+                commit 1 5 10 1 5";
+    let mut expected = vec!["ticket 1 start 0", "error missing number", "error extra number"];
+    expected.extend(["error missing number", "ticket 2 start 5"]);
     expect(text, &expected);
 }
 

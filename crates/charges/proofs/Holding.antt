@@ -10,7 +10,7 @@ use Rattle.rules.specs.Charge.{Charge}
 use Rattle.rules.proofs.Ranges.{below-or-not}
 use Rattle.rules.proofs.Lists.{length-tabulate, getD-tabulate}
 use Rattle.charges.specs.declared.Charges.{Charges}
-use Rattle.charges.specs.Arrays.{Column, tickets, lines, orderMinutes, times, dues, starts, rates, columnOf, valueOf, charge, chargeAt, chargesOf, Columns}
+use Rattle.charges.specs.Arrays.{Column, tickets, lines, orderMinutes, times, activeTimes, dues, starts, rates, columnOf, valueOf, charge, chargeAt, chargesOf, Columns}
 use Rattle.charges.proofs.Storing.{value-at}
 
 pub charges-same : (c d : Charges) → Columns c → Columns d → chargesOf c ≡ chargesOf d → c ≡ d
@@ -20,7 +20,7 @@ charges-same c d v w e = whole
     as-many = sym (length-tabulate (chargeAt c) (c .held) 0) ∙ ap length e ∙ length-tabulate (chargeAt d) (d .held) 0
 
     empty : Charge
-    empty = charge 0 0 0 0 0 0 0
+    empty = charge 0 0 0 0 0 0 0 0
 
     from : (i : ℕ) → 0 + i ≡ i
     from i = omega arith
@@ -41,11 +41,21 @@ charges-same c d v w e = whole
         go i (inl l) = sym (value-at c i k) ∙ ap (λ x. valueOf x k) (at-place i l) ∙ value-at d i k
         go i (inr l) = v .filled k .clear i l ∙ sym (w .filled k .clear i (omega (arith, as-many)))
 
-    made : ℕ → List ℕ → List ℕ → List ℕ → List ℕ → List ℕ → List ℕ → List ℕ → Charges
-    made n a b o p q s r =
-        record { held = n; tickets = a; lines = b; «order_minutes» = o; times = p; dues = q; starts = s; rates = r }
+    made : ℕ → List ℕ → List ℕ → List ℕ → List ℕ → List ℕ → List ℕ → List ℕ → List ℕ → Charges
+    made n a b o p u q s r =
+        record {
+          held = n;
+          tickets = a;
+          lines = b;
+          «order_minutes» = o;
+          times = p;
+          «active_times» = u;
+          dues = q;
+          starts = s;
+          rates = r;
+        }
 
     whole :
-        made (c .held) (c .tickets) (c .lines) (c .«order_minutes») (c .times) (c .dues) (c .starts) (c .rates)
-        ≡ made (d .held) (d .tickets) (d .lines) (d .«order_minutes») (d .times) (d .dues) (d .starts) (d .rates)
-    whole = cc (as-many, column tickets, column lines, column orderMinutes, column times, column dues, column starts, column rates)
+        made (c .held) (c .tickets) (c .lines) (c .«order_minutes») (c .times) (c .«active_times») (c .dues) (c .starts) (c .rates)
+        ≡ made (d .held) (d .tickets) (d .lines) (d .«order_minutes») (d .times) (d .«active_times») (d .dues) (d .starts) (d .rates)
+    whole = cc (as-many, column tickets, column lines, column orderMinutes, column times, column activeTimes, column dues, column starts, column rates)

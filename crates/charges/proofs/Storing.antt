@@ -1,4 +1,4 @@
--- No charge, and one charge more: what the seven arrays hold then.
+-- No charge, and one charge more: what the eight arrays hold then.
 use mathlib.Core.Path.{_≡_, refl, ap, sym, _∙_}
 use Prim.Native.Nat.{ℕ, zero, suc, _+_, _<_}
 use mathlib.Core.List.{List, [], _∷_, _++_}
@@ -8,7 +8,7 @@ use lib.Seq.{getD-set-same, getD-set-other}
 use Rattle.rules.specs.Charge.{Charge}
 use Rattle.rules.proofs.Lists.{length-tabulate, tabulate-same, tabulate-next}
 use Rattle.charges.specs.declared.Charges.{Charges}
-use Rattle.charges.specs.Arrays.{Column, tickets, lines, orderMinutes, times, dues, starts, rates, columnOf, valueOf, charge, chargeAt, chargesOf, Filled, Columns, Holds}
+use Rattle.charges.specs.Arrays.{Column, tickets, lines, orderMinutes, times, activeTimes, dues, starts, rates, columnOf, valueOf, charge, chargeAt, chargesOf, Filled, Columns, Holds}
 
 -- Charges by their values
 
@@ -16,15 +16,16 @@ pub charge-same : (x y : Charge) → ((k : Column) → valueOf x k ≡ valueOf y
 charge-same x y h = whole
   where
     whole :
-        charge (x .ticket) (x .line) (x .orderMinute) (x .time) (x .due) (x .start) (x .rate)
-        ≡ charge (y .ticket) (y .line) (y .orderMinute) (y .time) (y .due) (y .start) (y .rate)
-    whole = cc (h tickets, h lines, h orderMinutes, h times, h dues, h starts, h rates)
+        charge (x .ticket) (x .line) (x .orderMinute) (x .time) (x .activeTime) (x .due) (x .start) (x .rate)
+        ≡ charge (y .ticket) (y .line) (y .orderMinute) (y .time) (y .activeTime) (y .due) (y .start) (y .rate)
+    whole = cc (h tickets, h lines, h orderMinutes, h times, h activeTimes, h dues, h starts, h rates)
 
 pub value-at : (c : Charges) (i : ℕ) (k : Column) → valueOf (chargeAt c i) k ≡ getD (columnOf c k) i 0
 value-at c i tickets = refl
 value-at c i lines = refl
 value-at c i orderMinutes = refl
 value-at c i times = refl
+value-at c i activeTimes = refl
 value-at c i dues = refl
 value-at c i starts = refl
 value-at c i rates = refl
@@ -47,6 +48,7 @@ empty =
       lines = replicate 180 0;
       «order_minutes» = replicate 180 0;
       times = replicate 180 0;
+      «active_times» = replicate 180 0;
       dues = replicate 180 0;
       starts = replicate 180 0;
       rates = replicate 180 0;
@@ -57,6 +59,7 @@ column-empty tickets = refl
 column-empty lines = refl
 column-empty orderMinutes = refl
 column-empty times = refl
+column-empty activeTimes = refl
 column-empty dues = refl
 column-empty starts = refl
 column-empty rates = refl
@@ -78,6 +81,7 @@ put c x =
       lines = set (c .lines) (c .held) (x .line);
       «order_minutes» = set (c .«order_minutes») (c .held) (x .orderMinute);
       times = set (c .times) (c .held) (x .time);
+      «active_times» = set (c .«active_times») (c .held) (x .activeTime);
       dues = set (c .dues) (c .held) (x .due);
       starts = set (c .starts) (c .held) (x .start);
       rates = set (c .rates) (c .held) (x .rate);
@@ -88,6 +92,7 @@ column-put c x tickets = refl
 column-put c x lines = refl
 column-put c x orderMinutes = refl
 column-put c x times = refl
+column-put c x activeTimes = refl
 column-put c x dues = refl
 column-put c x starts = refl
 column-put c x rates = refl

@@ -8,7 +8,7 @@ use native.Mathlib.Numerals.{add-one}
 use lib.ListN.{length, length-append}
 use borrow.Author.Tests.{lt-ltb, le-ltb, le-leb, lt-leb}
 use Rattle.rules.specs.Basics.{tabulate, at, nothing, first, keep}
-use Rattle.rules.specs.Charge.{Charge, endOf, isFinished, isWaiting, lastEnd, lateOf, lateness}
+use Rattle.rules.specs.Charge.{Charge, endOf, activeUntil, isFinished, isWaiting, lastEnd, lateOf, lateness}
 use Rattle.rules.proofs.Lists.{length-tabulate, tabulate-next, keep-append, length-keep}
 use Rattle.charges.specs.declared.Charges.{Charges}
 use Rattle.charges.specs.Arrays.{chargesOf, Holds}
@@ -80,11 +80,11 @@ abbrev pub isUnfinished : ℕ → Charge → Bool
 isUnfinished clock x = not (isFinished clock x)
 
 module _ (clock : ℕ) (x : Charge) where
-  pub is-unfinished : clock < endOf x → isUnfinished clock x ≡ true
-  is-unfinished h = rw (lt-leb (endOf x) clock h)
+  pub is-unfinished : clock < activeUntil x → isUnfinished clock x ≡ true
+  is-unfinished h = rw (lt-leb (activeUntil x) clock h)
 
-  pub is-finished : endOf x ≤ clock → isUnfinished clock x ≡ false
-  is-finished h = rw (le-leb (endOf x) clock h)
+  pub is-finished : activeUntil x ≤ clock → isUnfinished clock x ≡ false
+  is-finished h = rw (le-leb (activeUntil x) clock h)
 
   pub is-waiting : clock ≤ x .start → isWaiting clock x ≡ true
   is-waiting h = rw (le-ltb (x .start) clock h)

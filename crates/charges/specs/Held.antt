@@ -14,6 +14,8 @@ pub record Small (x : Charge) : Type 0 where
   pub on-line : IsLine (x .line)
   pub time-low : 1 ≤ x .time
   pub time-most : x .time ≤ 1440
+  pub active-least : x .time ≤ x .activeTime
+  pub active-most : x .activeTime ≤ 1445
   pub due-most : x .due ≤ 2000000
   pub start-most : x .start < 100000000
   pub is-rate : IsRate (x .rate)

@@ -47,6 +47,7 @@ pub fn serve(block: &mut [u8], numbers: &mut [u32], list: &mut [u32], out: &mut 
     let opening = Station::open(Settings {
         limit: 1,
         percent: 100,
+        tail: 0,
     });
     let station = opening.station;
     let mut session = Session {

@@ -59,7 +59,7 @@ module _ (xs : List Load) (e : Each One xs) where
 
   pub fits-is : (cap : Caps) (s : ℕ) (c : Charge) → c .rate ≡ 1 → fitsAt cap xs s c ≡ fitsBefore cap xs s c
   fits-is cap s c h =
-      ap (λ (f : ℕ → ℕ → ℕ). throughout (λ t. leb (f (c .line) t) (cap (c .line) t)) (c .time) s)
+      ap (λ (f : ℕ → ℕ → ℕ). throughout (λ t. leb (f (c .line) t) (cap (c .line) t)) (c .activeTime) s)
       (count-is (added xs (drawOf c) s) (one-more xs (drawOf c) s e h))
 
   pub unbalanced-is : (y : Limits) (clock : ℕ) → firstUnbalanced y clock xs ≡ unbalancedBefore y clock xs

@@ -33,7 +33,7 @@ earliestBefore y clock xs a = first (λ s. soundBefore y clock (added xs a s)) (
 
 abbrev pub fitsBefore : Caps → Fitting
 fitsBefore cap xs s c =
-    throughout (λ t. leb (numberActive (added xs (drawOf c) s) (c .line) t) (cap (c .line) t)) (c .time) s
+    throughout (λ t. leb (numberActive (added xs (drawOf c) s) (c .line) t) (cap (c .line) t)) (c .activeTime) s
 
 abbrev pub unbalancedBefore : Limits → ℕ → List Load → Found
 unbalancedBefore y clock xs = first (λ t. not (balanced (y .bound) (numbers xs t))) (lastUntil xs - clock) clock

@@ -38,7 +38,7 @@ each-of P h (a ∷ l) = (h a, each-of P h l)
 -- the rules break no field, on any list of calls: that is demand 3 of them
 rules-exactly : (s : State) (calls : List Call) → isOpened s ≡ true → Exactly Trial Field HoldsOf (only step s calls [])
 rules-exactly s calls e =
-    let x = settings (s .limit) (s .percent) in
+    let x = settings (s .limit) (s .percent) (s .tail) in
     let d : DemandThree step s calls =
     subst (λ t. DemandThree step t calls) (same-state (opening x .state) s .0 e) (demand-three x calls) in
     let holds = three-fields step s calls .0 d in

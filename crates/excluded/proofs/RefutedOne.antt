@@ -13,7 +13,7 @@ use Rattle.rules.proofs.Granted.{refusals-none}
 use Rattle.guarantee.specs.Past.{Gives}
 use Rattle.guarantee.specs.DemandOne.{DemandOne, DemandOneOpening}
 use Rattle.excluded.specs.WrongOrders.{shownAsWaiting, anySoundStart, shownIgnored}
-use Rattle.excluded.specs.WrongRefusals.{lineAccepted, lastRow, lowestNumber, rateAboveBound, shownFirst, otherNumber, alwaysFull, hurryRefused, standstillRefused, ticketUsedUp, listCleared, ticketNotSaid, openedAsAsked, openingWrites, limitSaid, percentLost, zeroBound, smallProductRefused, roundedDown}
+use Rattle.excluded.specs.WrongRefusals.{lineAccepted, lastRow, lowestNumber, rateAboveBound, shownFirst, otherNumber, alwaysFull, hurryRefused, standstillRefused, ticketUsedUp, listCleared, ticketNotSaid, openedAsAsked, openingWrites, limitSaid, percentLost, zeroBound, smallProductRefused, roundedDown, longTailOpened, tailLookedAtFirst, refusedTailKept, tailLost}
 use Rattle.excluded.specs.Stations.{station, stationTwo}
 use Rattle.guarantee.proofs.Tables.{firstOf-is, is-firstOf}
 
@@ -133,49 +133,75 @@ ticket-not-said d = go (d .answered (refusals-none station (commit 1 10 60 1 0) 
 -- Openings
 
 -- `number`: half of 1 is rounded to 0
-zero-bound : DemandOneOpening zeroBound (settings 1 50) → ⊥
+zero-bound : DemandOneOpening zeroBound (settings 1 50 0) → ⊥
 zero-bound d =
     let h : opened 0 ≡ refused 3 = d .refused-by .number 3 .1 (inr (refl, inr (refl, inl (refl, refl)))) in
     let z : _≡_ {A = ℕ} 0 1 = cc in
     omega arith
 
 -- `answered`, and with it `number`: 0.99 is rounded to 1
-small-product-refused : DemandOneOpening smallProductRefused (settings 9 11) → ⊥
+small-product-refused : DemandOneOpening smallProductRefused (settings 9 11 0) → ⊥
 small-product-refused d =
-    let h : refused 3 ≡ opened 1 = d .answered (refl, (refl, (refl, tt))) .0 in
+    let h : refused 3 ≡ opened 1 = d .answered (refl, (refl, (refl, (refl, tt)))) .0 in
     let z : _≡_ {A = ℕ} 0 1 = cc in
     omega arith
 
 -- `same-station`
-opened-as-asked : DemandOneOpening openedAsAsked (settings 61 100) → ⊥
+opened-as-asked : DemandOneOpening openedAsAsked (settings 61 100 0) → ⊥
 unfolding opening
 opened-as-asked d =
     let h : _≡_ {A = ℕ} 61 1 = ap (λ (s : State). s .limit) (d .refused-by .same-station refl) in
     omega arith
 
 -- `same-list`
-opening-writes : DemandOneOpening openingWrites (settings 61 100) → ⊥
+opening-writes : DemandOneOpening openingWrites (settings 61 100 0) → ⊥
 unfolding opening
 opening-writes d =
     let h : _≡_ {A = ℕ} 1 0 = ap (length {A = ℕ}) (d .refused-by .same-list refl) in
     omega arith
 
 -- `answered`, the answer
-limit-said : DemandOneOpening limitSaid (settings 10 10) → ⊥
+limit-said : DemandOneOpening limitSaid (settings 10 10 0) → ⊥
 limit-said d =
-    let h : opened 10 ≡ opened 1 = d .answered (refl, (refl, (refl, tt))) .0 in
+    let h : opened 10 ≡ opened 1 = d .answered (refl, (refl, (refl, (refl, tt)))) .0 in
     let z : _≡_ {A = ℕ} 10 1 = cc in
     omega arith
 
 -- `answered`, the station
-percent-lost : DemandOneOpening percentLost (settings 10 10) → ⊥
+percent-lost : DemandOneOpening percentLost (settings 10 10 0) → ⊥
 percent-lost d =
-    let h : _≡_ {A = ℕ} 100 10 = ap (λ (s : State). s .percent) (d .answered (refl, (refl, (refl, tt))) .1) in
+    let h : _≡_ {A = ℕ} 100 10 = ap (λ (s : State). s .percent) (d .answered (refl, (refl, (refl, (refl, tt)))) .1) in
     omega arith
 
 -- `answered`: 1.5 is rounded to 2
-rounded-down : DemandOneOpening roundedDown (settings 30 5) → ⊥
+rounded-down : DemandOneOpening roundedDown (settings 30 5 0) → ⊥
 rounded-down d =
-    let h : opened 1 ≡ opened 2 = d .answered (refl, (refl, (refl, tt))) .0 in
+    let h : opened 1 ≡ opened 2 = d .answered (refl, (refl, (refl, (refl, tt)))) .0 in
     let z : _≡_ {A = ℕ} 1 2 = cc in
+    omega arith
+
+-- `number`: r is 6
+long-tail-opened : DemandOneOpening longTailOpened (settings 1 100 6) → ⊥
+long-tail-opened d =
+    let h : opened 1 ≡ refused 19 = d .refused-by .number 19 .1 (inr (refl, inr (refl, inr (refl, inl (refl, refl))))) in
+    let z : _≡_ {A = ℕ} 0 1 = cc in
+    omega arith
+
+-- `number`: 19 in the place of 3
+tail-looked-at-first : DemandOneOpening tailLookedAtFirst (settings 10 5 6) → ⊥
+tail-looked-at-first d =
+    let h : refused 19 ≡ refused 3 = d .refused-by .number 3 .1 (inr (refl, inr (refl, inl (refl, refl)))) in
+    let z : _≡_ {A = ℕ} 19 3 = cc in
+    omega arith
+
+-- `same-station`: r is 5
+refused-tail-kept : DemandOneOpening refusedTailKept (settings 61 100 5) → ⊥
+refused-tail-kept d =
+    let h : _≡_ {A = ℕ} 5 0 = ap (λ (s : State). s .tail) (d .refused-by .same-station refl) in
+    omega arith
+
+-- `answered`, the station
+tail-lost : DemandOneOpening tailLost (settings 10 10 2) → ⊥
+tail-lost d =
+    let h : _≡_ {A = ℕ} 0 2 = ap (λ (s : State). s .tail) (d .answered (refl, (refl, (refl, (refl, tt)))) .1) in
     omega arith

@@ -11,10 +11,10 @@ use Rattle.rules.specs.Judgement.{judged}
 use Rattle.rules.specs.Entry.{lentList}
 use Rattle.rules.specs.Calls.{refused, waiting, charging, preview, commit, move, offer, replanLatest, opening, previewing, committing, moving, offering, replanningLatest, enquiring}
 use Rattle.guarantee.specs.DemandThree.{DemandThree}
-use Rattle.excluded.specs.WrongOrders.{ownLineOnly, neighboursOnly, limitIgnored, chargesCounted, ratesInLimitOnly, fixedStart, previewTakesTicket, shownBeforeTaken, ticketSkipped}
-use Rattle.excluded.specs.WrongMoves.{startAtClockLeftOut, firstReportOnly, reportedTwice, startAtTargetReported, nobodyReported, slowClock, droppedEarly, droppedLate, neverDropped, shownLate, shownBegun, shownEarly}
+use Rattle.excluded.specs.WrongOrders.{ownLineOnly, neighboursOnly, limitIgnored, chargesCounted, ratesInLimitOnly, tailsLeftOut, tailsInLimitOnly, fixedStart, previewTakesTicket, shownBeforeTaken, ticketSkipped}
+use Rattle.excluded.specs.WrongMoves.{startAtClockLeftOut, firstReportOnly, reportedTwice, startAtTargetReported, nobodyReported, slowClock, droppedEarly, droppedLate, droppedAtItsEnd, neverDropped, shownLate, shownBegun, shownEarly, endWithTail}
 use Rattle.excluded.specs.WrongPlans.{untested, rateLost, begunMoved}
-use Rattle.excluded.specs.BreaksThree.{one, two, twoEven, four, from, fromRated, single, fourOrders}
+use Rattle.excluded.specs.BreaksThree.{one, two, twoEven, four, oneTailed, twoTailed, from, fromRated, single, fourOrders}
 use Rattle.excluded.proofs.Refuting.{line-one, line-two, line-three}
 
 -- Limit, balance and tickets
@@ -48,6 +48,16 @@ charges-counted d = let h : 3 ≤ 2 = d .limit 1 0 line-one in omega arith
 rates-in-limit-only : DemandThree ratesInLimitOnly four (fromRated 1 0 ∷ single ∷ []) → ⊥
 unfolding limited balanced opening committing enquiring
 rates-in-limit-only d = let h : 3 ≤ 2 = d .balance 1 2 0 line-one line-two in omega arith
+
+-- `limit`: in minute 10 the tail of ticket 3 and ticket 4, on line 1
+tails-left-out : DemandThree tailsLeftOut oneTailed (commit 2 20 60 1 0 ∷ commit 3 20 60 1 0 ∷ single ∷ from 1 10 ∷ []) → ⊥
+unfolding limited balanced sound earliest opening committing enquiring
+tails-left-out d = let h : 2 ≤ 1 = d .limit 1 10 line-one in omega arith
+
+-- `balance`: in minute 10 a tail and a charge on line 1, none on line 2
+tails-in-limit-only : DemandThree tailsInLimitOnly twoTailed (single ∷ from 1 10 ∷ []) → ⊥
+unfolding limited balanced opening committing enquiring
+tails-in-limit-only d = let h : 2 ≤ 1 = d .balance 1 2 10 line-one line-two in omega arith
 
 -- `tickets`: 1 and 3
 ticket-skipped : DemandThree ticketSkipped one (single ∷ from 1 10 ∷ []) → ⊥
@@ -129,6 +139,22 @@ unfolding limited balanced sound earliest opening committing enquiring
 dropped-early d =
     let h : refused 15 ≡ charging 0 10 1 = d .orders .0 .charges (omega arith) (omega arith) in
     let z : _≡_ {A = ℕ} 0 1 = cc in
+    omega arith
+
+-- `charges`: at clock 10 the charge from 0 to 10 is in its tail, and no longer held
+dropped-at-its-end : DemandThree droppedAtItsEnd oneTailed (single ∷ move 10 lentList ∷ []) → ⊥
+unfolding limited balanced sound earliest opening committing enquiring
+dropped-at-its-end d =
+    let h : refused 15 ≡ charging 0 10 1 = d .orders .0 .charges (omega arith) (omega arith) in
+    let z : _≡_ {A = ℕ} 0 1 = cc in
+    omega arith
+
+-- `charges`: shown up to the end of its tail
+end-with-tail : DemandThree endWithTail oneTailed (single ∷ move 1 lentList ∷ []) → ⊥
+unfolding limited balanced sound earliest opening committing moving enquiring
+end-with-tail d =
+    let h : charging 0 12 1 ≡ charging 0 10 1 = d .orders .0 .charges (omega arith) (omega arith) in
+    let z : _≡_ {A = ℕ} 12 10 = cc in
     omega arith
 
 -- `charges`: ticket 1 was reported with start 0 and waits for 10

@@ -14,8 +14,8 @@ use Rattle.rules.specs.CasesAToL.{ordersH}
 use Rattle.rules.specs.Calls.{settings, State, planned, offer, offering, step}
 use Rattle.guarantee.specs.Past.{Gives}
 use Rattle.guarantee.specs.DemandTwo.{Better, Taken, GivenStarts, DemandTwo}
-use Rattle.excluded.specs.WrongPlans.{untested, neverTaken, offerCleared, takenLater, begunPutOff, lineChanged, rateLost, takenForTicket, keptForTicket, alwaysKept, spentAfterNone, byLatestStartInLines, roundsInvented}
-use Rattle.excluded.specs.Stations.{station, stationFour, stationH, stationShort, stationHTwo, stationRated, waitingSince, begunAndWaiting}
+use Rattle.excluded.specs.WrongPlans.{untested, neverTaken, offerCleared, takenLater, begunPutOff, lineChanged, rateLost, takenForTicket, keptForTicket, lateWithTails, alwaysKept, spentAfterNone, byLatestStartInLines, roundsInvented}
+use Rattle.excluded.specs.Stations.{station, stationFour, stationH, stationShort, stationHTwo, stationTailed, stationRated, waitingSince, begunAndWaiting}
 use Rattle.excluded.specs.BreaksTwoPlans.{offerJ}
 use Rattle.guarantee.proofs.DemandTwo.{not-taken, demand-two}
 use Rattle.excluded.proofs.Refuting.{line-one, line-two}
@@ -78,7 +78,7 @@ untested-seven d =
 never-taken : DemandTwo neverTaken stationH → ⊥
 unfolding limited balanced sound earliest judged offering
 never-taken d =
-    let right : DemandTwo step stationH = subst (DemandTwo step) h-reached (demand-two (settings 1 100) ordersH) in
+    let right : DemandTwo step stationH = subst (DemandTwo step) h-reached (demand-two (settings 1 100 0) ordersH) in
     not-taken 6 5 5 0 (d .offers offerJ .taken .1 (right .offers offerJ .taken .0 (_, _, _, refl)))
 
 -- What an offer leaves
@@ -138,6 +138,14 @@ kept-for-ticket d =
 offer-cleared : DemandTwo offerCleared stationH → ⊥
 unfolding limited balanced sound earliest judged offering
 offer-cleared d = let h : _≡_ {A = ℕ} 0 2 = ap (length {A = ℕ}) (d .offers offerJ .same-list) in omega arith
+
+-- `answer`: the held plan is late by 7, up to its end at 22
+late-with-tails : DemandTwo lateWithTails stationTailed → ⊥
+unfolding limited balanced sound earliest judged offering
+late-with-tails d =
+    let h : planned 0 9 0 0 ≡ planned 0 7 0 0 = d .offers (12 ∷ 0 ∷ []) .answer (refl, tt) in
+    let z : _≡_ {A = ℕ} 9 7 = cc in
+    omega arith
 
 -- Replans
 

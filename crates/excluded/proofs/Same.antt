@@ -75,9 +75,10 @@ readCharge l =
       line = getD l 1 0;
       orderMinute = getD l 2 0;
       time = getD l 3 0;
-      due = getD l 4 0;
-      start = getD l 5 0;
-      rate = getD l 6 0;
+      activeTime = getD l 4 0;
+      due = getD l 5 0;
+      start = getD l 6 0;
+      rate = getD l 7 0;
     }
 
 pub same-charges : (cs ds : List Charge) → Tests (sameCharges cs ds) (cs ≡ ds)
@@ -91,8 +92,9 @@ readState l cs =
       limit = getD l 0 0;
       percent = getD l 1 0;
       bound = getD l 2 0;
-      clock = getD l 3 0;
-      next = getD l 4 0;
+      tail = getD l 3 0;
+      clock = getD l 4 0;
+      next = getD l 5 0;
       charges = cs;
     }
 

@@ -9,7 +9,7 @@ use borrow.Author.Tests.{eqb-true, eq-eqb}
 use Rattle.rules.specs.Basics.{Each, some}
 use Rattle.rules.specs.Calls.{State, limitsOf, refused, waiting, charging, Call}
 use Rattle.rules.proofs.Ranges.{and-left, and-right, and-both}
-use Rattle.guarantee.specs.Past.{Gives, Order, Report, Past, beginning, extended, after, past, timesReported, enquiry, startOf, endOf, loadOf, Numbered, totalTime, lastMinute}
+use Rattle.guarantee.specs.Past.{Gives, Order, Report, Past, beginning, extended, after, past, timesReported, enquiry, startOf, endOf, activeUntil, loadOf, Numbered, totalTime, lastMinute}
 use Rattle.guarantee.specs.DemandThree.{Unmoved}
 use Rattle.excluded.specs.Same.{every}
 use Rattle.excluded.specs.FieldsThree.{Field, limit, balance, tickets, not-early, in-time, reported, not-reported, waits, charges, finished, no-other, unmoved, Holds}
@@ -105,7 +105,7 @@ three-tested gives s calls not-early =
     every-tests (λ o. leb-tests (o .minute) (startOf gives h o)) (h .orders)
 three-tested gives s calls in-time =
     let h : Past = past gives s calls in
-    every-tests (λ o. leb-tests (endOf gives h o) (lastMinute 0 (h .orders) + totalTime (h .orders))) (h .orders)
+    every-tests (λ o. leb-tests (endOf gives h o) (lastMinute 0 (h .orders) + totalTime (h .tail) (h .orders))) (h .orders)
 three-tested gives s calls reported =
     let h : Past = past gives s calls in
     every-tests
@@ -128,13 +128,13 @@ three-tested gives s calls charges =
     every-tests
     (λ o.
     where-so-tests (ltb-tests (startOf gives h o) (h .clock))
-    (where-so-tests (ltb-tests (h .clock) (endOf gives h o))
+    (where-so-tests (ltb-tests (h .clock) (activeUntil gives h o))
     (same-answer (enquiry gives h (o .ticket)) (charging (startOf gives h o) (endOf gives h o) (o .rate)))))
     (h .orders)
 three-tested gives s calls finished =
     let h : Past = past gives s calls in
     every-tests
-    (λ o. where-so-tests (leb-tests (endOf gives h o) (h .clock)) (same-answer (enquiry gives h (o .ticket)) (refused 15)))
+    (λ o. where-so-tests (leb-tests (activeUntil gives h o) (h .clock)) (same-answer (enquiry gives h (o .ticket)) (refused 15)))
     (h .orders)
 three-tested gives s calls no-other =
     every-reported (λ t. some (λ (o : Order). eqb (o .ticket) t) (past gives s calls .orders)) (past gives s calls .reports)

@@ -4,7 +4,7 @@ use mathlib.Core.List.{List, [], _∷_, _++_, map}
 use Rattle.rules.specs.Entry.{lentList}
 use Rattle.rules.specs.Calls.{settings, preview, commit, move, opening, step}
 use Rattle.excluded.specs.WrongOrders.{shownAsWaiting, anySoundStart, shownIgnored}
-use Rattle.excluded.specs.WrongRefusals.{lineAccepted, lastRow, lowestNumber, rateAboveBound, shownFirst, otherNumber, alwaysFull, hurryRefused, standstillRefused, ticketUsedUp, listCleared, ticketNotSaid, openedAsAsked, openingWrites, limitSaid, percentLost, zeroBound, smallProductRefused, roundedDown}
+use Rattle.excluded.specs.WrongRefusals.{lineAccepted, lastRow, lowestNumber, rateAboveBound, shownFirst, otherNumber, alwaysFull, hurryRefused, standstillRefused, ticketUsedUp, listCleared, ticketNotSaid, openedAsAsked, openingWrites, limitSaid, percentLost, zeroBound, smallProductRefused, roundedDown, longTailOpened, tailLookedAtFirst, refusedTailKept, tailLost}
 use Rattle.excluded.specs.Stations.{station, stationTwo}
 use Rattle.excluded.specs.Breaks.{Entry, agreesBy, onlyOf}
 use Rattle.excluded.specs.FieldsOne.{Field, number, same-station, same-list, answered, fields, place, Trial, calledOn, openedBy, tested}
@@ -42,14 +42,19 @@ wrongCalls =
 
 abbrev pub wrongOpenings : List Breach
 wrongOpenings =
-    only (openedBy zeroBound (settings 1 50)) (number ∷ [])
+    only (openedBy zeroBound (settings 1 50 0)) (number ∷ [])
     -- as above, an opening that is refused where no condition applies does not answer D either
-    ∷ only (openedBy smallProductRefused (settings 9 11)) (number ∷ answered ∷ [])
-    ∷ only (openedBy openedAsAsked (settings 61 100)) (same-station ∷ [])
-    ∷ only (openedBy openingWrites (settings 61 100)) (same-list ∷ [])
-    ∷ only (openedBy limitSaid (settings 10 10)) (answered ∷ [])
-    ∷ only (openedBy percentLost (settings 10 10)) (answered ∷ [])
-    ∷ only (openedBy roundedDown (settings 30 5)) (answered ∷ [])
+    ∷ only (openedBy smallProductRefused (settings 9 11 0)) (number ∷ answered ∷ [])
+    ∷ only (openedBy openedAsAsked (settings 61 100 0)) (same-station ∷ [])
+    ∷ only (openedBy openingWrites (settings 61 100 0)) (same-list ∷ [])
+    ∷ only (openedBy limitSaid (settings 10 10 0)) (answered ∷ [])
+    ∷ only (openedBy percentLost (settings 10 10 0)) (answered ∷ [])
+    ∷ only (openedBy roundedDown (settings 30 5 0)) (answered ∷ [])
+    ∷ only (openedBy longTailOpened (settings 1 100 6)) (number ∷ [])
+    -- D is 0, and 3 goes before 19
+    ∷ only (openedBy tailLookedAtFirst (settings 10 5 6)) (number ∷ [])
+    ∷ only (openedBy refusedTailKept (settings 61 100 5)) (same-station ∷ [])
+    ∷ only (openedBy tailLost (settings 10 10 2)) (answered ∷ [])
     ∷ []
 
 -- the rules themselves for the same call or opening

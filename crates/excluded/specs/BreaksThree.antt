@@ -6,8 +6,8 @@ use Rattle.rules.specs.Entry.{lentList}
 use Rattle.rules.specs.Calls.{settings, State, Call, preview, commit, move, offer, replanLatest, opening, step}
 use Rattle.guarantee.specs.Past.{Gives}
 use Rattle.excluded.specs.Same.{sameState}
-use Rattle.excluded.specs.WrongOrders.{ownLineOnly, neighboursOnly, limitIgnored, chargesCounted, ratesInLimitOnly, fixedStart, previewTakesTicket, shownBeforeTaken, ticketSkipped}
-use Rattle.excluded.specs.WrongMoves.{startAtClockLeftOut, firstReportOnly, reportedTwice, startAtTargetReported, nobodyReported, slowClock, droppedEarly, droppedLate, neverDropped, shownLate, shownBegun, shownEarly}
+use Rattle.excluded.specs.WrongOrders.{ownLineOnly, neighboursOnly, limitIgnored, chargesCounted, ratesInLimitOnly, tailsLeftOut, tailsInLimitOnly, fixedStart, previewTakesTicket, shownBeforeTaken, ticketSkipped}
+use Rattle.excluded.specs.WrongMoves.{startAtClockLeftOut, firstReportOnly, reportedTwice, startAtTargetReported, nobodyReported, slowClock, droppedEarly, droppedLate, droppedAtItsEnd, neverDropped, shownLate, shownBegun, shownEarly, endWithTail}
 use Rattle.excluded.specs.WrongPlans.{untested, rateLost, begunMoved}
 use Rattle.excluded.specs.FieldsThree.{Field, limit, balance, tickets, not-early, in-time, reported, not-reported, waits, charges, finished, no-other, unmoved, fields, place, Holds}
 use Rattle.excluded.specs.Breaks.{Entry, agreesBy, onlyOf}
@@ -36,17 +36,24 @@ only gives s calls broken = onlyOf place fields (record { gives = gives; first =
 
 -- the station of 1, 100 and that of 2, 50, both with D = 1
 abbrev pub one : State
-one = opening (settings 1 100) .state
+one = opening (settings 1 100 0) .state
 
 abbrev pub two : State
-two = opening (settings 2 50) .state
+two = opening (settings 2 50 0) .state
 
 -- the station of 2, 100 and that of 4, 50, both with D = 2
 abbrev pub twoEven : State
-twoEven = opening (settings 2 100) .state
+twoEven = opening (settings 2 100 0) .state
 
 abbrev pub four : State
-four = opening (settings 4 50) .state
+four = opening (settings 4 50 0) .state
+
+-- the station of 1, 100 and that of 2, 50, with r 2
+abbrev pub oneTailed : State
+oneTailed = opening (settings 1 100 2) .state
+
+abbrev pub twoTailed : State
+twoTailed = opening (settings 2 50 2) .state
 
 -- an order of 10 minutes with a start
 abbrev pub from : ℕ → ℕ → Call
@@ -75,6 +82,9 @@ wrongEntries =
     ∷ only neighboursOnly two (single ∷ from 2 0 ∷ single ∷ []) (balance ∷ [])
     ∷ only chargesCounted twoEven (fromRated 1 0 ∷ from 2 0 ∷ from 3 0 ∷ single ∷ []) (limit ∷ [])
     ∷ only ratesInLimitOnly four (fromRated 1 0 ∷ single ∷ []) (balance ∷ [])
+    -- lines 2 and 3 draw all the time, so that balance holds in the tail of the first charge, where the second one begins
+    ∷ only tailsLeftOut oneTailed (commit 2 20 60 1 0 ∷ commit 3 20 60 1 0 ∷ single ∷ from 1 10 ∷ []) (limit ∷ [])
+    ∷ only tailsInLimitOnly twoTailed (single ∷ from 1 10 ∷ []) (balance ∷ [])
     ∷ only ticketSkipped one (single ∷ from 1 10 ∷ []) (tickets ∷ [])
     ∷ only previewTakesTicket one (preview 1 10 60 1 ∷ single ∷ []) (tickets ∷ [])
     ∷ only slowClock one (to 5 ∷ from 1 4 ∷ to 6 ∷ []) (not-early ∷ [])
@@ -91,15 +101,17 @@ wrongEntries =
     ∷ only droppedEarly one (single ∷ to 9 ∷ []) (charges ∷ [])
     -- ticket 1, reported with start 0, waits for 10, and ticket 2, never reported, charges from 0: both of line 1 in minute 0
     ∷ only begunMoved one (single ∷ commit 1 10 15 1 10 ∷ to 1 ∷ replanLatest ∷ []) (limit ∷ balance ∷ reported ∷ charges ∷ [])
+    ∷ only droppedAtItsEnd oneTailed (single ∷ to 10 ∷ []) (charges ∷ [])
+    ∷ only endWithTail oneTailed (single ∷ to 1 ∷ []) (charges ∷ [])
     ∷ only droppedLate one (single ∷ to 10 ∷ []) (finished ∷ [])
     ∷ only neverDropped one (single ∷ to 99 ∷ []) (finished ∷ [])
     ∷ only nobodyReported one (to 1 ∷ []) (no-other ∷ [])
     ∷ only shownEarly one (single ∷ from 1 10 ∷ to 9 ∷ to 11 ∷ []) (unmoved ∷ [])
     ∷ []
 
--- an opening with its own N and c leads to this station
+-- an opening with its own N, c and r leads to this station
 abbrev pub isOpened : State → Bool
-isOpened s = sameState (opening (settings (s .limit) (s .percent)) .state) s
+isOpened s = sameState (opening (settings (s .limit) (s .percent) (s .tail)) .state) s
 
 -- and the rules themselves on the same calls, where nothing breaks
 abbrev pub byRules : Breach → Breach

@@ -6,8 +6,8 @@ use mathlib.Core.List.{List, [], _∷_, _++_, map}
 use Rattle.rules.specs.Replan.{starts, latest, Replanned, byLines}
 use Rattle.rules.specs.Calls.{State, limitsOf, offer, replanLatest, replanLines, step}
 use Rattle.guarantee.specs.Past.{Gives}
-use Rattle.excluded.specs.WrongPlans.{untested, neverTaken, offerCleared, takenLater, begunPutOff, lineChanged, rateLost, takenForTicket, keptForTicket, alwaysKept, spentAfterNone, byLatestStartInLines, roundsInvented}
-use Rattle.excluded.specs.Stations.{station, stationFour, stationH, stationHTwo, stationShort, stationRated, waitingSince, begunAndWaiting}
+use Rattle.excluded.specs.WrongPlans.{untested, neverTaken, offerCleared, takenLater, begunPutOff, lineChanged, rateLost, takenForTicket, keptForTicket, lateWithTails, alwaysKept, spentAfterNone, byLatestStartInLines, roundsInvented}
+use Rattle.excluded.specs.Stations.{station, stationFour, stationH, stationHTwo, stationShort, stationTailed, stationRated, waitingSince, begunAndWaiting}
 use Rattle.excluded.specs.Breaks.{Entry, agreesBy, onlyOf}
 use Rattle.excluded.specs.FieldsBetter.{Merit, not-before-clock, limit, balance, no-later, less-late, merits, rank, Plan, merited}
 use Rattle.excluded.specs.FieldsTwoPlans.{Field, taken, waiting-starts, begun-same, charges-same, station-same, unchanged, answer, same-list, fields, place, Trial, tested}
@@ -75,6 +75,7 @@ wrongEntries =
     ∷ only (offered rateLost stationRated (10 ∷ 20 ∷ 0 ∷ [])) (charges-same ∷ [])
     ∷ only (offered takenForTicket stationH offerJ) (station-same ∷ [])
     ∷ only (offered keptForTicket stationH (0 ∷ 10 ∷ [])) (unchanged ∷ [])
+    ∷ only (offered lateWithTails stationTailed (12 ∷ 0 ∷ [])) (answer ∷ [])
     ∷ only (byLine spentAfterNone station 1) (answer ∷ [])
     ∷ only (byLine roundsInvented station 3) (answer ∷ [])
     ∷ only (offered offerCleared stationH offerJ) (same-list ∷ [])

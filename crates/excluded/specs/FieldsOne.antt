@@ -41,7 +41,7 @@ pub record Tried : Type 0 where
 abbrev pub tried : Trial → Tried
 tried (calledOn gives s c) = record { rows = refusals s c; station = s; list = lent c; result = gives s c }
 tried (openedBy opens x) =
-    record { rows = openRefusals x; station = fresh (settings 1 100); list = []; result = opens x }
+    record { rows = openRefusals x; station = fresh (settings 1 100 0); list = []; result = opens x }
 
 -- an answer of its own kind
 abbrev pub OwnAnswer : Trial → Type 0

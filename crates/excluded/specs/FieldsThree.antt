@@ -7,7 +7,7 @@ use lib.Dec.{eqb}
 use Rattle.rules.specs.Basics.{Each, some}
 use Rattle.rules.specs.Load.{IsLine}
 use Rattle.rules.specs.Calls.{State, refused, waiting, charging, Call}
-use Rattle.guarantee.specs.Past.{Gives, Order, Past, past, timesReported, enquiry, startOf, endOf, countIn, Numbered, totalTime, lastMinute}
+use Rattle.guarantee.specs.Past.{Gives, Order, Past, past, timesReported, enquiry, startOf, endOf, activeUntil, countIn, Numbered, totalTime, lastMinute}
 use Rattle.guarantee.specs.DemandThree.{Unmoved}
 
 -- in the order of `DemandThree`, with those of `Kept` in the place of `orders`
@@ -58,7 +58,7 @@ Holds gives s calls not-early =
     Each (λ o. o .minute ≤ startOf gives h o) (h .orders)
 Holds gives s calls in-time =
     let h : Past = past gives s calls in
-    Each (λ o. endOf gives h o ≤ lastMinute 0 (h .orders) + totalTime (h .orders)) (h .orders)
+    Each (λ o. endOf gives h o ≤ lastMinute 0 (h .orders) + totalTime (h .tail) (h .orders)) (h .orders)
 Holds gives s calls reported =
     let h : Past = past gives s calls in
     Each (λ o. startOf gives h o < h .clock → timesReported (h .reports) (o .ticket) ≡ 1) (h .orders)
@@ -73,12 +73,12 @@ Holds gives s calls charges =
     Each
     (λ o.
     startOf gives h o < h .clock
-    → h .clock < endOf gives h o
+    → h .clock < activeUntil gives h o
     → enquiry gives h (o .ticket) ≡ charging (startOf gives h o) (endOf gives h o) (o .rate))
     (h .orders)
 Holds gives s calls finished =
     let h : Past = past gives s calls in
-    Each (λ o. endOf gives h o ≤ h .clock → enquiry gives h (o .ticket) ≡ refused 15) (h .orders)
+    Each (λ o. activeUntil gives h o ≤ h .clock → enquiry gives h (o .ticket) ≡ refused 15) (h .orders)
 Holds gives s calls no-other =
     (t : ℕ)
     → 1 ≤ timesReported (past gives s calls .reports) t

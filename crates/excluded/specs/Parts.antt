@@ -133,6 +133,7 @@ ticketing t s =
       limit = s .limit;
       percent = s .percent;
       bound = s .bound;
+      tail = s .tail;
       clock = s .clock;
       next = t;
       charges = s .charges;
@@ -144,6 +145,7 @@ bounding d s =
       limit = s .limit;
       percent = s .percent;
       bound = d;
+      tail = s .tail;
       clock = s .clock;
       next = s .next;
       charges = s .charges;
@@ -152,24 +154,32 @@ bounding d s =
 abbrev pub putOff : Charge → Charge
 putOff c = starting c (suc (c .start))
 
--- the same charge on another line, and at another rate
-abbrev drawing : ℕ → ℕ → Charge → Charge
-drawing line rate c =
+-- the same charge on another line, for another time, active for another time, and at another rate
+abbrev drawing : ℕ → ℕ → ℕ → ℕ → Charge → Charge
+drawing line time activeTime rate c =
     record {
       ticket = c .ticket;
       line = line;
       orderMinute = c .orderMinute;
-      time = c .time;
+      time = time;
+      activeTime = activeTime;
       due = c .due;
       start = c .start;
       rate = rate;
     }
 
 abbrev pub onLine : ℕ → Charge → Charge
-onLine line c = drawing line (c .rate) c
+onLine line c = drawing line (c .time) (c .activeTime) (c .rate) c
 
 abbrev pub atRate : ℕ → Charge → Charge
-atRate rate c = drawing (c .line) rate c
+atRate rate c = drawing (c .line) (c .time) (c .activeTime) rate c
+
+-- without its tail, and with the tail taken for charging time
+abbrev pub withoutTail : Charge → Charge
+withoutTail c = drawing (c .line) (c .time) (c .time) (c .rate) c
+
+abbrev pub tailCharged : Charge → Charge
+tailCharged c = drawing (c .line) (c .activeTime) (c .activeTime) (c .rate) c
 
 abbrev pub chargesBy : (Charge → Charge) → State → State
 chargesBy f s = holding s (s .clock) (map f (s .charges))

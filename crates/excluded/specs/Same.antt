@@ -48,14 +48,14 @@ abbrev pub numberIn : ℕ → Answer → ℕ
 numberIn i a = getD (inNumbers a) i 0
 
 abbrev pub ofCharge : Charge → List ℕ
-ofCharge c = c .ticket ∷ c .line ∷ c .orderMinute ∷ c .time ∷ c .due ∷ c .start ∷ c .rate ∷ []
+ofCharge c = c .ticket ∷ c .line ∷ c .orderMinute ∷ c .time ∷ c .activeTime ∷ c .due ∷ c .start ∷ c .rate ∷ []
 
 abbrev pub sameCharges : List Charge → List Charge → Bool
 sameCharges = sameEach (λ c d. sameList (ofCharge c) (ofCharge d))
 
 -- a station without its charges
 abbrev pub ofState : State → List ℕ
-ofState s = s .limit ∷ s .percent ∷ s .bound ∷ s .clock ∷ s .next ∷ []
+ofState s = s .limit ∷ s .percent ∷ s .bound ∷ s .tail ∷ s .clock ∷ s .next ∷ []
 
 abbrev pub sameState : State → State → Bool
 sameState s t = sameList (ofState s) (ofState t) && sameCharges (s .charges) (t .charges)

@@ -1,26 +1,32 @@
 -- The stations on which wrong ones are tried, written down, so that what is computed on them does not begin with an opening;
 -- proofs/Stations.antt shows for each the calls that lead to it.
-use Prim.Native.Nat.{ℕ}
+use Prim.Native.Nat.{ℕ, _+_}
 use mathlib.Core.List.{List, [], _∷_}
 use Rattle.rules.specs.Charge.{Charge}
 use Rattle.rules.specs.Calls.{State, settings, boundOf, fresh}
 
--- a charge ordered in minute 0: ticket, line, p, d, rate, start; and one of rate 1
+-- a charge ordered in minute 0 where r is given: ticket, line, p, d, rate, start; one with r 0, and one of rate 1 and r 0
+abbrev heldWithTail : ℕ → ℕ → ℕ → ℕ → ℕ → ℕ → ℕ → Charge
+heldWithTail r ticket line p d rate start =
+    record { ticket = ticket; line = line; orderMinute = 0; time = p; activeTime = p + r; due = d; start = start; rate = rate }
+
 abbrev heldAt : ℕ → ℕ → ℕ → ℕ → ℕ → ℕ → Charge
-heldAt ticket line p d rate start =
-    record { ticket = ticket; line = line; orderMinute = 0; time = p; due = d; start = start; rate = rate }
+heldAt = heldWithTail 0
 
 abbrev held : ℕ → ℕ → ℕ → ℕ → ℕ → Charge
 held ticket line p d start = heldAt ticket line p d 1 start
 
--- N, c, clock, next ticket
+-- r, N, c, clock, next ticket; and with r 0
+abbrev standingWithTail : ℕ → ℕ → ℕ → ℕ → ℕ → List Charge → State
+standingWithTail r n c clock next cs =
+    record { limit = n; percent = c; bound = boundOf n c; tail = r; clock = clock; next = next; charges = cs }
+
 abbrev standing : ℕ → ℕ → ℕ → ℕ → List Charge → State
-standing n c clock next cs =
-    record { limit = n; percent = c; bound = boundOf n c; clock = clock; next = next; charges = cs }
+standing = standingWithTail 0
 
 -- the fresh station of 1, 100, and the same moved to 5
 abbrev pub station : State
-station = fresh (settings 1 100)
+station = fresh (settings 1 100 0)
 
 abbrev pub stationFive : State
 stationFive = standing 1 100 5 1 []
@@ -51,6 +57,10 @@ stationHTwo = standing 2 50 0 3 heldH
 -- a charge of 20 minutes from 0 on, and behind it one of 2 minutes, due at 14
 abbrev pub stationShort : State
 stationShort = standing 1 100 0 3 (held 1 1 20 30 0 ∷ held 2 1 2 14 20 ∷ [])
+
+-- after the orders of case h with N = 1 and r 2: starts 0 and 12, lateness 7
+abbrev pub stationTailed : State
+stationTailed = standingWithTail 2 1 100 0 3 (heldWithTail 2 1 1 10 60 1 0 ∷ heldWithTail 2 2 1 10 15 1 12 ∷ [])
 
 -- N = 4, D = 2: two charges of rate 2 and one of rate 1, on line 1 from 0, 10 and 20
 abbrev pub stationRated : State

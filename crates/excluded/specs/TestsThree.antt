@@ -7,7 +7,7 @@ use lib.Dec.{ltb, leb, eqb}
 use Rattle.rules.specs.Basics.{some}
 use Rattle.rules.specs.Load.{Load, limitAt, balanceAt, fromOn}
 use Rattle.rules.specs.Calls.{State, limitsOf, refused, waiting, charging, Call}
-use Rattle.guarantee.specs.Past.{Gives, Order, Report, Past, beginning, extended, past, timesReported, enquiry, startOf, endOf, loadOf, totalTime, lastMinute}
+use Rattle.guarantee.specs.Past.{Gives, Order, Report, Past, beginning, extended, past, timesReported, enquiry, startOf, endOf, activeUntil, loadOf, totalTime, lastMinute}
 use Rattle.excluded.specs.Same.{every, where-so, sameAnswer}
 use Rattle.excluded.specs.FieldsThree.{Field, limit, balance, tickets, not-early, in-time, reported, not-reported, waits, charges, finished, no-other, unmoved}
 
@@ -36,7 +36,7 @@ testedOn gives s calls h balance =
 testedOn gives s calls h tickets = numbered 1 (h .orders)
 testedOn gives s calls h not-early = every (λ o. leb (o .minute) (startOf gives h o)) (h .orders)
 testedOn gives s calls h in-time =
-    every (λ o. leb (endOf gives h o) (lastMinute 0 (h .orders) + totalTime (h .orders))) (h .orders)
+    every (λ o. leb (endOf gives h o) (lastMinute 0 (h .orders) + totalTime (h .tail) (h .orders))) (h .orders)
 testedOn gives s calls h reported =
     every (λ o. where-so (ltb (startOf gives h o) (h .clock)) (eqb (timesReported (h .reports) (o .ticket)) 1)) (h .orders)
 testedOn gives s calls h not-reported =
@@ -51,12 +51,12 @@ testedOn gives s calls h charges =
     every
     (λ o.
     where-so (ltb (startOf gives h o) (h .clock))
-    (where-so (ltb (h .clock) (endOf gives h o))
+    (where-so (ltb (h .clock) (activeUntil gives h o))
     (sameAnswer (enquiry gives h (o .ticket)) (charging (startOf gives h o) (endOf gives h o) (o .rate)))))
     (h .orders)
 testedOn gives s calls h finished =
     every
-    (λ o. where-so (leb (endOf gives h o) (h .clock)) (sameAnswer (enquiry gives h (o .ticket)) (refused 15)))
+    (λ o. where-so (leb (activeUntil gives h o) (h .clock)) (sameAnswer (enquiry gives h (o .ticket)) (refused 15)))
     (h .orders)
 testedOn gives s calls h no-other = every (reportedOrder h) (h .reports)
 testedOn gives s calls h unmoved = afterEach (unmovedFrom gives h) gives (beginning s) calls

@@ -1,5 +1,5 @@
 -- Wrong stations: clock moves and enquiries that differ from the rules in one thing.
-use Prim.Native.Nat.{ℕ, suc, _-_}
+use Prim.Native.Nat.{ℕ, suc, _+_, _-_}
 use mathlib.Core.Bool.{Bool, cond, _&&_}
 use mathlib.Core.List.{List, [], _∷_, _++_, map}
 use lib.Dec.{ltb, eqb}
@@ -9,7 +9,7 @@ use Rattle.rules.specs.Charge.{Charge, starting, loadsOf, isBegun, unfinishedCh
 use Rattle.rules.specs.Search.{earliest}
 use Rattle.rules.specs.Calls.{State, limitsOf, holding, moved, Result, newCharge, isPassed, startBefore, pairs, written, enquiring}
 use Rattle.guarantee.specs.Past.{Gives}
-use Rattle.excluded.specs.Parts.{withMoves, withSearchAndMoves, withEnquiries, saying, ticketing, putOff, chargesBy}
+use Rattle.excluded.specs.Parts.{withMoves, withSearchAndMoves, withEnquiries, saying, ticketing, putOff, tailCharged, chargesBy}
 
 -- a move that reports the charges for which `passed` holds of the old clock and the target, and others after them, and drops
 -- what is finished at another minute
@@ -64,9 +64,13 @@ dropping finishing s target list = movedBy isPassed [] (finishing target) s targ
 abbrev pub droppedEarly : Gives
 droppedEarly = withMoves (dropping (λ target. suc target))
 
--- a charge is held at its end, and dropped one minute late
+-- a charge is held when it is finished, and dropped one minute late
 abbrev pub droppedLate : Gives
 droppedLate = withMoves (dropping (λ target. target - 1))
+
+-- a charge is dropped at its end, s + p, where its tail begins
+abbrev pub droppedAtItsEnd : Gives
+droppedAtItsEnd = withMoves (λ s target list. movedBy isPassed [] (target + s .tail) s target list)
 
 -- no charge is dropped
 abbrev pub neverDropped : Gives
@@ -93,3 +97,7 @@ abbrev pub shownEarly : Gives
 shownEarly =
     withEnquiries
     (askedOf (λ s. chargesBy (λ c. cond (isBegun (s .clock) c) c (starting c (c .start - 2))) s))
+
+-- s + p + r is shown for the end
+abbrev pub endWithTail : Gives
+endWithTail = withEnquiries (askedOf (chargesBy tailCharged))

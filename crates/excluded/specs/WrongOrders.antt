@@ -11,7 +11,7 @@ use Rattle.rules.specs.Search.{added, earliest, fitsUnder}
 use Rattle.rules.specs.Calls.{State, limitsOf, holding, waiting, Result, drawFor, startFor, isStart, previewedAt, previewing, committing}
 use Rattle.earlier.specs.Earlier.{orderedAt}
 use Rattle.guarantee.specs.Past.{Gives}
-use Rattle.excluded.specs.Parts.{withPreviews, withCommits, withUntested, withTest, withSearch, saying, leaving, writing, ticketing, putOff, atRate}
+use Rattle.excluded.specs.Parts.{withPreviews, withCommits, withUntested, withTest, withSearch, saying, leaving, writing, ticketing, putOff, atRate, withoutTail}
 
 -- The search
 
@@ -40,24 +40,46 @@ neighboursOnly =
 abbrev pub limitIgnored : Gives
 limitIgnored = withSearch (λ s a. earliest (limits 180 (s .bound)) (s .clock) (loadsOf (s .charges)) a)
 
+-- what an order draws at rate 1, and without its tail
+abbrev drawAtOne : State → Draw → Draw
+drawAtOne s a = draw (a .line) (a .time) 1
+
+abbrev drawWithoutTail : State → Draw → Draw
+drawWithoutTail s a = draw (a .line) (a .time - s .tail) (a .rate)
+
+-- a search over other charges, for what another order draws
+abbrev searchingFor : (Charge → Charge) → (State → Draw → Draw) → Gives
+searchingFor f g = withSearch (λ s a. earliest (limitsOf s) (s .clock) (loadsOf (map f (s .charges))) (g s a))
+
 -- a search that counts charges, whatever their rates
 abbrev pub chargesCounted : Gives
-chargesCounted =
-    withSearch
-    (λ s a. earliest (limitsOf s) (s .clock) (loadsOf (map (atRate 1) (s .charges))) (draw (a .line) (a .time) 1))
+chargesCounted = searchingFor (atRate 1) drawAtOne
 
--- rates are counted in the limit, and charges in balance
-abbrev ratesInLimitAt : State → Draw → ℕ → ℕ → Bool
-ratesInLimitAt s a u t =
-    limitAt (limitsOf s) (added (loadsOf (s .charges)) a u) t
-    && balanceAt (limitsOf s) (added (loadsOf (map (atRate 1) (s .charges))) (draw (a .line) (a .time) 1) u) t
+-- a search by charging times, without the tails
+abbrev pub tailsLeftOut : Gives
+tailsLeftOut = searchingFor withoutTail drawWithoutTail
 
-abbrev pub ratesInLimitOnly : Gives
-ratesInLimitOnly =
+-- a search that counts right in the limit, and in balance other charges and what another order draws
+abbrev rightInLimitOnly : (Charge → Charge) → (State → Draw → Draw) → Gives
+rightInLimitOnly f g =
     withSearch
     (λ s a.
     let xs : List Load = loadsOf (s .charges) in
-    first (λ u. fromOn (s .clock) (added xs a u) (ratesInLimitAt s a u)) (suc (lastUntil xs - s .clock)) (s .clock))
+    let ys : List Load = loadsOf (map f (s .charges)) in
+    first
+    (λ u.
+    fromOn (s .clock) (added xs a u)
+    (λ t. limitAt (limitsOf s) (added xs a u) t && balanceAt (limitsOf s) (added ys (g s a) u) t))
+    (suc (lastUntil xs - s .clock))
+    (s .clock))
+
+-- rates are counted in the limit, and charges in balance
+abbrev pub ratesInLimitOnly : Gives
+ratesInLimitOnly = rightInLimitOnly (atRate 1) drawAtOne
+
+-- tails are counted in the limit, and not in balance
+abbrev pub tailsInLimitOnly : Gives
+tailsInLimitOnly = rightInLimitOnly withoutTail drawWithoutTail
 
 -- one fixed start for everybody
 abbrev pub fixedStart : Gives

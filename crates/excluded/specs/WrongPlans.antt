@@ -9,7 +9,7 @@ use Rattle.rules.specs.Replan.{latest}
 use Rattle.rules.specs.Judgement.{restarted, causes, judged}
 use Rattle.rules.specs.Calls.{kept, decided, tested, offering, replanningLatest, State, limitsOf, holding, Result}
 use Rattle.guarantee.specs.Past.{Gives}
-use Rattle.excluded.specs.Parts.{withOffers, withReplansLatest, withReplansLines, leaving, writing, ticketing, putOff, onLine, atRate, chargesBy}
+use Rattle.excluded.specs.Parts.{withOffers, withReplansLatest, withReplansLines, leaving, writing, ticketing, putOff, onLine, atRate, tailCharged, chargesBy, saying}
 
 -- Offers
 
@@ -62,6 +62,10 @@ takenForTicket = leftBy (λ s. ticketing (suc (s .next)) s) (λ s. s)
 -- a plan that is kept out uses up a ticket
 abbrev pub keptForTicket : Gives
 keptForTicket = leftBy (λ s. s) (λ s. ticketing (suc (s .next)) s)
+
+-- lateness up to the end of the tails
+abbrev pub lateWithTails : Gives
+lateWithTails = withOffers (λ s ss. saying (offering (chargesBy tailCharged s) ss .answer) (offering s ss))
 
 -- Replans
 

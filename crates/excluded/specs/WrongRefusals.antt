@@ -68,8 +68,12 @@ ticketNotSaid = withCommits (λ s line p d rate shown. saying (waiting shown rat
 
 -- Openings
 
+-- by these conditions, with r beside a refusal, the D answered and the station opened
+abbrev openedWith : List (Bool × ℕ) → ℕ → ℕ → State → Result
+openedWith rows r d s = answering (firstOf rows) (fresh (settings 1 100 r)) [] (record { answer = opened d; state = s; list = [] })
+
 abbrev openedBy : List (Bool × ℕ) → ℕ → State → Result
-openedBy rows d s = answering (firstOf rows) (fresh (settings 1 100)) [] (record { answer = opened d; state = s; list = [] })
+openedBy rows d s = openedWith rows 0 d s
 
 -- a D of 0 is accepted
 abbrev pub zeroBound : Settings → Result
@@ -93,10 +97,26 @@ limitSaid x = openedBy (openRefusals x) (x .limit) (fresh x)
 
 -- the percentage is not kept
 abbrev pub percentLost : Settings → Result
-percentLost x = openedBy (openRefusals x) (fresh x .bound) (fresh (settings (x .limit) 100))
+percentLost x = openedBy (openRefusals x) (fresh x .bound) (fresh (settings (x .limit) 100 (x .tail)))
 
 -- c × N / 100 rounded down
 abbrev pub roundedDown : Settings → Result
 roundedDown x =
     let d : ℕ = x .percent * x .limit / 100 in
     openedBy (openRefusals x) d (bounding d (fresh x))
+
+-- any r is accepted
+abbrev pub longTailOpened : Settings → Result
+longTailOpened x = openedBy (unnumbered 19 (openRefusals x)) (fresh x .bound) (fresh x)
+
+-- r is looked at before D
+abbrev pub tailLookedAtFirst : Settings → Result
+tailLookedAtFirst x = openedBy ((ltb 5 (x .tail), 19) ∷ openRefusals x) (fresh x .bound) (fresh x)
+
+-- r of the refused opening is kept
+abbrev pub refusedTailKept : Settings → Result
+refusedTailKept x = openedWith (openRefusals x) (x .tail) (fresh x .bound) (fresh x)
+
+-- r is not kept
+abbrev pub tailLost : Settings → Result
+tailLost x = openedBy (openRefusals x) (fresh x .bound) (fresh (settings (x .limit) (x .percent) 0))

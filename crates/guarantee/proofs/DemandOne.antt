@@ -150,7 +150,7 @@ unfolding opening
 demand-one-opening x =
     record {
       refused-by =
-          refused-by (openRefusals x) (fresh (settings 1 100)) []
+          refused-by (openRefusals x) (fresh (settings 1 100 0)) []
           (record { answer = opened (fresh x .bound); state = fresh x; list = [] })
           (openRefusals-numbered x)
           (λ q. refl);

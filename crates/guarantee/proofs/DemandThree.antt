@@ -8,7 +8,7 @@ use lib.Dec.{eqb}
 use borrow.Author.Tests.{ltb-false, lt-ltb, le-ltb, eq-eqb, ne-eqb}
 use Rattle.rules.specs.Basics.{Each, firstOf, some}
 use Rattle.rules.specs.Load.{count}
-use Rattle.rules.specs.Charge.{Charge, endOf, loadsOf, isBegun, unfinishedCharges}
+use Rattle.rules.specs.Charge.{Charge, activeUntil, loadsOf, isBegun, unfinishedCharges}
 use Rattle.rules.specs.Calls.{Settings, settings, State, told, opened, answering, boundOf, fresh, openRefusals, opening, Call, step}
 use Rattle.guarantee.specs.Past.{Order, Past, beginning, past, timesReported, enquiry, startIn, startOf, loadOf, countIn, totalTime, lastMinute}
 use Rattle.guarantee.specs.DemandThree.{Kept, Unmoved, DemandThree}
@@ -85,23 +85,23 @@ module _ (s : State) (h : Past) (hs : List Charge) (known : Known s h hs) where
       hs
       (own-reports (λ c. isPair (c .ticket) (c .start)) (λ c t u q. rw (ne-eqb t (c .ticket) q))
       (λ c. rw (eq-eqb (c .ticket) (c .ticket) refl, eq-eqb (c .start) (c .start) refl)))
-      (told-each (h .clock) 1 hs (known .invariant .rising) (known .invariant .fit)))
+      (told-each (s .tail) (h .clock) 1 hs (known .invariant .rising) (known .invariant .fit)))
 
   keeps :
       (c : Charge)
       → Said h (unfinishedCharges (h .clock) hs) c
-      → Fit (h .clock) c
-      → endOf c ≤ lastMinute 0 (h .orders) + totalTime (h .orders)
+      → Fit (s .tail) (h .clock) c
+      → activeUntil c ≤ lastMinute 0 (h .orders) + totalTime (s .tail) (h .orders)
       → Kept step h (orderOf c)
   keeps c e f g =
       record {
         not-early = rw (e .start) (f .not-early);
-        in-time = rw (e .start) g;
+        in-time = rw (e .start, known .tail) (omega (arith, f .active));
         reported = rw (e .start) (λ j. e .times ∙ rw (lt-ltb (c .start) (h .clock) j));
         not-reported = rw (e .start) (λ j. e .times ∙ rw (le-ltb (c .start) (h .clock) j));
         waits = rw (e .start) (λ j. enquiry-held (c .ticket) ∙ e .answers .waits j);
-        charges = rw (e .start) (λ j i. enquiry-held (c .ticket) ∙ e .answers .charges j i);
-        finished = rw (e .start) (λ j. enquiry-held (c .ticket) ∙ e .answers .finished j);
+        charges = rw (e .start, known .tail) (λ j i. enquiry-held (c .ticket) ∙ e .answers .charges j (omega (arith, f .active)));
+        finished = rw (e .start, known .tail) (λ j. enquiry-held (c .ticket) ∙ e .answers .finished (omega (arith, f .active)));
       }
 
   orders-kept : Each (Kept step h) (h .orders)
@@ -110,15 +110,15 @@ module _ (s : State) (h : Past) (hs : List Charge) (known : Known s h hs) where
       (each-image (Kept step h) orderOf hs
       (each-two
       (Said h (unfinishedCharges (h .clock) hs))
-      (λ c. Fit (h .clock) c × (endOf c ≤ lastMinute 0 (h .orders) + totalTime (h .orders)))
+      (λ c. Fit (s .tail) (h .clock) c × (activeUntil c ≤ lastMinute 0 (h .orders) + totalTime (s .tail) (h .orders)))
       (λ c. Kept step h (orderOf c))
       (λ c e p. keeps c e (p .0) (p .1))
       hs
       said
       (each-two
-      (Fit (h .clock))
-      (λ c. endOf c ≤ lastMinute 0 (h .orders) + totalTime (h .orders))
-      (λ c. Fit (h .clock) c × (endOf c ≤ lastMinute 0 (h .orders) + totalTime (h .orders)))
+      (Fit (s .tail) (h .clock))
+      (λ c. activeUntil c ≤ lastMinute 0 (h .orders) + totalTime (s .tail) (h .orders))
+      (λ c. Fit (s .tail) (h .clock) c × (activeUntil c ≤ lastMinute 0 (h .orders) + totalTime (s .tail) (h .orders)))
       (λ c p q. (p, q))
       hs
       (known .invariant .fit)
@@ -126,15 +126,16 @@ module _ (s : State) (h : Past) (hs : List Charge) (known : Known s h hs) where
 
   count-said :
       (cs : List Charge) (l t : ℕ)
+      → Each (Fit (s .tail) (h .clock)) cs
       → Each (Said h (unfinishedCharges (h .clock) hs)) cs
       → count (map (loadOf step h) (ordersOf cs)) l t ≡ count (loadsOf cs) l t
-  count-said [] l t e = refl
-  count-said (c ∷ cs) l t e = rw (e .0 .start, count-said cs l t (e .1))
+  count-said [] l t f e = refl
+  count-said (c ∷ cs) l t f e = rw (count-said cs l t (f .1) (e .1), e .0 .start, known .tail, ← f .0 .active)
 
   count-history : (l t : ℕ) → countIn step h l t ≡ count (loadsOf hs) l t
   count-history l t =
       subst (λ (os : List Order). count (map (loadOf step h) os) l t ≡ count (loadsOf hs) l t) (known .invariant .orders)
-      (count-said hs l t said)
+      (count-said hs l t (known .invariant .fit) said)
 
   only-ours :
       (t : ℕ)
@@ -186,6 +187,7 @@ unmoved-orders s here there cs ds p q r =
 fresh-known : (x : Settings) → Known (fresh x) (beginning (fresh x)) []
 fresh-known x =
     record {
+      tail = refl;
       station = refl;
       invariant =
           record {
@@ -207,11 +209,11 @@ opening-known x = go (firstOf (openRefusals x))
   where
     given : ℕ → State
     given i =
-        answering i (fresh (settings 1 100)) [] (record { answer = opened (fresh x .bound); state = fresh x; list = [] }) .state
+        answering i (fresh (settings 1 100 0)) [] (record { answer = opened (fresh x .bound); state = fresh x; list = [] }) .state
 
     go : (i : ℕ) → Known (given i) (beginning (given i)) []
     go zero = fresh-known x
-    go (suc i) = fresh-known (settings 1 100)
+    go (suc i) = fresh-known (settings 1 100 0)
 
 -- what is known after calls to a station on which nothing was known
 module _ (s : State) (calls : List Call) (known : Known s (beginning s) []) where

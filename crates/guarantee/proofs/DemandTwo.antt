@@ -9,7 +9,7 @@ use lib.ListN.{length}
 use borrow.Author.Tests.{leb-true, ltb-true, le-leb, lt-ltb}
 use Rattle.rules.specs.Basics.{Each, firstOf}
 use Rattle.rules.specs.Load.{sound}
-use Rattle.rules.specs.Charge.{Charge, endOf, waitingCharges, lateness}
+use Rattle.rules.specs.Charge.{Charge, activeUntil, waitingCharges, lateness}
 use Rattle.rules.specs.Replan.{Proposal, starts, none, latest, Replanned, byLines}
 use Rattle.rules.specs.Judgement.{restarted, judged}
 use Rattle.rules.specs.Calls.{Settings, State, limitsOf, refused, planned, Result, answering, Call, offer, replanLatest, replanLines, lent, refusals, decided, tested, offering, replanningLatest, replanningLines, granted, step}
@@ -32,10 +32,10 @@ use Rattle.guarantee.proofs.DemandOne.{reached-valid}
 unbroken : (c : Charge) → Unbroken c
 unbroken c t = (
   (λ e. (
-    leb-true (c .start) t (and-left (leb (c .start) t) (ltb t (endOf c)) e),
-    ltb-true t (endOf c) (and-right (leb (c .start) t) (ltb t (endOf c)) e),
+    leb-true (c .start) t (and-left (leb (c .start) t) (ltb t (activeUntil c)) e),
+    ltb-true t (activeUntil c) (and-right (leb (c .start) t) (ltb t (activeUntil c)) e),
   )),
-  (λ p. and-both (leb (c .start) t) (ltb t (endOf c)) (le-leb (c .start) t (p .0)) (lt-ltb t (endOf c) (p .1))),
+  (λ p. and-both (leb (c .start) t) (ltb t (activeUntil c)) (le-leb (c .start) t (p .0)) (lt-ltb t (activeUntil c) (p .1))),
 )
 
 pub each-unbroken : (cs : List Charge) → Each Unbroken cs
@@ -58,7 +58,7 @@ module _ (s : State) (valid : ValidState s) (ss : List ℕ) where
             (restarted-each (λ c. (c .orderMinute ≤ s .clock) × (c .orderMinute ≤ c .start))
             (λ c u h p. (p .0, omega (arith, p .0)))
             (restarted-is (s .clock) (s .charges) ss (m .none-early))
-            (each-map (ValidCharge (limitsOf s) (s .clock) (s .next)) (λ c. (c .orderMinute ≤ s .clock) × (c .orderMinute ≤ c .start))
+            (each-map (ValidCharge (limitsOf s) (s .tail) (s .clock) (s .next)) (λ c. (c .orderMinute ≤ s .clock) × (c .orderMinute ≤ c .start))
             (λ c v. (v .ordered, v .not-early))
             (s .charges)
             (valid .each)));

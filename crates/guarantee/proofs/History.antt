@@ -7,7 +7,7 @@ use native.Mathlib.Omega.{arith}
 use borrow.Author.Tests.{ltb-false, leb-true, leb-false, lt-leb}
 use Rattle.rules.specs.Basics.{Each, keep}
 use Rattle.rules.specs.Load.{count}
-use Rattle.rules.specs.Charge.{Charge, starting, endOf, loadOf, loadsOf, isBegun, isFinished, unfinishedCharges, lastEnd}
+use Rattle.rules.specs.Charge.{Charge, starting, endOf, activeUntil, loadOf, loadsOf, isBegun, isFinished, unfinishedCharges, lastEnd}
 use Rattle.rules.specs.Judgement.{restarted}
 use Rattle.rules.proofs.Lists.{each-map, each-keep}
 use Rattle.rules.proofs.Counts.{draws-before}
@@ -22,9 +22,10 @@ orderOf c = record { ticket = c .ticket; line = c .line; minute = c .orderMinute
 abbrev pub ordersOf : List Charge → List Order
 ordersOf cs = map orderOf cs
 
--- what holds of each charge of the history at clock k
-pub record Fit (k : ℕ) (c : Charge) : Type 0 where
+-- what holds of each charge of the history at clock k; r is that of the station
+pub record Fit (r k : ℕ) (c : Charge) : Type 0 where
   pub lasts : 1 ≤ c .time
+  pub active : c .activeTime ≡ c .time + r
   pub known : c .orderMinute ≤ k
   pub not-early : c .orderMinute ≤ c .start
 
@@ -44,8 +45,8 @@ unfinished-later k m (c ∷ cs) h = go (isFinished k c) (isFinished m c) refl re
         → unfinishedCharges m (unfinishedCharges k (c ∷ cs)) ≡ unfinishedCharges m (c ∷ cs)
     go true true p q ih = rw (p, q, ih)
     go true false p q ih =
-        let i : endOf c ≤ k = leb-true (endOf c) k p in
-        let j : m < endOf c = leb-false (endOf c) m q in
+        let i : activeUntil c ≤ k = leb-true (activeUntil c) k p in
+        let j : m < activeUntil c = leb-false (activeUntil c) m q in
         absurd (omega arith)
     go false true p q ih = rw (p, q, ih)
     go false false p q ih = rw (p, q, ih)
@@ -57,9 +58,9 @@ lastEnd-keep f b cs e =
     (each-map (λ c. (endOf c ≤ b) × (f c ≡ true)) (λ c. endOf c ≤ b) (λ c p. p .0) (keep f cs)
     (each-keep (λ c. endOf c ≤ b) f cs e))
 
--- the last end of the unfinished charges bounds each end after the clock
+-- the last end of the unfinished charges bounds the end of each
 pub unfinished-lastEnd :
-    (k b : ℕ) (cs : List Charge) → lastEnd (unfinishedCharges k cs) ≤ b → Each (λ c. k < endOf c → endOf c ≤ b) cs
+    (k b : ℕ) (cs : List Charge) → lastEnd (unfinishedCharges k cs) ≤ b → Each (λ c. k < activeUntil c → endOf c ≤ b) cs
 unfinished-lastEnd k b [] h = tt
 unfinished-lastEnd k b (c ∷ cs) h = go (isFinished k c) refl h (unfinished-lastEnd k b cs)
   where
@@ -67,9 +68,9 @@ unfinished-lastEnd k b (c ∷ cs) h = go (isFinished k c) refl h (unfinished-las
         (x : Bool)
         → isFinished k c ≡ x
         → lastEnd (cond (not x) (c ∷ unfinishedCharges k cs) (unfinishedCharges k cs)) ≤ b
-        → (lastEnd (unfinishedCharges k cs) ≤ b → Each (λ c. k < endOf c → endOf c ≤ b) cs)
-        → (k < endOf c → endOf c ≤ b) × Each (λ c. k < endOf c → endOf c ≤ b) cs
-    go true p u ih = let q : endOf c ≤ k = leb-true (endOf c) k p in ((λ j. absurd (omega arith)), ih u)
+        → (lastEnd (unfinishedCharges k cs) ≤ b → Each (λ c. k < activeUntil c → endOf c ≤ b) cs)
+        → (k < activeUntil c → endOf c ≤ b) × Each (λ c. k < activeUntil c → endOf c ≤ b) cs
+    go true p u ih = let q : activeUntil c ≤ k = leb-true (activeUntil c) k p in ((λ j. absurd (omega arith)), ih u)
     go false p u ih = ((λ j. omega arith), ih (omega arith))
 
 -- New starts for waiting charges
@@ -101,16 +102,16 @@ restarted-count (other {c = c} {s = s} i j r) l t h =
 
 -- new starts for the held charges are new starts for the history
 pub restarted-unfinished :
-    (k : ℕ) (cs : List Charge) (ss : List ℕ)
-    → Each (Fit k) cs
+    (r k : ℕ) (cs : List Charge) (ss : List ℕ)
+    → Each (Fit r k) cs
     → Each (λ s. k ≤ s) ss
     → restarted k (unfinishedCharges k cs) ss ≡ unfinishedCharges k (restarted k cs ss)
-restarted-unfinished k [] ss f e = refl
-restarted-unfinished k (c ∷ cs) [] f e = restarted-nothing k (unfinishedCharges k (c ∷ cs))
-restarted-unfinished k (c ∷ cs) (s ∷ ss) f e =
+restarted-unfinished r k [] ss f e = refl
+restarted-unfinished r k (c ∷ cs) [] f e = restarted-nothing k (unfinishedCharges k (c ∷ cs))
+restarted-unfinished r k (c ∷ cs) (s ∷ ss) f e =
     go (isFinished k c) (isBegun k c) refl refl
-    (restarted-unfinished k cs (s ∷ ss) (f .1) e)
-    (restarted-unfinished k cs ss (f .1) (e .1))
+    (restarted-unfinished r k cs (s ∷ ss) (f .1) e)
+    (restarted-unfinished r k cs ss (f .1) (e .1))
   where
     go :
         (b d : Bool)
@@ -121,12 +122,10 @@ restarted-unfinished k (c ∷ cs) (s ∷ ss) f e =
         → restarted k (unfinishedCharges k (c ∷ cs)) (s ∷ ss) ≡ unfinishedCharges k (restarted k (c ∷ cs) (s ∷ ss))
     go true true p q u v = rw (p, q, p, u)
     go true false p q u v =
-        let j : endOf c ≤ k = leb-true (endOf c) k p in
+        let j : activeUntil c ≤ k = leb-true (activeUntil c) k p in
         let i : k ≤ c .start = ltb-false (c .start) k q in
-        let o : 1 ≤ c .time = f .0 .lasts in
-        absurd (omega arith)
+        absurd (omega (arith, f .0 .lasts, f .0 .active))
     go false true p q u v = rw (p, q, p, u)
     go false false p q u v =
         let j : k ≤ s = e .0 in
-        let o : 1 ≤ c .time = f .0 .lasts in
-        rw (p, q, lt-leb (s + c .time) k (omega arith), v)
+        rw (p, q, lt-leb (s + c .activeTime) k (omega (arith, f .0 .lasts, f .0 .active)), v)

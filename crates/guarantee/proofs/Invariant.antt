@@ -9,25 +9,25 @@ use lib.ListN.{length, length-append}
 use borrow.Author.Tests.{le-ltb}
 use Rattle.rules.specs.Basics.{Each, keep}
 use Rattle.rules.specs.Load.{Limits, counts, lastUntil, sound}
-use Rattle.rules.specs.Charge.{drawOf, Charge, endOf, loadOf, loadsOf, isFinished, unfinishedCharges, lastEnd}
+use Rattle.rules.specs.Charge.{drawOf, Charge, endOf, activeUntil, loadOf, loadsOf, isFinished, unfinishedCharges, lastEnd}
 use Rattle.rules.specs.Search.{added}
 use Rattle.rules.specs.Judgement.{restarted}
 use Rattle.rules.specs.Calls.{isPassed, startBefore, reported, pairs}
 use Rattle.rules.specs.Valid.{Rising}
 use Rattle.rules.proofs.Ranges.{below-or-not}
-use Rattle.rules.proofs.Lists.{map-append, each-map, each-append}
+use Rattle.rules.proofs.Lists.{map-append, each-map, each-append, keep-each}
 use Rattle.rules.proofs.Counts.{Sound, sound-same, sound-from, count-append, draws-before}
 use Rattle.rules.proofs.Judgements.{Meets}
 use Rattle.rules.proofs.Tickets.{rising-append}
-use Rattle.rules.proofs.Ends.{last-until, count-unfinished}
+use Rattle.rules.proofs.Ends.{until-each, count-unfinished}
 use Rattle.rules.proofs.Restarts.{restarted-rising, Restarted, restarted-is, restarted-each}
 use Rattle.guarantee.specs.Past.{Order, Report, firstPairs, Numbered, totalTime, lastMinute}
 use Rattle.guarantee.proofs.Each.{each-two}
 use Rattle.guarantee.proofs.History.{orderOf, ordersOf, Fit, lastEnd-keep, unfinished-lastEnd, restarted-unfinished, restarted-orders, restarted-count}
 use Rattle.guarantee.proofs.Reports.{Worth, sumReports, sumBegun, sumReports-append, sumBegun-append, sum-sorted, sum-pairs, sum-passed, sum-restarted}
 
--- y: limit and bound; k: the clock; os: the accepted orders; hs: the history; rs: the reports
-pub record Invariant (y : Limits) (k : ℕ) (os : List Order) (hs : List Charge) (rs : List Report) : Type 0 where
+-- y: limit and bound; r: the tail; k: the clock; os: the accepted orders; hs: the history; rs: the reports
+pub record Invariant (y : Limits) (r k : ℕ) (os : List Order) (hs : List Charge) (rs : List Report) : Type 0 where
   -- the accepted orders
   pub numbered : Numbered 1 os
   pub last : lastMinute 0 os ≤ k
@@ -35,8 +35,9 @@ pub record Invariant (y : Limits) (k : ℕ) (os : List Order) (hs : List Charge)
   pub orders : ordersOf hs ≡ os
   pub rising : Rising 1 hs
   pub given : Each (λ c. c .ticket ≤ length os) hs
-  pub fit : Each (Fit k) hs
-  pub in-time : Each (λ c. endOf c ≤ lastMinute 0 os + totalTime os) hs
+  pub fit : Each (Fit r k) hs
+  -- more than demand 3 asks: a charge draws up to r minutes after its end, and the next one starts behind that
+  pub in-time : Each (λ c. activeUntil c ≤ lastMinute 0 os + totalTime r os) hs
   -- every minute, gone or to come
   pub always : (t : ℕ) → Sound y (counts (loadsOf hs) t)
   pub reports : (f : Worth) → sumReports f rs ≡ sumBegun f k hs
@@ -51,15 +52,15 @@ numbered-append :
 numbered-append i [] o n e = (omega arith, tt)
 numbered-append i (x ∷ os) o n e = (n .0, numbered-append (suc i) os o (n .1) (omega arith))
 
-totalTime-append : (os ps : List Order) → totalTime (os ++ ps) ≡ totalTime os + totalTime ps
-totalTime-append [] ps = omega arith
-totalTime-append (o ∷ os) ps = rw (totalTime-append os ps) (omega arith)
+totalTime-append : (r : ℕ) (os ps : List Order) → totalTime r (os ++ ps) ≡ totalTime r os + totalTime r ps
+totalTime-append r [] ps = omega arith
+totalTime-append r (o ∷ os) ps = rw (totalTime-append r os ps) (omega arith)
 
 lastMinute-append : (m : ℕ) (os : List Order) (o : Order) → lastMinute m (os ++ (o ∷ [])) ≡ o .minute
 lastMinute-append m [] o = refl
 lastMinute-append m (x ∷ os) o = lastMinute-append (x .minute) os o
 
-module _ (y : Limits) (k : ℕ) (os : List Order) (hs : List Charge) (rs : List Report) (inv : Invariant y k os hs rs) where
+module _ (y : Limits) (r k : ℕ) (os : List Order) (hs : List Charge) (rs : List Report) (inv : Invariant y r k os hs rs) where
   -- An order
 
   module _
@@ -67,6 +68,7 @@ module _ (y : Limits) (k : ℕ) (os : List Order) (hs : List Charge) (rs : List 
       (ticket : c .ticket ≡ suc (length os))
       (minute : c .orderMinute ≡ k)
       (lasts : 1 ≤ c .time)
+      (active : c .activeTime ≡ c .time + r)
       (low : k ≤ c .start)
       (high : c .start < k + suc (lastUntil (loadsOf (unfinishedCharges k hs)) - k))
       (ok : sound y k (added (loadsOf (unfinishedCharges k hs)) (drawOf c) (c .start)) ≡ true)
@@ -95,23 +97,24 @@ module _ (y : Limits) (k : ℕ) (os : List Order) (hs : List Charge) (rs : List 
       order-last : lastMinute 0 (os ++ (orderOf c ∷ [])) ≡ k
       order-last = lastMinute-append 0 os (orderOf c) ∙ minute
 
-      order-total : totalTime (os ++ (orderOf c ∷ [])) ≡ totalTime os + c .time
-      order-total = rw (totalTime-append os (orderOf c ∷ [])) (omega arith)
+      order-total : totalTime r (os ++ (orderOf c ∷ [])) ≡ totalTime r os + c .activeTime
+      order-total = rw (totalTime-append r os (orderOf c ∷ [])) (omega (arith, active))
 
-      order-in-time : Each (λ x. endOf x ≤ k + (totalTime os + c .time)) (hs ++ (c ∷ []))
+      order-in-time : Each (λ x. activeUntil x ≤ k + (totalTime r os + c .activeTime)) (hs ++ (c ∷ []))
       order-in-time =
-          let e : lastEnd (unfinishedCharges k hs) ≤ lastMinute 0 os + totalTime os
-          = lastEnd-keep _ (lastMinute 0 os + totalTime os) hs (inv .in-time) in
-          each-append (λ x. endOf x ≤ k + (totalTime os + c .time)) hs (c ∷ [])
+          let e : lastUntil (loadsOf (unfinishedCharges k hs)) ≤ lastMinute 0 os + totalTime r os
+          = until-each (lastMinute 0 os + totalTime r os) (unfinishedCharges k hs)
+          (keep-each (λ x. activeUntil x ≤ lastMinute 0 os + totalTime r os) (λ x. not (isFinished k x)) hs (inv .in-time)) in
+          each-append (λ x. activeUntil x ≤ k + (totalTime r os + c .activeTime)) hs (c ∷ [])
           (each-map
-          (λ x. endOf x ≤ lastMinute 0 os + totalTime os)
-          (λ x. endOf x ≤ k + (totalTime os + c .time))
+          (λ x. activeUntil x ≤ lastMinute 0 os + totalTime r os)
+          (λ x. activeUntil x ≤ k + (totalTime r os + c .activeTime))
           (λ x h. omega (arith, inv .last))
           hs
           (inv .in-time))
-          (omega (arith, inv .last, last-until (unfinishedCharges k hs)), tt)
+          (omega (arith, inv .last), tt)
 
-      pub after-order : Invariant y k (os ++ (orderOf c ∷ [])) (hs ++ (c ∷ [])) rs
+      pub after-order : Invariant y r k (os ++ (orderOf c ∷ [])) (hs ++ (c ∷ [])) rs
       after-order =
           record {
             numbered = numbered-append 1 os (orderOf c) (inv .numbered) (omega arith);
@@ -126,8 +129,8 @@ module _ (y : Limits) (k : ℕ) (os : List Order) (hs : List Charge) (rs : List 
                 (each-map (λ x. x .ticket ≤ length os) (λ x. x .ticket ≤ length os + 1) (λ x h. omega arith) hs (inv .given))
                 (omega arith, tt));
             fit =
-                each-append (Fit k) hs (c ∷ []) (inv .fit)
-                (record { lasts = lasts; known = omega arith; not-early = omega arith }, tt);
+                each-append (Fit r k) hs (c ∷ []) (inv .fit)
+                (record { lasts = lasts; active = active; known = omega arith; not-early = omega arith }, tt);
             in-time = rw (order-last, order-total) order-in-time;
             always = order-always;
             reports =
@@ -139,7 +142,7 @@ module _ (y : Limits) (k : ℕ) (os : List Order) (hs : List Charge) (rs : List 
   pub after-move :
       (m : ℕ) (rest : List ℕ)
       → k ≤ m
-      → Invariant y m os hs
+      → Invariant y r m os hs
       (rs
       ++ firstPairs (length (reported k m (unfinishedCharges k hs)))
       (pairs (reported k m (unfinishedCharges k hs)) ++ rest))
@@ -151,8 +154,8 @@ module _ (y : Limits) (k : ℕ) (os : List Order) (hs : List Charge) (rs : List 
         rising = inv .rising;
         given = inv .given;
         fit =
-            each-map (Fit k) (Fit m)
-            (λ x f. record { lasts = f .lasts; known = omega arith; not-early = f .not-early })
+            each-map (Fit r k) (Fit r m)
+            (λ x f. record { lasts = f .lasts; active = f .active; known = omega arith; not-early = f .not-early })
             hs
             (inv .fit);
         in-time = inv .in-time;
@@ -165,7 +168,7 @@ module _ (y : Limits) (k : ℕ) (os : List Order) (hs : List Charge) (rs : List 
               sum-sorted f startBefore (keep (isPassed k m) (unfinishedCharges k hs)),
               inv .reports f,
             )
-            (sum-passed f k m hs h (inv .fit));
+            (sum-passed f r k m hs h (inv .fit));
       }
 
   -- A plan that is taken
@@ -178,7 +181,7 @@ module _ (y : Limits) (k : ℕ) (os : List Order) (hs : List Charge) (rs : List 
       plan-restarted = restarted-is k hs ss (ok .none-early)
 
       pub plan-held : restarted k (unfinishedCharges k hs) ss ≡ unfinishedCharges k (restarted k hs ss)
-      plan-held = restarted-unfinished k hs ss (inv .fit) (ok .none-early)
+      plan-held = restarted-unfinished r k hs ss (inv .fit) (ok .none-early)
 
       plan-always : (t : ℕ) → Sound y (counts (loadsOf (restarted k hs ss)) t)
       plan-always t = go (below-or-not t k)
@@ -195,37 +198,47 @@ module _ (y : Limits) (k : ℕ) (os : List Order) (hs : List Charge) (rs : List 
               (λ l j. rw plan-held (sym (count-unfinished k (restarted k hs ss) l t h)))
               (record { limit = ok .limit t h; balance = ok .balance t h })
 
-      -- ends of unfinished charges are bounded by the last end, ends of finished ones did not change
-      plan-in-time : (b : ℕ) → Each (λ c. endOf c ≤ b) hs → Each (λ c. endOf c ≤ b) (restarted k hs ss)
+      -- The ends of unfinished charges are bounded by the last end, and "Cause 4 compares s + p": since every charge draws r
+      -- minutes longer, they draw no longer than the held ones did. Finished charges did not change.
+      plan-in-time : (b : ℕ) → Each (λ c. activeUntil c ≤ b) hs → Each (λ c. activeUntil c ≤ b) (restarted k hs ss)
       plan-in-time b e =
           each-two
-          (λ c. (1 ≤ c .time) × (endOf c ≤ k → endOf c ≤ b))
-          (λ c. k < endOf c → endOf c ≤ b)
-          (λ c. endOf c ≤ b)
-          (λ c p q. go c (below-or-not k (endOf c)) (p .1) q)
+          (λ c. Lasts c × (activeUntil c ≤ k → activeUntil c ≤ b))
+          (λ c. k < activeUntil c → endOf c ≤ b - r)
+          (λ c. activeUntil c ≤ b)
+          (λ c p q. go c (below-or-not k (activeUntil c)) (p .0) (p .1) q)
           (restarted k hs ss)
           (restarted-each
-          (λ c. (1 ≤ c .time) × (endOf c ≤ k → endOf c ≤ b))
-          (λ c s h p. (p .0, λ q. absurd (omega arith)))
+          (λ c. Lasts c × (activeUntil c ≤ k → activeUntil c ≤ b))
+          (λ c s h p. (p .0, λ q. absurd (omega (arith, p .0))))
           plan-restarted
-          (each-two (Fit k) (λ c. endOf c ≤ b) (λ c. (1 ≤ c .time) × (endOf c ≤ k → endOf c ≤ b))
-          (λ c f h. (f .lasts, λ q. h))
+          (each-two (Fit r k) (λ c. activeUntil c ≤ b) (λ c. Lasts c × (activeUntil c ≤ k → activeUntil c ≤ b))
+          (λ c f h. ((f .lasts, f .active), λ q. h))
           hs
           (inv .fit)
           e))
-          (unfinished-lastEnd k b (restarted k hs ss)
-          (rw (← plan-held) (omega (arith, ok .not-later, lastEnd-keep (λ c. not (isFinished k c)) b hs e))))
+          (unfinished-lastEnd k (b - r) (restarted k hs ss)
+          (rw (← plan-held) (omega (arith, ok .not-later, lastEnd-keep (λ c. not (isFinished k c)) (b - r) hs ends))))
         where
+          Lasts : Charge → Type 0
+          Lasts c = (1 ≤ c .time) × (c .activeTime ≡ c .time + r)
+
+          ends : Each (λ c. endOf c ≤ b - r) hs
+          ends =
+              each-two (Fit r k) (λ c. activeUntil c ≤ b) (λ c. endOf c ≤ b - r) (λ c f h. omega (arith, f .active)) hs
+              (inv .fit) e
+
           go :
               (c : Charge)
-              → (k < endOf c) ⊎ (endOf c ≤ k)
-              → (endOf c ≤ k → endOf c ≤ b)
-              → (k < endOf c → endOf c ≤ b)
-              → endOf c ≤ b
-          go c (inl h) p q = q h
-          go c (inr h) p q = p h
+              → (k < activeUntil c) ⊎ (activeUntil c ≤ k)
+              → Lasts c
+              → (activeUntil c ≤ k → activeUntil c ≤ b)
+              → (k < activeUntil c → endOf c ≤ b - r)
+              → activeUntil c ≤ b
+          go c (inl h) f p q = omega (arith, f .0, f .1, q h)
+          go c (inr h) f p q = p h
 
-      pub after-plan : Invariant y k os (restarted k hs ss) rs
+      pub after-plan : Invariant y r k os (restarted k hs ss) rs
       after-plan =
           record {
             numbered = inv .numbered;
@@ -234,11 +247,11 @@ module _ (y : Limits) (k : ℕ) (os : List Order) (hs : List Charge) (rs : List 
             rising = restarted-rising 1 plan-restarted (inv .rising);
             given = restarted-each (λ c. c .ticket ≤ length os) (λ c s h g. g) plan-restarted (inv .given);
             fit =
-                restarted-each (Fit k)
-                (λ c s h f. record { lasts = f .lasts; known = f .known; not-early = omega (arith, f .known) })
+                restarted-each (Fit r k)
+                (λ c s h f. record { lasts = f .lasts; active = f .active; known = f .known; not-early = omega (arith, f .known) })
                 plan-restarted
                 (inv .fit);
-            in-time = plan-in-time (lastMinute 0 os + totalTime os) (inv .in-time);
+            in-time = plan-in-time (lastMinute 0 os + totalTime r os) (inv .in-time);
             always = plan-always;
             reports = λ f. inv .reports f ∙ sym (sum-restarted f plan-restarted);
           }

@@ -8,7 +8,7 @@ use native.Mathlib.Omega.{arith}
 use lib.ListN.{length}
 use borrow.Author.Tests.{ltb-true, ltb-false, leb-true, le-ltb, le-leb, lt-leb}
 use Rattle.rules.specs.Basics.{Each, keep, insertBy, sortedBy}
-use Rattle.rules.specs.Charge.{Charge, endOf, isBegun, isFinished, unfinishedCharges}
+use Rattle.rules.specs.Charge.{Charge, activeUntil, isBegun, isFinished, unfinishedCharges}
 use Rattle.rules.specs.Calls.{isPassed, pairs}
 use Rattle.rules.proofs.Restarts.{Restarted, empty, same, other}
 use Rattle.guarantee.specs.Past.{Report, firstPairs}
@@ -71,13 +71,13 @@ sum-pairs f (x ∷ xs) rest = rw (sum-pairs f xs rest)
 
 -- a clock move reports what it passes
 pub sum-passed :
-    (f : Worth) (k m : ℕ) (cs : List Charge)
+    (f : Worth) (r k m : ℕ) (cs : List Charge)
     → k ≤ m
-    → Each (Fit k) cs
+    → Each (Fit r k) cs
     → sumBegun f k cs + sumCharges f (keep (isPassed k m) (unfinishedCharges k cs)) ≡ sumBegun f m cs
-sum-passed f k m [] h e = refl
-sum-passed f k m (c ∷ cs) h e =
-    go (isBegun k c) (isBegun m c) (isFinished k c) refl refl refl (sum-passed f k m cs h (e .1))
+sum-passed f r k m [] h e = refl
+sum-passed f r k m (c ∷ cs) h e =
+    go (isBegun k c) (isBegun m c) (isFinished k c) refl refl refl (sum-passed f r k m cs h (e .1))
   where
     go :
         (a b d : Bool)
@@ -87,21 +87,20 @@ sum-passed f k m (c ∷ cs) h e =
         → sumBegun f k cs + sumCharges f (keep (isPassed k m) (unfinishedCharges k cs)) ≡ sumBegun f m cs
         → sumBegun f k (c ∷ cs) + sumCharges f (keep (isPassed k m) (unfinishedCharges k (c ∷ cs)))
         ≡ sumBegun f m (c ∷ cs)
-    go true true false p q r ih = rw (p, q, r, lt-leb k (c .start) (ltb-true (c .start) k p)) (omega arith)
-    go true true true p q r ih = rw (p, q, r) (omega arith)
-    go true false d p q r ih =
+    go true true false p q u ih = rw (p, q, u, lt-leb k (c .start) (ltb-true (c .start) k p)) (omega arith)
+    go true true true p q u ih = rw (p, q, u) (omega arith)
+    go true false d p q u ih =
         let i : c .start < k = ltb-true (c .start) k p in
         let j : m ≤ c .start = ltb-false (c .start) m q in
         absurd (omega arith)
-    go false true false p q r ih =
-        rw (p, q, r, le-leb k (c .start) (ltb-false (c .start) k p), q) (omega arith)
-    go false false false p q r ih =
-        rw (p, q, r, le-leb k (c .start) (ltb-false (c .start) k p), q) (omega arith)
-    go false b true p q r ih =
+    go false true false p q u ih =
+        rw (p, q, u, le-leb k (c .start) (ltb-false (c .start) k p), q) (omega arith)
+    go false false false p q u ih =
+        rw (p, q, u, le-leb k (c .start) (ltb-false (c .start) k p), q) (omega arith)
+    go false b true p q u ih =
         let i : k ≤ c .start = ltb-false (c .start) k p in
-        let j : endOf c ≤ k = leb-true (endOf c) k r in
-        let o : 1 ≤ c .time = e .0 .lasts in
-        absurd (omega arith)
+        let j : activeUntil c ≤ k = leb-true (activeUntil c) k u in
+        absurd (omega (arith, e .0 .lasts, e .0 .active))
 
 -- a taken plan changes nothing that is begun
 pub sum-restarted : (f : Worth) {k : ℕ} {cs ds : List Charge} → Restarted k cs ds → sumBegun f k ds ≡ sumBegun f k cs

@@ -33,6 +33,7 @@ stationOf s k os hs =
       limit = s .limit;
       percent = s .percent;
       bound = s .bound;
+      tail = s .tail;
       clock = k;
       next = suc (length os);
       charges = unfinishedCharges k hs;
@@ -79,7 +80,7 @@ pub record Next (s : State) (k : ℕ) (os : List Order) (hs : List Charge) (rs :
       r .state
       ≡ stationOf s (learnt k c (r .answer) (r .list) .clock) (os ++ learnt k c (r .answer) (r .list) .orders) now
   pub invariant :
-      Invariant (limitsOf s)
+      Invariant (limitsOf s) (s .tail)
       (learnt k c (r .answer) (r .list) .clock)
       (os ++ learnt k c (r .answer) (r .list) .orders)
       now
@@ -98,14 +99,14 @@ refused-learnt k j (enquire ticket) list = refl
 
 module _
     (s : State) (k : ℕ) (os : List Order) (hs : List Charge) (rs : List Report)
-    (inv : Invariant (limitsOf s) k os hs rs)
+    (inv : Invariant (limitsOf s) (s .tail) k os hs rs)
   where
     -- other starts, and nothing else
     becomes :
         (c : Call) (r : Result) (ds : List Charge)
         → learnt k c (r .answer) (r .list) ≡ nothingNew k
         → r .state ≡ stationOf s k os ds
-        → Invariant (limitsOf s) k os ds rs
+        → Invariant (limitsOf s) (s .tail) k os ds rs
         → Grown k hs ds
         → Next s k os hs rs c r
     becomes c r ds e y i g =
@@ -137,9 +138,9 @@ module _
         go zero q =
             let ok = judged-meets (limitsOf s) k (unfinishedCharges k hs) ss q in
             becomes c _ (restarted k hs ss) (e _)
-            (rw (plan-held (limitsOf s) k os hs rs inv ss ok))
-            (after-plan (limitsOf s) k os hs rs inv ss ok)
-            (grown-restarted (plan-restarted (limitsOf s) k os hs rs inv ss ok))
+            (rw (plan-held (limitsOf s) (s .tail) k os hs rs inv ss ok))
+            (after-plan (limitsOf s) (s .tail) k os hs rs inv ss ok)
+            (grown-restarted (plan-restarted (limitsOf s) (s .tail) k os hs rs inv ss ok))
         go (suc j) q = stays c _ (e _) refl
     tested-next c rounds (none cause) list e = stays c _ (e _) refl
 
@@ -165,13 +166,13 @@ module _
           station =
               rw (
                 keep-append (λ c. not (isFinished k c)) hs (new ∷ []),
-                lt-leb (start + p) k (omega (arith, r .low)),
+                lt-leb (start + (p + s .tail)) k (omega (arith, r .low)),
                 length-append os (orderOf new ∷ []),
                 add-one,
               );
           invariant =
               rw (append-nil rs)
-              (after-order (limitsOf s) k os hs rs inv new refl refl lasts (r .low) (r .high) (r .here));
+              (after-order (limitsOf s) (s .tail) k os hs rs inv new refl refl lasts refl (r .low) (r .high) (r .here));
           grown = grown-append k hs (new ∷ []);
         }
 
@@ -194,7 +195,7 @@ module _
           station = rw (append-nil os, unfinished-later k target hs h);
           invariant =
               rw (append-nil os)
-              (after-move (limitsOf s) k os hs rs inv target _ h);
+              (after-move (limitsOf s) (s .tail) k os hs rs inv target _ h);
           grown = grown-refl k hs;
         }
     granted-next (offer ss) q = tested-next (offer ss) 0 (starts ss) ss (λ a. refl)
@@ -225,8 +226,9 @@ module _
 
 -- what is known after some calls, and the history behind it
 pub record Known (s : State) (h : Past) (hs : List Charge) : Type 0 where
+  pub tail : h .tail ≡ s .tail
   pub station : h .station ≡ stationOf s (h .clock) (h .orders) hs
-  pub invariant : Invariant (limitsOf s) (h .clock) (h .orders) hs (h .reports)
+  pub invariant : Invariant (limitsOf s) (s .tail) (h .clock) (h .orders) hs (h .reports)
 
 -- from one past to a later one
 pub record Reach (s : State) (h : Past) (hs : List Charge) (g : Past) : Type 0 where
@@ -244,7 +246,7 @@ reach-one s h hs c known =
     = rw (known .station) (step-next s (h .clock) (h .orders) hs (h .reports) (known .invariant) c) in
     record {
       now = x .now;
-      known = record { station = x .station; invariant = x .invariant };
+      known = record { tail = known .tail; station = x .station; invariant = x .invariant };
       later = x .later;
       grown = x .grown;
     }

@@ -7,7 +7,7 @@ use native.Mathlib.Omega.{arith}
 use lib.Dec.{eqb}
 use borrow.Author.Tests.{eqb-true, lt-ltb, le-ltb, le-leb, lt-leb, eq-eqb, ne-eqb}
 use Rattle.rules.specs.Basics.{Each, some}
-use Rattle.rules.specs.Charge.{Charge, endOf, isBegun, isFinished, unfinishedCharges}
+use Rattle.rules.specs.Charge.{Charge, endOf, activeUntil, isBegun, isFinished, unfinishedCharges}
 use Rattle.rules.specs.Calls.{State, told, refused, waiting, charging, enquire, enquiring, step}
 use Rattle.rules.specs.Valid.{Rising}
 use Rattle.rules.proofs.Ranges.{or-left, or-right}
@@ -176,21 +176,20 @@ told-none k t i (c ∷ cs) r h =
 -- what the held charges tell of a charge of the history
 pub record Told (k : ℕ) (held : List Charge) (c : Charge) : Type 0 where
   pub waits : k ≤ c .start → told k held (c .ticket) ≡ waiting (c .start) (c .rate)
-  pub charges : c .start < k → k < endOf c → told k held (c .ticket) ≡ charging (c .start) (endOf c) (c .rate)
-  pub finished : endOf c ≤ k → told k held (c .ticket) ≡ refused 15
+  pub charges : c .start < k → k < activeUntil c → told k held (c .ticket) ≡ charging (c .start) (endOf c) (c .rate)
+  pub finished : activeUntil c ≤ k → told k held (c .ticket) ≡ refused 15
 
 pub told-each :
-    (k i : ℕ) (cs : List Charge) → Rising i cs → Each (Fit k) cs → Each (Told k (unfinishedCharges k cs)) cs
-told-each k i [] r f = tt
-told-each k i (c ∷ cs) r f = (
+    (r k i : ℕ) (cs : List Charge) → Rising i cs → Each (Fit r k) cs → Each (Told k (unfinishedCharges k cs)) cs
+told-each r k i [] o f = tt
+told-each r k i (c ∷ cs) o f = (
   record {
     waits =
         λ h.
-        let o : 1 ≤ c .time = f .0 .lasts in
-        rw (lt-leb (endOf c) k (omega arith), eq-eqb (c .ticket) (c .ticket) refl, le-ltb (c .start) k h);
-    charges = λ h j. rw (lt-leb (endOf c) k j, eq-eqb (c .ticket) (c .ticket) refl, lt-ltb (c .start) k h);
+        rw (lt-leb (activeUntil c) k (omega (arith, f .0 .lasts, f .0 .active)), eq-eqb (c .ticket) (c .ticket) refl, le-ltb (c .start) k h);
+    charges = λ h j. rw (lt-leb (activeUntil c) k j, eq-eqb (c .ticket) (c .ticket) refl, lt-ltb (c .start) k h);
     finished =
-        λ h. rw (le-leb (endOf c) k h) (told-none k (c .ticket) (suc (c .ticket)) cs (r .1) (omega arith));
+        λ h. rw (le-leb (activeUntil c) k h) (told-none k (c .ticket) (suc (c .ticket)) cs (o .1) (omega arith));
   },
   each-two
       (λ d. suc (c .ticket) ≤ d .ticket)
@@ -205,6 +204,6 @@ told-each k i (c ∷ cs) r f = (
         finished = λ j. e ∙ a .finished j;
       })
       cs
-      (rising-from (suc (c .ticket)) cs (r .1))
-      (told-each k (suc (c .ticket)) cs (r .1) (f .1)),
+      (rising-from (suc (c .ticket)) cs (o .1))
+      (told-each r k (suc (c .ticket)) cs (o .1) (f .1)),
 )

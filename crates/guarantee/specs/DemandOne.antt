@@ -41,9 +41,9 @@ pub record DemandOne (gives : Gives) (s : State) (call : Call) : Type 0 where
   -- "No other call is refused, and every call returns."
   pub answered : NoneApplies (refusals s call) → AnswerTo call (gives s call .answer)
 
--- an opening: refusals 1 to 3, "beside a refused opening stands the fresh station of 1, 100";
+-- an opening: refusals 1 to 3 and 19, "beside a refused opening stands the fresh station of 1, 100", with r 0;
 -- `opens` is what an opening gives
 pub record DemandOneOpening (opens : Settings → Result) (x : Settings) : Type 0 where
-  pub refused-by : RefusedBy (openRefusals x) (fresh (settings 1 100)) [] (opens x)
+  pub refused-by : RefusedBy (openRefusals x) (fresh (settings 1 100 0)) [] (opens x)
   pub answered :
       NoneApplies (openRefusals x) → (opens x .answer ≡ opened (fresh x .bound)) × (opens x .state ≡ fresh x)

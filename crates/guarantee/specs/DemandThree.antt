@@ -7,14 +7,15 @@ use lib.Dec.{eqb}
 use Rattle.rules.specs.Basics.{Each, some}
 use Rattle.rules.specs.Load.{IsLine}
 use Rattle.rules.specs.Calls.{State, refused, waiting, charging, Call}
-use Rattle.guarantee.specs.Past.{Gives, Order, Past, past, timesReported, enquiry, startOf, endOf, countIn, Numbered, totalTime, lastMinute}
+use Rattle.guarantee.specs.Past.{Gives, Order, Past, past, timesReported, enquiry, startOf, endOf, activeUntil, countIn, Numbered, totalTime, lastMinute}
 
 -- What is claimed of one accepted order.
 pub record Kept (gives : Gives) (h : Past) (o : Order) : Type 0 where
   -- "not before its order minute"
   pub not-early : o .minute ≤ startOf gives h o
-  -- "No charge ends later than the last minute in which an order was accepted plus the charging times of all accepted orders."
-  pub in-time : endOf gives h o ≤ lastMinute 0 (h .orders) + totalTime (h .orders)
+  -- "No charge ends later than the last minute in which an order was accepted plus the charging times of all accepted orders",
+  -- with r for each of these
+  pub in-time : endOf gives h o ≤ lastMinute 0 (h .orders) + totalTime (h .tail) (h .orders)
   -- "An order whose start is below the clock has been reported once."
   pub reported : startOf gives h o < h .clock → timesReported (h .reports) (o .ticket) ≡ 1
   -- "Any other order has never been reported,"
@@ -22,10 +23,11 @@ pub record Kept (gives : Gives) (h : Past) (o : Order) : Type 0 where
   -- "and an enquiry finds it waiting", with its rate.
   pub waits : h .clock ≤ startOf gives h o → enquiry gives h (o .ticket) ≡ waiting (startOf gives h o) (o .rate)
   -- "An enquiry finds a begun order charging until it is finished, with its reported start, and that start + p as the end;"
+  -- in its tail too, where this end is at or below the clock
   pub charges :
-      startOf gives h o < h .clock → h .clock < endOf gives h o → enquiry gives h (o .ticket) ≡ charging (startOf gives h o) (endOf gives h o) (o .rate)
+      startOf gives h o < h .clock → h .clock < activeUntil gives h o → enquiry gives h (o .ticket) ≡ charging (startOf gives h o) (endOf gives h o) (o .rate)
   -- "for a finished one the answer is refusal 15."
-  pub finished : endOf gives h o ≤ h .clock → enquiry gives h (o .ticket) ≡ refused 15
+  pub finished : activeUntil gives h o ≤ h .clock → enquiry gives h (o .ticket) ≡ refused 15
 
 -- "if an order's start is below the clock after some first part of the list, the order has the same start after the whole list":
 -- here is what is known after the first part, there what is known after the whole list
@@ -34,7 +36,8 @@ Unmoved gives here there o = startOf gives here o < here .clock → startOf give
 
 -- The whole claim, for a station, the list of calls made from it, and what a call gives.
 pub record DemandThree (gives : Gives) (s : State) (calls : List Call) : Type 0 where
-  -- "in every minute, gone or to come under the plan held, no line has more than its limit charging", of the weighted counts
+  -- "in every minute, gone or to come under the plan held, no line has more than its limit charging", of the weighted counts and
+  -- with the tails counted
   pub limit : (l t : ℕ) → IsLine l → countIn gives (past gives s calls) l t ≤ s .limit
   -- "and no two lines differ by more than the bound"
   pub balance :

@@ -6,7 +6,7 @@ use mathlib.Core.Bool.{true}
 use mathlib.Core.List.{List, map}
 use Rattle.rules.specs.Basics.{Each}
 use Rattle.rules.specs.Load.{Load, Draw, active, count, IsLine}
-use Rattle.rules.specs.Charge.{Charge, starting, endOf, loadOf, loadsOf, begunCharges, waitingCharges, lastEnd, lateness}
+use Rattle.rules.specs.Charge.{Charge, starting, activeUntil, loadOf, loadsOf, begunCharges, waitingCharges, lastEnd, lateness}
 use Rattle.rules.specs.Search.{added}
 use Rattle.rules.specs.Replan.{Proposal, starts, none, latest, byLines}
 use Rattle.rules.specs.Judgement.{restarted, judged}
@@ -23,12 +23,12 @@ pub record SoundPlan (s : State) (xs : List Load) : Type 0 where
   -- IV: "each two counts differ by at most D"
   pub balance : (l m t : ℕ) → IsLine l → IsLine m → s .clock ≤ t → count xs l t ≤ count xs m t + s .bound
 
--- constraint II: a charge is active from its start to its end, and in no other minute. It holds of every charge, since a
--- charge has one start and one time: a list of starts cannot ask for a break. It says that the minutes which `count` takes
--- are these. That answers show no break is `charges` of demand 3: an enquiry gives one start and one end at every clock
--- between them.
+-- constraint II: a charge is active from its start to its end and the r minutes of its tail, and in no other minute. It holds
+-- of every charge, since a charge has one start and one time: a list of starts cannot ask for a break. It says that the
+-- minutes which `count` takes are these. That answers show no break is `charges` of demand 3: an enquiry gives one start and
+-- one end at every clock from its start until it is finished.
 abbrev pub Unbroken : Charge → Type 0
-Unbroken c = (t : ℕ) → (active (loadOf c) t ≡ true) ↔ ((c .start ≤ t) × (t < endOf c))
+Unbroken c = (t : ℕ) → (active (loadOf c) t ≡ true) ↔ ((c .start ≤ t) × (t < activeUntil c))
 
 -- What demand 2 asks of a list of starts; `new` is the held charges, the waiting ones with these starts.
 pub record Better (s : State) (ss : List ℕ) (new : List Charge) : Type 0 where

@@ -1,4 +1,4 @@
--- The three demands, for every N and c that an opening may be given, refused ones too, and every list of calls with any
+-- The three demands, for every N, c and r that an opening may be given, refused ones too, and every list of calls with any
 -- arguments and any lent lists.
 use Prim.Native.Nat.{ℕ}
 use mathlib.Core.List.{List}

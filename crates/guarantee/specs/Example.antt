@@ -10,7 +10,7 @@ use Rattle.rules.specs.Search.{earliest}
 use Rattle.rules.specs.Replan.{placeAll, latest}
 use Rattle.rules.specs.Judgement.{judged}
 use Rattle.rules.specs.Calls.{settings, refused, waiting, charging, preview, commit, move, offer, replanLatest, enquire, opening, previewing, committing, moving, offering, replanningLatest, enquiring, step}
-use Rattle.guarantee.specs.Past.{Order, Past, past, timesReported, enquiry, startOf, countIn, totalTime, lastMinute}
+use Rattle.guarantee.specs.Past.{Order, Past, past, timesReported, enquiry, startOf, activeUntil, countIn, totalTime, lastMinute}
 
 -- N = D = 1. The orders of case h, replanned: ticket 2
 -- charges on line 1 from 0 to 10, ticket 1 waits for 10. At clock 1 there come ticket 3, on line 2 from 1 to 5 and due at 0,
@@ -19,7 +19,7 @@ use Rattle.guarantee.specs.Past.{Order, Past, past, timesReported, enqui
 -- tickets 2 and 3 are dropped.
 abbrev example : Past
 example =
-    past step (opening (settings 1 100) .state)
+    past step (opening (settings 1 100 0) .state)
     (commit 1 10 60 1 0
     ∷ commit 1 10 15 1 10
     ∷ replanLatest
@@ -67,7 +67,7 @@ example-counts :
     × (map (countIn step example 2) (0 ∷ 1 ∷ 4 ∷ 5 ∷ []) ≡ 0 ∷ 1 ∷ 1 ∷ 0 ∷ [])
     × (map (countIn step example 3) (0 ∷ 1 ∷ 12 ∷ 13 ∷ []) ≡ 0 ∷ 1 ∷ 1 ∷ 0 ∷ [])
     × (lastMinute 0 (example .orders) ≡ 1)
-    × (totalTime (example .orders) ≡ 36)
+    × (totalTime 0 (example .orders) ≡ 36)
 unfolding limited balanced sound earliest placeAll latest judged opening previewing committing moving offering replanningLatest enquiring
 example-counts = (refl, refl, refl, refl, refl)
 
@@ -75,7 +75,7 @@ example-counts = (refl, refl, refl, refl, refl)
 -- first and the last are dropped, and still counted.
 abbrev rated : Past
 rated =
-    past step (opening (settings 2 100) .state)
+    past step (opening (settings 2 100 0) .state)
     (commit 1 10 60 2 0 ∷ commit 1 10 60 1 10 ∷ commit 2 5 60 2 0 ∷ move 10 (replicate 360 7) ∷ [])
 
 rated-counts :
@@ -85,3 +85,18 @@ rated-counts :
     × (map (countIn step rated 2) (0 ∷ 4 ∷ 5 ∷ []) ≡ 2 ∷ 2 ∷ 0 ∷ [])
 unfolding limited balanced sound earliest opening committing moving enquiring
 rated-counts = (refl, refl, refl, refl)
+
+-- N = D = 1 and r = 2: two charges on line 1, from 0 to 10 and from 12 to 22. At clock 11 the first one is in its tail: it is
+-- charging, with an end below the clock, and counts up to minute 12.
+abbrev tailed : Past
+tailed =
+    past step (opening (settings 1 100 2) .state)
+    (commit 1 10 60 1 0 ∷ commit 1 10 60 1 12 ∷ move 11 (replicate 360 7) ∷ [])
+
+tailed-counts :
+    (map (enquiry step tailed) (1 ∷ 2 ∷ []) ≡ charging 0 10 1 ∷ waiting 12 1 ∷ [])
+    × (map (activeUntil step tailed) (tailed .orders) ≡ 12 ∷ 24 ∷ [])
+    × (map (countIn step tailed 1) (0 ∷ 11 ∷ 12 ∷ 23 ∷ 24 ∷ []) ≡ 1 ∷ 1 ∷ 1 ∷ 1 ∷ 0 ∷ [])
+    × (totalTime (tailed .tail) (tailed .orders) ≡ 24)
+unfolding limited balanced sound earliest opening committing moving enquiring
+tailed-counts = (refl, refl, refl, refl)

@@ -99,9 +99,10 @@ learnt clock (enquire ticket) a list = nothingNew clock
 abbrev pub Gives : Type 0
 Gives = State → Call → Result
 
--- the clock, all accepted orders and all reports, in the order of the calls;
+-- r as it was opened with, the clock, all accepted orders and all reports, in the order of the calls;
 -- the station left serves for the next call and for enquiries only
 pub record Past : Type 0 where
+  pub tail : ℕ
   pub clock : ℕ
   pub orders : List Order
   pub reports : List Report
@@ -109,12 +110,13 @@ pub record Past : Type 0 where
 
 -- "0 before one"
 abbrev pub beginning : State → Past
-beginning s = record { clock = 0; orders = []; reports = []; station = s }
+beginning s = record { tail = s .tail; clock = 0; orders = []; reports = []; station = s }
 
 abbrev pub extended : Past → Call → Result → Past
 extended h c r =
     let new : Learnt = learnt (h .clock) c (r .answer) (r .list) in
     record {
+      tail = h .tail;
       clock = new .clock;
       orders = h .orders ++ new .orders;
       reports = h .reports ++ new .reports;
@@ -153,9 +155,13 @@ startOf gives h o = reportedStart (h .reports) (o .ticket) (startIn (enquiry giv
 abbrev pub endOf : Gives → Past → Order → ℕ
 endOf gives h o = startOf gives h o + o .time
 
--- "each active from its start as above", unbroken for its full time
+-- s + p + r, from which on it draws nothing: it "is finished when s + p + r is at or below the clock"
+abbrev pub activeUntil : Gives → Past → Order → ℕ
+activeUntil gives h o = endOf gives h o + h .tail
+
+-- "each active from its start as above", unbroken for its full time and "for r minutes after its end"
 abbrev pub loadOf : Gives → Past → Order → Load
-loadOf gives h o = loadFrom (draw (o .line) (o .time) (o .rate)) (startOf gives h o)
+loadOf gives h o = loadFrom (draw (o .line) (o .time + h .tail) (o .rate)) (startOf gives h o)
 
 -- "A line's count in a minute takes all accepted orders of the list, dropped ones too", each with its rate: "What members were
 -- promised for every minute is from then on a promise about these weighted counts."
@@ -167,10 +173,10 @@ abbrev pub Numbered : ℕ → List Order → Type 0
 Numbered i [] = Unit {0}
 Numbered i (o ∷ os) = (o .ticket ≡ i) × Numbered (suc i) os
 
--- "the charging times of all accepted orders"
-abbrev pub totalTime : List Order → ℕ
-totalTime [] = 0
-totalTime (o ∷ os) = o .time + totalTime os
+-- "the charging times of all accepted orders": "The ceiling on ends gains r for each accepted order."
+abbrev pub totalTime : ℕ → List Order → ℕ
+totalTime r [] = 0
+totalTime r (o ∷ os) = o .time + r + totalTime r os
 
 -- "the order minute of the last accepted order", m without one
 abbrev pub lastMinute : ℕ → List Order → ℕ

@@ -27,7 +27,7 @@ sound-near y clock begun placed x s e =
 
 module _ {limit bound clock : ℕ} {c : Charges} {q : Places} {k : ℕ} {p : Profile} {starts : List ℕ}
     (r : Ready clock limit bound c) (u : Queue clock c q)
-    (v : PlacedSoFar (soundStart (limits limit bound) clock (begunOf clock c)) clock c q k p starts) (low : k < q .count) (w : When) (e : EarliestStart p limit bound (chargeIn c q k .line) (chargeIn c q k .time) (chargeIn c q k .rate) w) where
+    (v : PlacedSoFar (soundStart (limits limit bound) clock (begunOf clock c)) clock c q k p starts) (low : k < q .count) (w : When) (e : EarliestStart p limit bound (chargeIn c q k .line) (chargeIn c q k .activeTime) (chargeIn c q k .rate) w) where
   found : soundStart (limits limit bound) clock (begunOf clock c) (v .placed) (chargeIn c q k) ≡ foundAt w
   found = earliest-shows e clock (loadsOf (begunOf clock c ++ v .placed)) (v .plan .shows)
 
@@ -36,14 +36,14 @@ module _ {limit bound clock : ℕ} {c : Charges} {q : Places} {k : ℕ} {p : Pro
   sound-stuck g = next-stuck (r .listed) u v low (found ∙ ap foundAt g)
 
   module _ {s : ℕ} (g : w ≡ Minute s) where
-    pub sound-can-add : {rate : ℕ} → IsRate rate → CanAdd p (chargeIn c q k .time) rate s
+    pub sound-can-add : {rate : ℕ} → IsRate rate → CanAdd p (chargeIn c q k .activeTime) rate s
     sound-can-add =
         next-can-add (r .listed) u v low (sound-near (limits limit bound) clock (begunOf clock c))
         (found ∙ ap foundAt g)
 
     pub sound-placed :
         {p′ : Profile} {rate : ℕ}
-        → LoadAdded p p′ (chargeIn c q k .line) (chargeIn c q k .time) rate s
+        → LoadAdded p p′ (chargeIn c q k .line) (chargeIn c q k .activeTime) rate s
         → rate ≡ chargeIn c q k .rate
         → PlacedSoFar (soundStart (limits limit bound) clock (begunOf clock c)) clock c q (k + 1) p′ (set starts (placeAt q k) s)
     sound-placed a whole =

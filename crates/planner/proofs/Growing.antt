@@ -35,16 +35,16 @@ grown begun placed x s =
 module _ {clock : ℕ} {c : Charges} {placed : List Charge} {p : Profile} {starts : List ℕ} (h : Listed c)
     (v : PlanShown clock c placed p starts) (i s : ℕ) (low : i < c .held)
     (near : s ≤ max clock (lastUntil (loadsOf (begunOf clock c ++ placed)))) where
-  pub plan-can-add : {rate : ℕ} → length (begunOf clock c) + length placed < 180 → IsRate rate → CanAdd p (chargeAt c i .time) rate s
+  pub plan-can-add : {rate : ℕ} → length (begunOf clock c) + length placed < 180 → IsRate rate → CanAdd p (chargeAt c i .activeTime) rate s
   plan-can-add {rate} few rated =
-      shown-can-add (v .shows) (chargeAt c i .time) rate s
+      shown-can-add (v .shows) (chargeAt c i .activeTime) rate s
       (omega (
         arith,
         length-loads-of (begunOf clock c ++ placed),
         length-append (begunOf clock c) placed,
       ))
       rated
-      (omega (arith, near, v .ends, h .small i low .time-most))
+      (omega (arith, near, v .ends, h .small i low .active-most))
 
   module _ (fresh : Missing (chargeAt c i .ticket) placed) where
     stored-on :
@@ -69,7 +69,7 @@ module _ {clock : ℕ} {c : Charges} {placed : List Charge} {p : Profile} {start
 
     pub plan-on :
         {next : Profile} {rate : ℕ}
-        → LoadAdded p next (chargeAt c i .line) (chargeAt c i .time) rate s
+        → LoadAdded p next (chargeAt c i .line) (chargeAt c i .activeTime) rate s
         → rate ≡ chargeAt c i .rate
         → PlanShown clock c (placed ++ (starting (chargeAt c i) s ∷ [])) next (set starts i s)
     plan-on a whole =
@@ -88,6 +88,6 @@ module _ {clock : ℕ} {c : Charges} {placed : List Charge} {p : Profile} {start
                 last-added (loadsOf (begunOf clock c ++ placed)) (drawOf (chargeAt c i)) s,
                 near,
                 v .ends,
-                h .small i low .time-most,
+                h .small i low .active-most,
               ));
         }

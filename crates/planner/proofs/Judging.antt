@@ -8,7 +8,7 @@ use lib.Dec.{ltb}
 use borrow.Author.Tests.{lt-ltb, le-ltb}
 use Rattle.rules.specs.Basics.{some}
 use Rattle.rules.specs.Load.{limits, IsRate, limitAt, fromOn}
-use Rattle.rules.specs.Charge.{endOf, begunCharges, loadsOf, lastEnd, lateness}
+use Rattle.rules.specs.Charge.{Charge, starting, endOf, begunCharges, loadsOf, lastEnd, lateness}
 use Rattle.rules.specs.Search.{firstUnbalanced}
 use Rattle.rules.specs.Judgement.{restarted, judged}
 use Rattle.rules.proofs.Lists.{each-tabulate, tabulate-each}
@@ -34,8 +34,8 @@ module _ (next : Charges) {c : Charges} {x y : ℕ} (listed : Listed c) (ex : x 
   end-most i low =
       omega (arith, end-below-last (chargeAt next) (next .held) 0 i (omega arith) (omega arith), last-end-most listed, ex, ey)
 
-  pub ends-fit : EndsFit next
-  ends-fit i low = omega (arith, end-most i low)
+  pub ends-fit : ((i : ℕ) → i < next .held → chargeAt next i .activeTime ≤ 1445) → EndsFit next
+  ends-fit active i low = (omega (arith, end-most i low), omega (arith, end-most i low, active i low))
 
   shows-next :
       {p : Profile} {clock : ℕ}
@@ -43,15 +43,28 @@ module _ (next : Charges) {c : Charges} {x y : ℕ} (listed : Listed c) (ex : x 
       → Shows p clock (loadsOf (chargesOf next))
   shows-next s = rw (all-before next 4294967295 (λ i low. omega (arith, end-most i low))) at s
 
--- The new plan has the rates of the held one
+-- The new plan has the rates and active times of the held one
 
-pub next-rated : {c next : Charges} (clock : ℕ) (ss : List ℕ) → Listed c → Holds (restarted clock (chargesOf c) ss) next → Rated next
-next-rated {c} {next} clock ss listed h i low =
-    tabulate-each (λ x. IsRate (x .rate)) (chargeAt next) (next .held) 0
-    (rw (h .charges)
-    (each-restarted (λ x. IsRate (x .rate)) (λ x s r. r) clock (chargesOf c) ss
-    (each-tabulate (λ x. IsRate (x .rate)) (chargeAt c) (c .held) 0 (λ j p q. listed .small j (omega arith) .is-rate))))
-    i (omega arith) (omega arith)
+module _ {c next : Charges} (clock : ℕ) (ss : List ℕ) (listed : Listed c) (h : Holds (restarted clock (chargesOf c) ss) next) where
+  next-each :
+      (P : Charge → Type 0)
+      → ((x : Charge) (s : ℕ) → P x → P (starting x s))
+      → ((i : ℕ) → i < c .held → P (chargeAt c i))
+      → (i : ℕ)
+      → i < next .held
+      → P (chargeAt next i)
+  next-each P other each i low =
+      tabulate-each P (chargeAt next) (next .held) 0
+      (rw (h .charges)
+      (each-restarted P other clock (chargesOf c) ss
+      (each-tabulate P (chargeAt c) (c .held) 0 (λ j p q. each j (omega arith)))))
+      i (omega arith) (omega arith)
+
+  pub next-rated : Rated next
+  next-rated = next-each (λ x. IsRate (x .rate)) (λ x s r. r) (λ i low. listed .small i low .is-rate)
+
+  pub next-active : (i : ℕ) → i < next .held → chargeAt next i .activeTime ≤ 1445
+  next-active = next-each (λ x. x .activeTime ≤ 1445) (λ x s r. r) (λ i low. listed .small i low .active-most)
 
 -- The causes but for lateness
 

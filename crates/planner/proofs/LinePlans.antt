@@ -136,8 +136,8 @@ pub record LineSoFar (cap : Caps) (clock : ℕ) (c : Charges) (line : ℕ) (left
   pub number : q .number ≡ length (onLine line (waitingOf clock c))
   pub total : q .total ≡ totalTime (onLine line (waitingOf clock c))
   pub some : 0 < n → 1 ≤ q .total
-  pub one : LongestOf (c .times) (c .rates) left n 1 (q .«longest_one»)
-  pub two : LongestOf (c .times) (c .rates) left n 2 (q .«longest_two»)
+  pub one : LongestOf (c .«active_times») (c .rates) left n 1 (q .«longest_one»)
+  pub two : LongestOf (c .«active_times») (c .rates) left n 2 (q .«longest_two»)
 
 -- the queue has places of held charges
 pub queue-inside : {c : Charges} {xs : List Charge} {queue : Places} → Listed c → Ordered c xs queue → Inside queue
@@ -153,7 +153,11 @@ module _ {c : Charges} {line : ℕ} {left : List ℕ} {n : ℕ} {rest : List Cha
   left-fits = record { few = v .few; inside = λ j b. omega (arith, v .inside j b, h .columns .few) }
 
   pub left-short : ShortTimes (c .times) left n
-  left-short j b = let s = h .small (getD left j 0) (v .inside j b) in (s .time-low, s .time-most)
+  left-short j b = let s = h .small (getD left j 0) (v .inside j b) in (s .time-low, omega (arith, s .time-most))
+
+  pub left-active : ShortTimes (c .«active_times») left n
+  left-active j b =
+      let s = h .small (getD left j 0) (v .inside j b) in (omega (arith, s .time-low, s .active-least), s .active-most)
 
   -- none is below the shortest of either rate
   pub least-of :
@@ -179,7 +183,7 @@ total-some (x ∷ cs) e l = omega (arith, e .0)
 module _ {cap : Caps} {clock : ℕ} {c : Charges} {before line : ℕ} {p : Profile} {byPlace : List ℕ} {queue own : Places} {q : code.Crowd}
     {least from : ℕ} (h : Listed c) (next : line ≡ before + 1) (d : LinesDone cap clock c before p byPlace)
     (o : InOrder clock c queue) (l : Lists (keep (isOnLine (c .lines) line) (placesOf queue)) own)
-    (k : Counted (c .times) (c .rates) (own .places) (own .count) q) (short : (j : ℕ) → j < own .count → least ≤ numberOf (c .times) (own .places) j)
+    (k : Counted (c .times) (c .«active_times») (c .rates) (own .places) (own .count) q) (short : (j : ℕ) → j < own .count → least ≤ numberOf (c .times) (own .places) j)
     (start : from ≡ clock) where
   pub line-start : LineSoFar cap clock c line (own .places) (own .count) p byPlace q least from
   line-start =
@@ -261,10 +265,10 @@ module _ {cap : Caps} {caps : LineCaps} {clock : ℕ} {c : Charges} {line : ℕ}
           room,
         )
 
-    pub can-next : ((i : ℕ) → i < c .held → (l t : ℕ) → chargeAt c i .rate ≤ cap l t) → CanNext p caps line (c .times) (c .dues) (c .rates) left n q least from
+    pub can-next : ((i : ℕ) → i < c .held → (l t : ℕ) → chargeAt c i .rate ≤ cap l t) → CanNext p caps line (c .times) (c .«active_times») (c .dues) (c .rates) left n q least from
     can-next enough =
         record {
-          can-start = shown-can-start (v .plan .shows) 1440 few (omega (arith, v .plan .ends, room));
+          can-start = shown-can-start (v .plan .shows) 1445 few (omega (arith, v .plan .ends, room));
           on-line = on;
           whole = shown .size;
           capped = λ j b. can-cap caps cap line (numberOf (c .rates) left j) shown on (λ t. enough (getD left j 0) (v .are .inside j b) line t);
@@ -280,6 +284,7 @@ module _ {cap : Caps} {caps : LineCaps} {clock : ℕ} {c : Charges} {line : ℕ}
                 in-order = in-order;
               };
           short = left-short h (v .are);
+          active = left-active h (v .are);
           rated = λ j b. h .small (getD left j 0) (v .are .inside j b) .is-rate;
           one = v .one;
           two = v .two;
@@ -297,7 +302,7 @@ module _ {cap : Caps} {caps : LineCaps} {clock : ℕ} {c : Charges} {line : ℕ}
               h .columns .few,
             )
 
-    module _ {t : Next} (r : NextIs p caps line (c .times) (c .dues) (c .rates) left n q from t) where
+    module _ {t : Next} (r : NextIs p caps line (c .times) (c .«active_times») (c .dues) (c .rates) left n q from t) where
       abbrev who : Charge
       who = leftAt c left (t .place)
 
@@ -312,15 +317,15 @@ module _ {cap : Caps} {caps : LineCaps} {clock : ℕ} {c : Charges} {line : ℕ}
       pub next-below : getD left (t .place) 0 < 180
       next-below = omega (arith, low-place, h .columns .few)
 
-      pub next-can-add : {rate : ℕ} → IsRate rate → CanAdd p (who .time) rate (t .start)
+      pub next-can-add : {rate : ℕ} → IsRate rate → CanAdd p (who .activeTime) rate (t .start)
       next-can-add rated = plan-can-add h (v .plan) (getD left (t .place) 0) (t .start) low-place near-now (omega (arith, room)) rated
 
       pub next-rated : IsRate (who .rate)
       next-rated = h .small (getD left (t .place) 0) low-place .is-rate
 
-      module _ {after : Profile} {rate : ℕ} {left′ : List ℕ} (a : LoadAdded p after line (who .time) rate (t .start)) (whole : rate ≡ who .rate)
+      module _ {after : Profile} {rate : ℕ} {left′ : List ℕ} (a : LoadAdded p after line (who .activeTime) rate (t .start)) (whole : rate ≡ who .rate)
           (m : Removed left left′ n (t .place)) where
-        longest-next : {x most : ℕ} → LongestOf (c .times) (c .rates) left n x most → LongestOf (c .times) (c .rates) left′ (n - 1) x most
+        longest-next : {x most : ℕ} → LongestOf (c .«active_times») (c .rates) left n x most → LongestOf (c .«active_times») (c .rates) left′ (n - 1) x most
         longest-next w =
             record {
               most = w .most;
@@ -344,7 +349,7 @@ module _ {cap : Caps} {caps : LineCaps} {clock : ℕ} {c : Charges} {line : ℕ}
               are = left-next h (v .are) (r .inside) m;
               plan =
                   plan-on h (v .plan) (getD left (t .place) 0) (t .start) low-place near-now (v .fresh (t .place) (r .inside))
-                  (subst (λ (l : ℕ). LoadAdded p after l (who .time) rate (t .start)) (sym (v .are .on-line (t .place) (r .inside))) a) whole;
+                  (subst (λ (l : ℕ). LoadAdded p after l (who .activeTime) rate (t .start)) (sym (v .are .on-line (t .place) (r .inside))) a) whole;
               many = omega (arith, v .many, length-append (v .placed) (starting who (t .start) ∷ []));
               fresh = λ j b.
                   let s = stood h (v .are) (r .inside) m j b in

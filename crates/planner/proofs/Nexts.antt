@@ -28,9 +28,9 @@ run-least f time most start r m h = go (run-has f most r) (below-or-not (runOf f
     go x (inl l) = absurd (true≢false (sym (m .passes (r + runOf f most r) (omega arith) (omega arith)) ∙ x .stops (omega arith)))
     go x (inr l) = l
 
-module _ {p : Profile} {c : LineCaps} {line : ℕ} {times dues rates left : List ℕ} {n : ℕ} {q : Crowd} {least from : ℕ}
-    (can : CanNext p c line times dues rates left n q least from) where
-  runs : (most s : ℕ) → most ≤ 1440 → firstMinute p ≤ s → s + 1440 < 2 ^ 32 → CanRun p c line most s
+module _ {p : Profile} {c : LineCaps} {line : ℕ} {times actives dues rates left : List ℕ} {n : ℕ} {q : Crowd} {least from : ℕ}
+    (can : CanNext p c line times actives dues rates left n q least from) where
+  runs : (most s : ℕ) → most ≤ 1445 → firstMinute p ≤ s → s + 1445 < 2 ^ 32 → CanRun p c line most s
   runs most s h low fit =
       record { formed = can .can-start .formed; whole = can .whole; on-line = can .on-line; low = low; ends-fit = omega arith }
 
@@ -40,8 +40,8 @@ module _ {p : Profile} {c : LineCaps} {line : ℕ} {times dues rates left : List
       (runs (q .«longest_one») from (can .one .most) (can .low) (can .from-fits), runs (q .«longest_two») from (can .two .most) (can .low) (can .from-fits), can .can-choose)
 
   pub next-here :
-      {r : ℕ} → ChosenAt p c line times dues rates left n q from r → r < n
-      → NextIs p c line times dues rates left n q from (record { start = from; place = r; shortest = least })
+      {r : ℕ} → ChosenAt p c line times actives dues rates left n q from r → r < n
+      → NextIs p c line times actives dues rates left n q from (record { start = from; place = r; shortest = least })
   next-here k h =
       record {
         inside = h;
@@ -57,11 +57,11 @@ module _ {p : Profile} {c : LineCaps} {line : ℕ} {times dues rates left : List
   rate-of j h =
       ⊎-elim (λ l. inl (omega (arith, can .rated j h .low))) (λ l. inr (omega (arith, can .rated j h .high))) (below-or-not (numberOf rates left j) 2)
 
-  module _ {rate time : ℕ} (z : ShortestOf times rates left n rate time) where
-    time-most : time ≤ 1440
+  module _ {rate time : ℕ} (z : ShortestOf actives rates left n rate time) where
+    time-most : time ≤ 1445
     time-most =
         ⊎-elim
-        (λ l. let f = z .found l in omega (arith, f .time-is, can .short (f .who) (f .inside) .1))
+        (λ l. let f = z .found l in omega (arith, f .time-is, can .active (f .who) (f .inside) .1))
         (λ l. omega arith)
         (below-or-not 0 time)
 
@@ -87,7 +87,7 @@ module _ {p : Profile} {c : LineCaps} {line : ℕ} {times dues rates left : List
 
       rate-none :
           (u : ℕ) → from ≤ u → u < a → (j : ℕ) → j < n → rate ≡ numberOf rates left j
-          → Misses (roomUnder p c line (numberOf rates left j)) (numberOf times left j) u
+          → Misses (roomUnder p c line (numberOf rates left j)) (numberOf actives left j) u
       rate-none u b d j h same =
           let e = z .each j h same in
           let w = s .earliest (e .0) .least .failed u (omega arith) d in
@@ -98,7 +98,7 @@ module _ {p : Profile} {c : LineCaps} {line : ℕ} {times dues rates left : List
             fails = rw (← same) (w .fails);
           }
 
-      rate-long : (h : 1 ≤ time) (most : ℕ) → LongestOf times rates left n rate most → numberOf times left (z .found h .who) ≤ runOf (roomUnder p c line rate) most a
+      rate-long : (h : 1 ≤ time) (most : ℕ) → LongestOf actives rates left n rate most → numberOf actives left (z .found h .who) ≤ runOf (roomUnder p c line rate) most a
       rate-long h most long =
           let f = z .found h in
           omega (
@@ -107,7 +107,7 @@ module _ {p : Profile} {c : LineCaps} {line : ℕ} {times dues rates left : List
             run-least (roomUnder p c line rate) time most _ a (s .earliest h .least) (omega (arith, f .time-is, long .each (f .who) (f .inside) (f .rate-is))),
           )
 
-  module _ {one two : ℕ} (x : ShortestOf times rates left n 1 one) (y : ShortestOf times rates left n 2 two) {start : ℕ}
+  module _ {one two : ℕ} (x : ShortestOf actives rates left n 1 one) (y : ShortestOf actives rates left n 2 two) {start : ℕ}
       (m : NextStart p c line one two from start) where
     present : (1 ≤ one) ⊎ (1 ≤ two)
     present = ⊎-elim (λ e. inl (x .each 0 (can .some) e .0)) (λ e. inr (y .each 0 (can .some) e .0)) (rate-of 0 (can .some))
@@ -130,18 +130,19 @@ module _ {p : Profile} {c : LineCaps} {line : ℕ} {times dues rates left : List
             (omega (arith, m .smaller, s .0, s .1, e, can .can-start .ends-fit), omega (arith, m .smaller, s .1))
         go (inr a) (inr b) = absurd (⊎-elim (λ l. omega arith) (λ l. omega arith) present)
 
-    module _ {short : ℕ} (both : Both one two short) where
+    module _ {first second short : ℕ} (a : ShortestOf times rates left n 1 first) (b : ShortestOf times rates left n 2 second)
+        (both : Both first second short) where
       short-low : (j : ℕ) → j < n → short ≤ numberOf times left j
       short-low j h =
           ⊎-elim
-          (λ e. let r = x .each j h e in omega (arith, both .first (r .0), r .1))
-          (λ e. let r = y .each j h e in omega (arith, both .second (r .0), r .1))
+          (λ e. let r = a .each j h e in omega (arith, both .first (r .0), r .1))
+          (λ e. let r = b .each j h e in omega (arith, both .second (r .0), r .1))
           (rate-of j h)
 
       pub can-there :
           CanRun p c line (q .«longest_one») start × CanRun p c line (q .«longest_two») start × CanChoose times dues left n (q .number) (q .total) short
       can-there =
-          let fit : start + 1440 < 2 ^ 32 = omega (arith, range .1, can .can-start .ends-fit) in
+          let fit : start + 1445 < 2 ^ 32 = omega (arith, range .1, can .can-start .ends-fit) in
           let k = can .can-choose in (
             runs (q .«longest_one») start (can .one .most) (range .0) fit,
             runs (q .«longest_two») start (can .two .most) (range .0) fit,
@@ -157,8 +158,8 @@ module _ {p : Profile} {c : LineCaps} {line : ℕ} {times dues rates left : List
           )
 
       pub next-there :
-          {place : ℕ} → ChosenAt p c line times dues rates left n q start place
-          → NextIs p c line times dues rates left n q from (record { start = start; place = place; shortest = short })
+          {place : ℕ} → ChosenAt p c line times actives dues rates left n q start place
+          → NextIs p c line times actives dues rates left n q from (record { start = start; place = place; shortest = short })
       next-there {place} k =
           record {
             inside = ⊎-elim (λ h. h) (λ h. absurd (found h)) (below-or-not place n);
@@ -182,15 +183,15 @@ module _ {p : Profile} {c : LineCaps} {line : ℕ} {times dues rates left : List
           one-fits : 1 ≤ one → start ≡ m .first → n ≤ place → ⊥
           one-fits h e none =
               let f = x .found h in
-              let fits : fitsRun times rates left run-one run-two (f .who) ≡ true =
-              rw (← (f .rate-is)) (le-leb (numberOf times left (f .who)) run-one (rw e (rate-long x (m .for-one) h (q .«longest_one») (can .one)))) in
+              let fits : fitsRun actives rates left run-one run-two (f .who) ≡ true =
+              rw (← (f .rate-is)) (le-leb (numberOf actives left (f .who)) run-one (rw e (rate-long x (m .for-one) h (q .«longest_one») (can .one)))) in
               true≢false (sym fits ∙ k .none none (f .who) (f .inside))
 
           two-fits : 1 ≤ two → start ≡ m .second → n ≤ place → ⊥
           two-fits h e none =
               let f = y .found h in
-              let fits : fitsRun times rates left run-one run-two (f .who) ≡ true =
-              rw (← (f .rate-is)) (le-leb (numberOf times left (f .who)) run-two (rw e (rate-long y (m .for-two) h (q .«longest_two») (can .two)))) in
+              let fits : fitsRun actives rates left run-one run-two (f .who) ≡ true =
+              rw (← (f .rate-is)) (le-leb (numberOf actives left (f .who)) run-two (rw e (rate-long y (m .for-two) h (q .«longest_two») (can .two)))) in
               true≢false (sym fits ∙ k .none none (f .who) (f .inside))
 
           found : n ≤ place → ⊥

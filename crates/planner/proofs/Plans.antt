@@ -100,24 +100,24 @@ module _ {find : List Charge → Charge → Found} {clock : ℕ} {c : Charges} {
           u .room,
         )
 
-    pub next-can-start : CanStart p (chargeIn c q k .time)
+    pub next-can-start : CanStart p (chargeIn c q k .activeTime)
     next-can-start =
-        shown-can-start (v .plan .shows) (chargeIn c q k .time) plan-few
-        (omega (arith, v .many, v .plan .ends, u .room, h .small (placeAt q k) (next-inside h (u .places) low) .time-most))
+        shown-can-start (v .plan .shows) (chargeIn c q k .activeTime) plan-few
+        (omega (arith, v .many, v .plan .ends, u .room, h .small (placeAt q k) (next-inside h (u .places) low) .active-most))
 
     pub next-stuck : find (v .placed) (chargeIn c q k) ≡ nothing → placeAll find [] (queueFrom c q 0) ≡ stuck
     next-stuck e =
         v .whole ∙ rw turn (place-stuck find (v .placed) (chargeIn c q k) (queueFrom c q (k + 1)) e)
 
     module _ (near : Near clock (begunOf clock c) find) {s : ℕ} (found : find (v .placed) (chargeIn c q k) ≡ at s) where
-      pub next-can-add : {rate : ℕ} → IsRate rate → CanAdd p (chargeIn c q k .time) rate s
+      pub next-can-add : {rate : ℕ} → IsRate rate → CanAdd p (chargeIn c q k .activeTime) rate s
       next-can-add rated =
           plan-can-add h (v .plan) (placeAt q k) s (next-inside h (u .places) low) (near (v .placed) (chargeIn c q k) s found)
           (omega (arith, v .many, u .room)) rated
 
       pub next-placed :
           {p′ : Profile} {rate : ℕ}
-          → LoadAdded p p′ (chargeIn c q k .line) (chargeIn c q k .time) rate s
+          → LoadAdded p p′ (chargeIn c q k .line) (chargeIn c q k .activeTime) rate s
           → rate ≡ chargeIn c q k .rate
           → PlacedSoFar find clock c q (k + 1) p′ (set starts (placeAt q k) s)
       next-placed a whole =

@@ -1,6 +1,6 @@
 -- The begun charges: their profile, and the last end of a plan.
 use mathlib.Core.Path.{_≡_, refl, ap}
-use Prim.Native.Nat.{ℕ, suc, _+_, max, _≤_, _<_}
+use Prim.Native.Nat.{ℕ, suc, _+_, _^_, _≤_, _<_}
 use mathlib.Core.Bool.{Bool, true, false, cond, not}
 use mathlib.Core.List.{List, [], _∷_, _++_}
 use native.Mathlib.Omega.{arith}
@@ -8,8 +8,8 @@ use lib.ListN.{length}
 use borrow.Author.Tests.{lt-ltb, le-ltb}
 use Rattle.rules.specs.Basics.{Each, tabulate, keep}
 use Rattle.rules.specs.Load.{IsRate, lastUntil}
-use Rattle.rules.specs.Charge.{Charge, endOf, loadOf, loadsOf, lastEnd, isBegun, begunCharges, waitingCharges}
-use Rattle.rules.proofs.Lists.{map-append, length-tabulate, each-tabulate}
+use Rattle.rules.specs.Charge.{Charge, activeUntil, loadOf, loadsOf, lastEnd, isBegun, begunCharges, waitingCharges}
+use Rattle.rules.proofs.Lists.{map-append, length-tabulate, each-tabulate, keep-each}
 use Rattle.charges.specs.declared.Charges.{Charges}
 use Rattle.charges.specs.Arrays.{chargeAt, chargesOf}
 use Rattle.charges.specs.Held.{Listed}
@@ -17,7 +17,7 @@ use Rattle.charges.proofs.Walking.{keep-hit, keep-miss, keep-length}
 use Rattle.profile.specs.declared.Profile.{Profile}
 use Rattle.profile.specs.Shows.{Shows, LoadAdded, CanAdd}
 use Rattle.profile.proofs.Shown.{added-shows}
-use Rattle.rules.proofs.Ends.{last-until}
+use Rattle.rules.proofs.Ends.{until-each}
 use Rattle.planner.specs.Ready.{EndsFit, Rated}
 use Rattle.planner.proofs.Causes.{last-below}
 use Rattle.planner.proofs.Profiles.{shown-can-add}
@@ -45,14 +45,6 @@ begun-and-waiting clock (c ∷ cs) = go (isBegun clock c) (begun-and-waiting clo
     go true e = omega arith
     go false e = omega arith
 
-pub last-kept : (f : Charge → Bool) (cs : List Charge) → lastEnd (keep f cs) ≤ lastEnd cs
-last-kept f [] = omega arith
-last-kept f (c ∷ cs) = go (f c) (last-kept f cs)
-  where
-    go : (b : Bool) → lastEnd (keep f cs) ≤ lastEnd cs → lastEnd (cond b (c ∷ keep f cs) (keep f cs)) ≤ max (endOf c) (lastEnd cs)
-    go true h = omega arith
-    go false h = omega arith
-
 -- "No held time reaches 100,000,000": the ends neither, but for one charging time
 pub last-end-most : {c : Charges} → Listed c → lastEnd (chargesOf c) ≤ 100001440
 last-end-most {c} h =
@@ -61,18 +53,20 @@ last-end-most {c} h =
     let s = h .small i (omega arith) in
     omega (arith, s .start-most, s .time-most))
 
-pub begun-end-most : {c : Charges} → Listed c → (clock : ℕ) → lastUntil (loadsOf (begunCharges clock (chargesOf c))) ≤ 100001440
+-- and nothing is drawn behind them, but for one charging time and its tail
+pub begun-end-most : {c : Charges} → Listed c → (clock : ℕ) → lastUntil (loadsOf (begunCharges clock (chargesOf c))) ≤ 100001445
 begun-end-most {c} h clock =
-    omega (
-      arith,
-      last-until (begunCharges clock (chargesOf c)),
-      last-kept (isBegun clock) (chargesOf c),
-      last-end-most h,
-    )
+    until-each 100001445 (begunCharges clock (chargesOf c))
+    (keep-each (λ x. activeUntil x ≤ 100001445) (isBegun clock) (chargesOf c)
+    (each-tabulate (λ x. activeUntil x ≤ 100001445) (chargeAt c) (c .held) 0
+    (λ i p q.
+    let s = h .small i (omega arith) in
+    omega (arith, s .start-most, s .active-most))))
 
 -- every end is a number of 32 bits
 pub listed-ends : {c : Charges} → Listed c → EndsFit c
-listed-ends h i low = let s = h .small i low in omega (arith, s .start-most, s .time-most)
+listed-ends h i low =
+    let s = h .small i low in (omega (arith, s .start-most, s .time-most), omega (arith, s .start-most, s .active-most))
 
 pub listed-rates : {c : Charges} → Listed c → Rated c
 listed-rates h i low = h .small i low .is-rate
@@ -97,32 +91,34 @@ abbrev pub begunBelow : ℕ → Charges → ℕ → List Charge
 begunBelow before c i = begunCharges before (tabulate (chargeAt c) i 0)
 
 module _ (before : ℕ) (c : Charges) (i : ℕ) {clock : ℕ} {p : Profile} (s : Shows p clock (loadsOf (begunBelow before c i))) where
-  pub begun-can-add : {rate : ℕ} → c .held ≤ 180 → EndsFit c → IsRate rate → i < c .held → CanAdd p (chargeAt c i .time) rate (chargeAt c i .start)
-  begun-can-add {rate} few ends rated low =
-      shown-can-add s (chargeAt c i .time) rate (chargeAt c i .start)
+  pub begun-can-add :
+      {time rate : ℕ} → c .held ≤ 180 → chargeAt c i .start + time < 2 ^ 32 → IsRate rate → i < c .held → CanAdd p time rate (chargeAt c i .start)
+  begun-can-add {time} {rate} few fits rated low =
+      shown-can-add s time rate (chargeAt c i .start)
       (omega (
         arith,
         length-loads-of (begunBelow before c i),
         keep-length (isBegun before) (tabulate (chargeAt c) i 0),
         length-tabulate (chargeAt c) i 0,
       ))
-      rated (ends i low)
+      rated fits
 
   pub begun-on :
-      {q r : Profile} {rate : ℕ}
+      {q r : Profile} {time rate : ℕ}
       → IsRate (chargeAt c i .rate)
       → chargeAt c i .start < before
-      → LoadAdded p q (chargeAt c i .line) (chargeAt c i .time) rate (chargeAt c i .start)
+      → LoadAdded p q (chargeAt c i .line) time rate (chargeAt c i .start)
+      → time ≡ chargeAt c i .activeTime
       → rate ≡ chargeAt c i .rate
       → r ≡ q
       → Shows r clock (loadsOf (begunBelow before c (i + 1)))
-  begun-on rated j a whole e =
+  begun-on rated j a long whole e =
       rw (
         e,
         keep-hit (isBegun before) (chargeAt c) i (lt-ltb (chargeAt c i .start) before j),
         loads-append (begunBelow before c i) (chargeAt c i ∷ []),
       )
-      (added-shows rated (rw whole at a) clock (loadsOf (begunBelow before c i)) s)
+      (added-shows rated (rw (long, whole) at a) clock (loadsOf (begunBelow before c i)) s)
 
   pub begun-past : {r : Profile} → before ≤ chargeAt c i .start → r ≡ p → Shows r clock (loadsOf (begunBelow before c (i + 1)))
   begun-past j e = rw (e, keep-miss (isBegun before) (chargeAt c) i (le-ltb (chargeAt c i .start) before j)) s

@@ -66,8 +66,8 @@ picked-is fits clock xs q left s z e f = rw (e, picked) (rw f)
 module _ {cap : Caps} {caps : LineCaps} {clock : ℕ} {c : Charges} {line : ℕ} {left : List ℕ} {n : ℕ} {p : Profile} {rest : List Charge}
     {q : code.Crowd} {from : ℕ} {next : Next} (own : Crowd) (loads : List Load) (h : Listed c) (on : IsLine line)
     (shown : CapsShown caps cap) (shows : Shows p clock loads) (are : Left c line left n rest)
-    (r : NextIs p caps line (c .times) (c .dues) (c .rates) left n q from next)
-    (one : LongestOf (c .times) (c .rates) left n 1 (q .«longest_one»)) (two : LongestOf (c .times) (c .rates) left n 2 (q .«longest_two»))
+    (r : NextIs p caps line (c .times) (c .«active_times») (c .dues) (c .rates) left n q from next)
+    (one : LongestOf (c .«active_times») (c .rates) left n 1 (q .«longest_one»)) (two : LongestOf (c .«active_times») (c .rates) left n 2 (q .«longest_two»))
     (number : q .number ≡ own .number) (total : q .total ≡ own .total)
     (below : NoneBelow (fitsAt cap) clock loads rest from) (near : from ≤ max clock (lastUntil loads)) where
   abbrev s : ℕ
@@ -83,16 +83,16 @@ module _ {cap : Caps} {caps : LineCaps} {clock : ℕ} {c : Charges} {line : ℕ}
   start-near = omega (arith, r .high, near, shows .ends (p .steps - 1) (omega (arith, shows .formed .some)))
 
   -- a charge fits exactly when it is no longer than the run
-  fits-same : (j : ℕ) → j < n → fits s (leftAt c left j) ≡ fitsRun (c .times) (c .rates) left (runOf (roomUnder p caps line 1) (q .«longest_one») s) (runOf (roomUnder p caps line 2) (q .«longest_two») s) j
+  fits-same : (j : ℕ) → j < n → fits s (leftAt c left j) ≡ fitsRun (c .«active_times») (c .rates) left (runOf (roomUnder p caps line 1) (q .«longest_one») s) (runOf (roomUnder p caps line 2) (q .«longest_two») s) j
   fits-same j b =
       rw (are .on-line j b)
       (⊎-elim
       (λ l.
       let e : 1 ≡ numberOf (c .rates) left j = omega (arith, h .small (getD left j 0) (are .inside j b) .is-rate .low) in
-      rw (← e) (run-shows on shows shown 1 (numberOf (c .times) left j) (q .«longest_one») s start-low (one .each j b e)))
+      rw (← e) (run-shows on shows shown 1 (numberOf (c .«active_times») left j) (q .«longest_one») s start-low (one .each j b e)))
       (λ l.
       let e : 2 ≡ numberOf (c .rates) left j = omega (arith, h .small (getD left j 0) (are .inside j b) .is-rate .high) in
-      rw (← e) (run-shows on shows shown 2 (numberOf (c .times) left j) (q .«longest_two») s start-low (two .each j b e)))
+      rw (← e) (run-shows on shows shown 2 (numberOf (c .«active_times») left j) (q .«longest_two») s start-low (two .each j b e)))
       (below-or-not (numberOf (c .rates) left j) 2))
 
   taken-fits : fits s (leftAt c left (next .place)) ≡ true
@@ -111,7 +111,7 @@ module _ {cap : Caps} {caps : LineCaps} {clock : ℕ} {c : Charges} {line : ℕ}
       (λ x m.
       let w = are .from x m in
       rw (w .is, are .on-line (w .place) (w .inside))
-      (misses-fails on shows shown (numberOf (c .rates) left (w .place)) (numberOf (c .times) left (w .place)) u a
+      (misses-fails on shows shown (numberOf (c .rates) left (w .place)) (numberOf (c .«active_times») left (w .place)) u a
       (r .none u l b (w .place) (w .inside))))))
       (below-or-not u from)
 

@@ -17,7 +17,7 @@ pub record PlanShown (clock : ℕ) (c : Charges) (placed : List Charge) (p : Pro
   pub shows : Shows p clock (loadsOf (begunOf clock c ++ placed))
   pub stored : Stored c byPlace placed
   pub size : length byPlace ≡ 180
-  pub ends : max clock (lastUntil (loadsOf (begunOf clock c ++ placed))) ≤ 100001440 + 1440 * length placed
+  pub ends : max clock (lastUntil (loadsOf (begunOf clock c ++ placed))) ≤ 100001445 + 1445 * length placed
 
 -- every waiting charge is placed, as the rules place them
 pub record AllPlaced (result : Placed) (clock : ℕ) (c : Charges) (p : Profile) (byPlace : List ℕ) : Type 0 where

@@ -2,7 +2,7 @@
 use Prim.Native.Nat.{ℕ, _^_, _≤_, _<_}
 use mathlib.Core.List.{List}
 use Rattle.rules.specs.Load.{IsRate}
-use Rattle.rules.specs.Charge.{Charge, endOf, begunCharges}
+use Rattle.rules.specs.Charge.{Charge, endOf, activeUntil, begunCharges}
 use Rattle.charges.specs.declared.Charges.{Charges}
 use Rattle.charges.specs.Arrays.{chargeAt, chargesOf}
 use Rattle.charges.specs.Held.{Listed}
@@ -18,9 +18,9 @@ pub record Ready (clock limit bound : ℕ) (c : Charges) : Type 0 where
 abbrev pub begunOf : ℕ → Charges → List Charge
 begunOf clock c = begunCharges clock (chargesOf c)
 
--- each end is a number of 32 bits
+-- each end is a number of 32 bits, and so is the minute from which on nothing is drawn
 abbrev pub EndsFit : Charges → Type 0
-EndsFit c = (i : ℕ) → i < c .held → endOf (chargeAt c i) < 2 ^ 32
+EndsFit c = (i : ℕ) → i < c .held → (endOf (chargeAt c i) < 2 ^ 32) × (activeUntil (chargeAt c i) < 2 ^ 32)
 
 -- each rate is 1 or 2
 abbrev pub Rated : Charges → Type 0

@@ -22,7 +22,7 @@ pub fn profile_before(charges: Charges, clock: u32, before: u32) -> Profile
         let start = charges.starts[i];
         if start < before {
             let line = charges.lines[i];
-            let time = charges.times[i];
+            let time = charges.active_times[i];
             let rate = charges.rates[i];
             steps = add(&mut at, &mut counts, steps, line, time, rate, start);
         }

@@ -28,7 +28,7 @@ pub fn latest(charges: Charges, clock: u32, limit: u32, bound: u32) -> Proposed
     for k in 0..n {
         let i = queue.places[k];
         let line = charges.lines[i];
-        let time = charges.times[i];
+        let time = charges.active_times[i];
         let rate = charges.rates[i];
         let found = earliest(&at, &counts, steps, limit, bound, line, time, rate);
         let When::Minute(start) = found else {

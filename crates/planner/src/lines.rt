@@ -46,7 +46,13 @@ pub fn place_line(
     let own = queue.on_line(&charges.lines, line);
     let mut left = own.places;
     let mut n = own.count;
-    let crowd = crowd_of(&charges.times, &charges.rates, &left, n);
+    let crowd = crowd_of(
+        &charges.times,
+        &charges.active_times,
+        &charges.rates,
+        &left,
+        n,
+    );
     let one = shortest(&charges.times, &charges.rates, &left, n, 1);
     let two = shortest(&charges.times, &charges.rates, &left, n, 2);
     let mut least = shorter(one, two);
@@ -60,6 +66,7 @@ pub fn place_line(
             &caps.caps,
             line,
             &charges.times,
+            &charges.active_times,
             &charges.dues,
             &charges.rates,
             &left,
@@ -70,7 +77,7 @@ pub fn place_line(
         );
         let j = taken.place;
         let i = left[j];
-        let time = charges.times[i];
+        let time = charges.active_times[i];
         let rate = charges.rates[i];
         from = taken.start;
         least = taken.shortest;

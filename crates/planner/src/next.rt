@@ -16,8 +16,8 @@ ghost use Rattle.priority.specs.Chosen.{CanFit, CanChoose};
 ghost use Rattle.priority.specs.Crowds.{ShortTimes};
 ghost use Rattle.planner.specs.Next.{Counted, Both, ChosenAt, CanSeek, StartFor, NextStart, CanNext, NextIs};
 
-// The charges of a line that wait when the round begins: their number, their summed time, and the longest time of those of
-// rate 1 and of rate 2.
+// The charges of a line that wait when the round begins: their number, their summed time, and the longest active time of those
+// of rate 1 and of rate 2.
 pub struct Crowd {
     pub number: u32,
     pub total: u32,
@@ -34,17 +34,18 @@ pub struct Next {
 
 pub fn crowd_of<'a>(
     times: &'a [u32; PLACES],
+    active_times: &'a [u32; PLACES],
     rates: &'a [u32; PLACES],
     left: &'a [usize; PLACES],
     n: usize,
 ) -> Crowd
-    requires { ⌜ CanFit (now left) n × ShortTimes (now times) (now left) n ⌝ }
-    ensures { λ r. ⌜ Counted (now (times .entry)) (now (rates .entry)) (now (left .entry)) n r ⌝ }
+    requires { ⌜ CanFit (now left) n × ShortTimes (now times) (now left) n × ShortTimes (now «active_times») (now left) n ⌝ }
+    ensures { λ r. ⌜ Counted (now (times .entry)) (now («active_times» .entry)) (now (rates .entry)) (now (left .entry)) n r ⌝ }
 {
     let number = n as u32;
     let total = summed(times, left, n);
-    let longest_one = longest(times, rates, left, n, 1);
-    let longest_two = longest(times, rates, left, n, 2);
+    let longest_one = longest(active_times, rates, left, n, 1);
+    let longest_two = longest(active_times, rates, left, n, 2);
     Crowd {
         number,
         total,
@@ -74,6 +75,7 @@ fn chosen_at<'a>(
     caps: &'a [u32; COLUMNS * CAP_PLACES],
     line: u32,
     times: &'a [u32; PLACES],
+    active_times: &'a [u32; PLACES],
     dues: &'a [u32; PLACES],
     rates: &'a [u32; PLACES],
     left: &'a [usize; PLACES],
@@ -83,7 +85,7 @@ fn chosen_at<'a>(
     start: u32,
 ) -> usize
     requires { ⌜ CanRun (profileOf steps (now at) (now counts)) (capsIn (now caps)) line (crowd .«longest_one») start × CanRun (profileOf steps (now at) (now counts)) (capsIn (now caps)) line (crowd .«longest_two») start × CanChoose (now times) (now dues) (now left) n (crowd .number) (crowd .total) least ⌝ }
-    ensures { λ r. ⌜ ChosenAt (profileOf steps (now (at .entry)) (now (counts .entry))) (capsIn (now (caps .entry))) line (now (times .entry)) (now (dues .entry)) (now (rates .entry)) (now (left .entry)) n crowd start r ⌝ }
+    ensures { λ r. ⌜ ChosenAt (profileOf steps (now (at .entry)) (now (counts .entry))) (capsIn (now (caps .entry))) line (now (times .entry)) (now («active_times» .entry)) (now (dues .entry)) (now (rates .entry)) (now (left .entry)) n crowd start r ⌝ }
 {
     let one = run_under(at, counts, steps, caps, line, 1, crowd.longest_one, start);
     let two = run_under(at, counts, steps, caps, line, 2, crowd.longest_two, start);
@@ -91,6 +93,7 @@ fn chosen_at<'a>(
     let total = crowd.total;
     choose(
         times,
+        active_times,
         dues,
         rates,
         left,
@@ -152,6 +155,7 @@ pub fn next_charge<'a>(
     caps: &'a [u32; COLUMNS * CAP_PLACES],
     line: u32,
     times: &'a [u32; PLACES],
+    active_times: &'a [u32; PLACES],
     dues: &'a [u32; PLACES],
     rates: &'a [u32; PLACES],
     left: &'a [usize; PLACES],
@@ -160,8 +164,8 @@ pub fn next_charge<'a>(
     least: u32,
     from: u32,
 ) -> Next
-    requires { ⌜ CanNext (profileOf steps (now at) (now counts)) (capsIn (now caps)) line (now times) (now dues) (now rates) (now left) n crowd least from ⌝ }
-    ensures { λ r. ⌜ NextIs (profileOf steps (now (at .entry)) (now (counts .entry))) (capsIn (now (caps .entry))) line (now (times .entry)) (now (dues .entry)) (now (rates .entry)) (now (left .entry)) n crowd from r ⌝ }
+    requires { ⌜ CanNext (profileOf steps (now at) (now counts)) (capsIn (now caps)) line (now times) (now «active_times») (now dues) (now rates) (now left) n crowd least from ⌝ }
+    ensures { λ r. ⌜ NextIs (profileOf steps (now (at .entry)) (now (counts .entry))) (capsIn (now (caps .entry))) line (now (times .entry)) (now («active_times» .entry)) (now (dues .entry)) (now (rates .entry)) (now (left .entry)) n crowd from r ⌝ }
 {
     let here = chosen_at(
         at,
@@ -170,6 +174,7 @@ pub fn next_charge<'a>(
         caps,
         line,
         times,
+        active_times,
         dues,
         rates,
         left,
@@ -185,10 +190,12 @@ pub fn next_charge<'a>(
             shortest: least,
         };
     }
-    let one = shortest(times, rates, left, n, 1);
-    let two = shortest(times, rates, left, n, 2);
+    let one = shortest(active_times, rates, left, n, 1);
+    let two = shortest(active_times, rates, left, n, 2);
     let start = next_start(at, counts, steps, caps, line, one, two, from);
-    let short = shorter(one, two);
+    let short_one = shortest(times, rates, left, n, 1);
+    let short_two = shortest(times, rates, left, n, 2);
+    let short = shorter(short_one, short_two);
     let place = chosen_at(
         at,
         counts,
@@ -196,6 +203,7 @@ pub fn next_charge<'a>(
         caps,
         line,
         times,
+        active_times,
         dues,
         rates,
         left,

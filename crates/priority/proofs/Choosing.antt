@@ -65,19 +65,19 @@ fits-nowhere w e f =
 -- The charge that is taken
 
 -- the best of those that fit among the first j; the j-th is the next that fits
-pub record BestSoFar (times dues rates left : List ℕ) (n number total start one two best time weight j : ℕ) : Type 0 where
+pub record BestSoFar (times actives dues rates left : List ℕ) (n number total start one two best time weight j : ℕ) : Type 0 where
   pub before : best < j
   pub high : j ≤ n
-  pub fits : fitsRun times rates left one two best ≡ true
+  pub fits : fitsRun actives rates left one two best ≡ true
   pub time-is : time ≡ numberOf times left best
   pub weight-is : weight ≡ weightAt times dues left number total start best
   pub ahead :
       (i : ℕ)
       → i < j
-      → fitsRun times rates left one two i ≡ true
+      → fitsRun actives rates left one two i ≡ true
       → (i ≡ best → ⊥)
       → Ahead (weightAt times dues left number total start) (numberOf times left) best i
-  pub here : j < n → fitsRun times rates left one two j ≡ true
+  pub here : j < n → fitsRun actives rates left one two j ≡ true
 
 pub can-weigh :
     {times dues left : List ℕ} {n number total shortest j : ℕ}
@@ -94,10 +94,10 @@ can-weigh {j = j} can h =
     }
 
 pub none-fits :
-    {times dues rates left : List ℕ} {n number total start one two r : ℕ}
-    → FirstFitting times rates left n one two 0 r
+    {times actives dues rates left : List ℕ} {n number total start one two r : ℕ}
+    → FirstFitting actives rates left n one two 0 r
     → n ≤ r
-    → Choice times dues rates left n number total start one two n
+    → Choice times actives dues rates left n number total start one two n
 none-fits f h =
     record {
       high = omega arith;
@@ -107,13 +107,13 @@ none-fits f h =
     }
 
 pub best-first :
-    {times dues rates left : List ℕ} {n number total start one two best time weight j : ℕ}
-    → FirstFitting times rates left n one two 0 best
+    {times actives dues rates left : List ℕ} {n number total start one two best time weight j : ℕ}
+    → FirstFitting actives rates left n one two 0 best
     → best < n
-    → FirstFitting times rates left n one two (best + 1) j
+    → FirstFitting actives rates left n one two (best + 1) j
     → time ≡ numberOf times left best
     → weight ≡ weightAt times dues left number total start best
-    → BestSoFar times dues rates left n number total start one two best time weight j
+    → BestSoFar times actives dues rates left n number total start one two best time weight j
 best-first {best = best} f low g t w =
     record {
       before = omega (arith, g .low);
@@ -129,8 +129,8 @@ best-first {best = best} f low g t w =
       here = g .here;
     }
 
-module _ {times dues rates left : List ℕ} {n number total start one two best time weight j : ℕ}
-    (b : BestSoFar times dues rates left n number total start one two best time weight j) where
+module _ {times actives dues rates left : List ℕ} {n number total start one two best time weight j : ℕ}
+    (b : BestSoFar times actives dues rates left n number total start one two best time weight j) where
   abbrev W : ℕ → ℕ
   W = weightAt times dues left number total start
 
@@ -138,7 +138,7 @@ module _ {times dues rates left : List ℕ} {n number total start one two best t
   T = numberOf times left
 
   -- no other fits
-  pub best-done : n ≤ j → Choice times dues rates left n number total start one two best
+  pub best-done : n ≤ j → Choice times actives dues rates left n number total start one two best
   best-done h =
       record {
         high = omega (arith, b .before, b .high);
@@ -160,7 +160,7 @@ module _ {times dues rates left : List ℕ} {n number total start one two best t
         h′ = rw (← heavy-is, ← (b .weight-is), ← (b .time-is), ← next-is) h
 
     -- no later one is heavier for its time
-    pub best-stop : heavy * time ≤ weight * shortest → Choice times dues rates left n number total start one two best
+    pub best-stop : heavy * time ≤ weight * shortest → Choice times actives dues rates left n number total start one two best
     best-stop h =
         record {
           high = omega (arith, b .before, b .high);
@@ -189,9 +189,9 @@ module _ {times dues rates left : List ℕ} {n number total start one two best t
             (λ l. inr (omega (arith, one, two, h′), omega (arith, b .before)))
             (below-or-not (W i * T best) (W best * T i))
 
-    module _ {after : ℕ} (g : FirstFitting times rates left n one two (j + 1) after) where
+    module _ {after : ℕ} (g : FirstFitting actives rates left n one two (j + 1) after) where
       -- those between the j-th and the next that fits do not fit
-      looked : (i : ℕ) → i < after → fitsRun times rates left one two i ≡ true → (i < j) ⊎ (i ≡ j)
+      looked : (i : ℕ) → i < after → fitsRun actives rates left one two i ≡ true → (i < j) ⊎ (i ≡ j)
       looked i a e =
           ⊎-elim
           (λ l. inl l)
@@ -204,7 +204,7 @@ module _ {times dues rates left : List ℕ} {n number total start one two best t
 
       pub best-stays :
           heavy * time ≤ weight * next
-          → BestSoFar times dues rates left n number total start one two best time weight after
+          → BestSoFar times actives dues rates left n number total start one two best time weight after
       best-stays h =
           record {
             before = omega (arith, b .before, g .low);
@@ -219,7 +219,7 @@ module _ {times dues rates left : List ℕ} {n number total start one two best t
 
       pub best-moves :
           weight * next < heavy * time
-          → BestSoFar times dues rates left n number total start one two j next heavy after
+          → BestSoFar times actives dues rates left n number total start one two j next heavy after
       best-moves h =
           record {
             before = omega (arith, g .low);
@@ -243,7 +243,7 @@ module _ {times dues rates left : List ℕ} {n number total start one two best t
               (omega (arith, h′, ratio-onwards (W j) (T j) (W i) (T i) (W best) (T best) (can .times-low i (omega arith)) a m)))
               (below-or-not (W i * T j) (W j * T i))
 
-          earlier : (i : ℕ) → i < j → fitsRun times rates left one two i ≡ true → W i * T j < W j * T i
+          earlier : (i : ℕ) → i < j → fitsRun actives rates left one two i ≡ true → W i * T j < W j * T i
           earlier i l e = split (below-or-not i best) (below-or-not best i)
             where
               not-best : (i ≡ best → ⊥) → W i * T j < W j * T i

@@ -14,7 +14,7 @@ use Rattle.priority.specs.Crowds.{sumOf, Longer, LongestOf, Shorter, Sho
 pub sum-more : (f : ℕ → ℕ) (k : ℕ) {s : ℕ} → s ≡ sumOf f k → s + f k ≡ sumOf f (k + 1)
 sum-more f k e = rw (add-one k) (ap (λ (x : ℕ). x + f k) e)
 
-pub sum-most : (f : ℕ → ℕ) (n k : ℕ) → ((j : ℕ) → j < n → f j ≤ 1440) → k ≤ n → sumOf f k ≤ 1440 * k
+pub sum-most : (f : ℕ → ℕ) (n k : ℕ) → ((j : ℕ) → j < n → f j ≤ 1445) → k ≤ n → sumOf f k ≤ 1445 * k
 sum-most f n zero h l = omega arith
 sum-most f n (suc k) h l = omega (arith, sum-most f n k h (omega arith), h k (omega arith))
 
@@ -26,7 +26,7 @@ module _ {times rates left : List ℕ} {rate : ℕ} where
 
   pub longest-more :
       {k m r : ℕ} → LongestOf times rates left k rate m → Longer rate (numberOf rates left k) (numberOf times left k) m r
-      → numberOf times left k ≤ 1440 → LongestOf times rates left (k + 1) rate r
+      → numberOf times left k ≤ 1445 → LongestOf times rates left (k + 1) rate r
   longest-more {k} w x small =
       record {
         most = ⊎-elim (λ e. omega (arith, w .most)) (λ e. omega arith) (x .one);

@@ -65,14 +65,14 @@ pub record CanChoose (times dues left : List ℕ) (n number total shortest : ℕ
       (i j : ℕ) → i < j → j < n → numberOf dues left i + numberOf times left j ≤ numberOf dues left j + numberOf times left i
 
 -- none fits, or the one that fits and is ahead of all others that do
-pub record Choice (times dues rates left : List ℕ) (n number total start one two r : ℕ) : Type 0 where
+pub record Choice (times actives dues rates left : List ℕ) (n number total start one two r : ℕ) : Type 0 where
   pub high : r ≤ n
-  pub none : n ≤ r → (j : ℕ) → j < n → fitsRun times rates left one two j ≡ false
-  pub fits : r < n → fitsRun times rates left one two r ≡ true
+  pub none : n ≤ r → (j : ℕ) → j < n → fitsRun actives rates left one two j ≡ false
+  pub fits : r < n → fitsRun actives rates left one two r ≡ true
   pub ahead :
       r < n
       → (j : ℕ)
       → j < n
-      → fitsRun times rates left one two j ≡ true
+      → fitsRun actives rates left one two j ≡ true
       → (j ≡ r → ⊥)
       → Ahead (weightAt times dues left number total start) (numberOf times left) r j

@@ -10,9 +10,9 @@ abbrev pub sumOf : (ℕ → ℕ) → ℕ → ℕ
 sumOf f zero = 0
 sumOf f (suc k) = sumOf f k + f k
 
--- charging times
+-- charging times, or active ones
 abbrev pub ShortTimes : List ℕ → List ℕ → ℕ → Type 0
-ShortTimes times left n = (j : ℕ) → j < n → (1 ≤ numberOf times left j) × (numberOf times left j ≤ 1440)
+ShortTimes times left n = (j : ℕ) → j < n → (1 ≤ numberOf times left j) × (numberOf times left j ≤ 1445)
 
 -- r is the longer of `most` and the time, if the rates are the same
 pub record Longer (rate other time most r : ℕ) : Type 0 where
@@ -22,7 +22,7 @@ pub record Longer (rate other time most r : ℕ) : Type 0 where
 
 -- no charge of the rate is longer
 pub record LongestOf (times rates left : List ℕ) (n rate r : ℕ) : Type 0 where
-  pub most : r ≤ 1440
+  pub most : r ≤ 1445
   pub each : (j : ℕ) → j < n → rate ≡ numberOf rates left j → numberOf times left j ≤ r
 
 -- r is the shorter of `least` and the time, if the rates are the same; a `least` of 0 is none

@@ -77,6 +77,7 @@ pub fn heavier(weight: u32, time: u32, other_weight: u32, other_time: u32) -> bo
 // were as short as the shortest, no later one is.
 pub fn choose<'a>(
     times: &'a [u32; PLACES],
+    active_times: &'a [u32; PLACES],
     dues: &'a [u32; PLACES],
     rates: &'a [u32; PLACES],
     left: &'a [usize; PLACES],
@@ -89,15 +90,15 @@ pub fn choose<'a>(
     two: u32,
 ) -> usize
     requires { ⌜ CanChoose (now times) (now dues) (now left) n number total shortest ⌝ }
-    ensures { λ r. ⌜ Choice (now (times .entry)) (now (dues .entry)) (now (rates .entry)) (now (left .entry)) n number total start one two r ⌝ }
+    ensures { λ r. ⌜ Choice (now (times .entry)) (now («active_times» .entry)) (now (dues .entry)) (now (rates .entry)) (now (left .entry)) n number total start one two r ⌝ }
 {
-    let mut best = fitting(times, rates, left, n, one, two, 0);
+    let mut best = fitting(active_times, rates, left, n, one, two, 0);
     if n <= best {
         return n;
     }
     let weights = table();
     let mut taken = weigh(&weights, times, dues, left, number, total, start, best);
-    let mut j = fitting(times, rates, left, n, one, two, best + 1);
+    let mut j = fitting(active_times, rates, left, n, one, two, best + 1);
     while j < n {
         let next = weigh(&weights, times, dues, left, number, total, start, j);
         if !heavier(next.weight, shortest, taken.weight, taken.time) {
@@ -107,7 +108,7 @@ pub fn choose<'a>(
             best = j;
             taken = next;
         }
-        j = fitting(times, rates, left, n, one, two, j + 1);
+        j = fitting(active_times, rates, left, n, one, two, j + 1);
     }
     best
 }

@@ -40,7 +40,7 @@ pub data Numbers : Type 0 where
 -- How many numbers a call takes, at least and at most. An offer takes as many as a request can hold: after `offer` 4,091 bytes
 -- are left, and a number with the space before it has two at least. Those are 2,045, so that 2,048 are never passed.
 abbrev pub taken : CallName → Takes
-taken Open = Between 2 2
+taken Open = Between 3 3
 taken Preview = Between 4 4
 taken Commit = Between 5 5
 taken Move = Between 2 2
@@ -84,7 +84,7 @@ lentList places = replicate (min places 4096) 4294967295
 
 -- the call of a name with its numbers
 abbrev pub callOf : CallName → List ℕ → Asked
-callOf Open ns = opening (settings (getD ns 0 0) (getD ns 1 0))
+callOf Open ns = opening (settings (getD ns 0 0) (getD ns 1 0) (getD ns 2 0))
 callOf Preview ns = call (preview (getD ns 0 0) (getD ns 1 0) (getD ns 2 0) (getD ns 3 0))
 callOf Commit ns = call (commit (getD ns 0 0) (getD ns 1 0) (getD ns 2 0) (getD ns 3 0) (getD ns 4 0))
 callOf Move ns = call (move (getD ns 0 0) (lentList (getD ns 1 0)))

@@ -55,7 +55,7 @@ fn taken(name: CallName) -> Takes
     ensures { λ r. ⌜ (r ≡ taken name) × AtMost 2048 r ⌝ }
 {
     match name {
-        CallName::Open => Takes::Between { least: 2, most: 2 },
+        CallName::Open => Takes::Between { least: 3, most: 3 },
         CallName::Preview => Takes::Between { least: 4, most: 4 },
         CallName::Commit => Takes::Between { least: 5, most: 5 },
         CallName::Move => Takes::Between { least: 2, most: 2 },
@@ -121,6 +121,7 @@ fn call_of(name: CallName, numbers: &[u32]) -> Request
             settings: Settings {
                 limit: first,
                 percent: second,
+                tail: third,
             },
         },
         CallName::Preview => Request::Call {

@@ -5,8 +5,8 @@ use mathlib.Core.List.{List, [], _∷_, _++_, map}
 use Rattle.rules.specs.Load.{limited, balanced, sound}
 use Rattle.rules.specs.Charge.{waitingCharges}
 use Rattle.rules.specs.Search.{earliest, firstUnbalanced}
-use Rattle.rules.specs.Priority.{fading, weights, weightOf, firstFit, picked}
 use Rattle.rules.specs.Candidate.{testedBy}
+use Rattle.rules.specs.Priority.{fading, weights, weightOf, firstFit, picked}
 use Rattle.rules.specs.Replan.{byLatestStart, placeAll, latest, placeOn, round, roundsFrom, byLines}
 use Rattle.rules.specs.Judgement.{judged}
 use Rattle.rules.specs.Calls.{settings, State, Answer, refused, previewed, committed, moved, Result, opening, preview, commit, run, previewing, committing, moving, offering, replanningLatest, replanningLines, enquiring}
@@ -18,9 +18,10 @@ use Rattle.rules.specs.CasesPreviewed.{casesPreviewed}
 use Rattle.rules.specs.CasesOfTwoRates.{casesOfTwoRates}
 use Rattle.rules.specs.CasesOfPriority.{casesOfPriority}
 use Rattle.rules.specs.CasesOnBusyEvenings.{testedIn, casesOnBusyEvenings}
+use Rattle.rules.specs.CasesOfTails.{casesOfTails}
 
 abbrev pub cases : List Case
-cases = casesAToL ++ casesAtEdges ++ casesInAHurry ++ casesPreviewed ++ casesOfTwoRates ++ casesOfPriority
+cases = casesAToL ++ casesAtEdges ++ casesInAHurry ++ casesPreviewed ++ casesOfTwoRates ++ casesOfPriority ++ casesOfTails
 
 pub cases-hold : map computed cases ≡ cases
 unfolding limited balanced sound earliest firstUnbalanced placeAll latest fading weights weightOf firstFit picked placeOn round roundsFrom byLines judged opening previewing committing moving offering replanningLatest replanningLines enquiring
@@ -33,7 +34,7 @@ candidates-hold = refl
 
 -- case g before its replan
 abbrev openedG : State
-openedG = opening (settings 2 50) .state
+openedG = opening (settings 2 50 0) .state
 
 -- What calls answered, and the tickets in latest-start order then. The answers stand first because they are computed from the
 -- first call on; the last station by itself would be computed backwards, which takes twenty times as long.
@@ -63,7 +64,7 @@ ticket-7-first = refl
 
 -- "65,535 tickets given" would take as many orders to compute, so the station that has one ticket left is written down
 abbrev lastTicket : State
-lastTicket = record { limit = 1; percent = 100; bound = 1; clock = 0; next = 65535; charges = [] }
+lastTicket = record { limit = 1; percent = 100; bound = 1; tail = 0; clock = 0; next = 65535; charges = [] }
 
 pub last-ticket-given :
     map (λ r. r .answer) (run lastTicket (commit 1 1 60 1 0 ∷ preview 1 1 60 1 ∷ commit 1 1 60 1 9 ∷ []))

@@ -1,13 +1,13 @@
--- Ends of charges: the last one, and that finished charges draw nothing.
+-- Ends of charges: the last one, up to when they draw, and that finished charges draw nothing.
 use mathlib.Core.Path.{_≡_, refl}
 use Prim.Native.Nat.{ℕ, _+_, max, _≤_}
 use mathlib.Core.Bool.{Bool, true, false, cond, not}
 use mathlib.Core.List.{List, [], _∷_, _++_}
 use native.Mathlib.Omega.{arith}
 use borrow.Author.Tests.{leb-true}
-use Rattle.rules.specs.Basics.{Each}
+use Rattle.rules.specs.Basics.{Each, keep}
 use Rattle.rules.specs.Load.{count, draws, lastUntil}
-use Rattle.rules.specs.Charge.{Charge, endOf, loadOf, loadsOf, isFinished, unfinishedCharges, lastEnd}
+use Rattle.rules.specs.Charge.{Charge, endOf, activeUntil, loadOf, loadsOf, isFinished, unfinishedCharges, lastEnd}
 use Rattle.rules.proofs.Counts.{draws-after}
 
 pub each-lastEnd : (b : ℕ) (cs : List Charge) → lastEnd cs ≤ b → Each (λ c. endOf c ≤ b) cs
@@ -18,10 +18,26 @@ pub lastEnd-each : (b : ℕ) (cs : List Charge) → Each (λ c. endOf c ≤ b) c
 lastEnd-each b [] e = omega arith
 lastEnd-each b (c ∷ cs) e = omega (arith, e .0, lastEnd-each b cs (e .1))
 
--- a charge draws up to its end
-pub last-until : (cs : List Charge) → lastUntil (loadsOf cs) ≡ lastEnd cs
-last-until [] = refl
-last-until (c ∷ cs) = rw (last-until cs)
+pub until-each : (b : ℕ) (cs : List Charge) → Each (λ c. activeUntil c ≤ b) cs → lastUntil (loadsOf cs) ≤ b
+until-each b [] e = omega arith
+until-each b (c ∷ cs) e = omega (arith, e .0, until-each b cs (e .1))
+
+-- a charge draws up to r minutes after its end
+pub last-until :
+    (r : ℕ) (cs : List Charge) → Each (λ c. c .activeTime ≡ c .time + r) cs → lastUntil (loadsOf cs) ≤ lastEnd cs + r
+last-until r [] e = omega arith
+last-until r (c ∷ cs) e = omega (arith, e .0, last-until r cs (e .1))
+
+pub until-kept : (f : Charge → Bool) (cs : List Charge) → lastUntil (loadsOf (keep f cs)) ≤ lastUntil (loadsOf cs)
+until-kept f [] = omega arith
+until-kept f (c ∷ cs) = go (f c) (until-kept f cs)
+  where
+    go :
+        (b : Bool)
+        → lastUntil (loadsOf (keep f cs)) ≤ lastUntil (loadsOf cs)
+        → lastUntil (loadsOf (cond b (c ∷ keep f cs) (keep f cs))) ≤ max (activeUntil c) (lastUntil (loadsOf cs))
+    go true h = omega arith
+    go false h = omega arith
 
 pub lastEnd-more : (cs : List Charge) (c : Charge) → lastEnd (cs ++ (c ∷ [])) ≡ max (lastEnd cs) (endOf c)
 lastEnd-more [] c = omega arith
@@ -45,5 +61,5 @@ count-unfinished clock (c ∷ cs) l t h = go (isFinished clock c) refl (count-un
         → count (loadsOf (cond (not b) (c ∷ unfinishedCharges clock cs) (unfinishedCharges clock cs))) l t
         ≡ draws (loadOf c) l t + count (loadsOf cs) l t
     go true p later =
-        rw (later, draws-after (loadOf c) l t (omega (arith, leb-true (endOf c) clock p))) (omega arith)
+        rw (later, draws-after (loadOf c) l t (omega (arith, leb-true (activeUntil c) clock p))) (omega arith)
     go false p later = rw later

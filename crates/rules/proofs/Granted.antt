@@ -39,14 +39,16 @@ pub record OpenGranted (x : Settings) : Type 0 where
   pub limit-high : x .limit ≤ 60
   pub percent-high : x .percent ≤ 100
   pub bound-low : 1 ≤ boundOf (x .limit) (x .percent)
+  pub tail-high : x .tail ≤ 5
 
 pub open-granted : (x : Settings) → NoneHolds (openRefusals x) → OpenGranted x
-open-granted x (limit, (percent, (bound, end))) =
+open-granted x (limit, (percent, (bound, (long, end)))) =
     record {
       limit-low = ltb-false (x .limit) 1 (or-left (ltb (x .limit) 1) (ltb 60 (x .limit)) limit);
       limit-high = ltb-false 60 (x .limit) (or-right (ltb (x .limit) 1) (ltb 60 (x .limit)) limit);
       percent-high = ltb-false 100 (x .percent) percent;
       bound-low = omega (arith, eqb-false (boundOf (x .limit) (x .percent)) 0 bound);
+      tail-high = ltb-false 5 (x .tail) long;
     }
 
 -- The calls

@@ -8,7 +8,7 @@ use lib.Dec.{ltb, leb}
 use lib.ListN.{length}
 use borrow.Author.Tests.{leb-true, ltb-true, lt-leb}
 use Rattle.rules.specs.Basics.{keep}
-use Rattle.rules.specs.Charge.{Charge, endOf, isFinished, unfinishedCharges}
+use Rattle.rules.specs.Charge.{Charge, activeUntil, isFinished, unfinishedCharges}
 use Rattle.rules.specs.Calls.{State, limitsOf, moved, isPassed, reported, moving}
 use Rattle.rules.specs.Valid.{ValidCharge, ValidState}
 use Rattle.rules.proofs.Ranges.{and-left, and-right, fails}
@@ -42,8 +42,8 @@ none-passed clock c =
 none-finished : (s : State) → ValidState s → unfinishedCharges (s .clock) (s .charges) ≡ s .charges
 none-finished s v =
     keep-all (λ c. not (isFinished (s .clock) c)) (s .charges)
-    (each-map (ValidCharge (limitsOf s) (s .clock) (s .next)) (λ c. not (isFinished (s .clock) c) ≡ true)
-    (λ c h. rw (lt-leb (endOf c) (s .clock) (h .unfinished))) (s .charges) (v .each))
+    (each-map (ValidCharge (limitsOf s) (s .tail) (s .clock) (s .next)) (λ c. not (isFinished (s .clock) c) ≡ true)
+    (λ c h. rw (lt-leb (activeUntil c) (s .clock) (h .unfinished))) (s .charges) (v .each))
 
 -- "A target equal to the clock reports and drops nothing."
 pub move-to-the-clock :

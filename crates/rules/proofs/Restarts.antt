@@ -101,7 +101,7 @@ plan-valid s ss v m =
     = restarted-is (s .clock) (s .charges) ss (m .none-early) in
     still-valid s (s .clock) (s .next) new v (v .clock-high) (v .next-low) (v .next-high)
     (rw (restarted-length r) (v .few))
-    (restarted-each (ValidCharge (limitsOf s) (s .clock) (s .next))
+    (restarted-each (ValidCharge (limitsOf s) (s .tail) (s .clock) (s .next))
     (λ c u h p.
     record {
       ticket-low = p .ticket-low;
@@ -109,10 +109,11 @@ plan-valid s ss v m =
       line = p .line;
       time-low = p .time-low;
       time-high = p .time-high;
+      active = p .active;
       due-high = p .due-high;
       ordered = p .ordered;
       not-early = omega (arith, p .ordered);
-      unfinished = omega (arith, p .time-low);
+      unfinished = omega (arith, p .time-low, p .active);
       rate = p .rate;
       within-limit = p .within-limit;
       within-bound = p .within-bound;

@@ -76,13 +76,14 @@ pub refused-three :
 unfolding opening
 refused-three x low high percent =
     rw (le-ltb (x .limit) 1 low, le-ltb 60 (x .limit) high, le-ltb 100 (x .percent) percent)
-    (go (boundOf (x .limit) (x .percent)) (eqb (boundOf (x .limit) (x .percent)) 0) refl)
+    (go (boundOf (x .limit) (x .percent)) (eqb (boundOf (x .limit) (x .percent)) 0) (ltb 5 (x .tail)) refl)
   where
     go :
-        (d : ℕ) (b : Bool)
+        (d : ℕ) (b long : Bool)
         → eqb d 0 ≡ b
-        → (answering (cond b 3 0) (fresh (settings 1 100)) [] (record { answer = opened d; state = fresh x; list = [] }) .answer
+        → (answering (cond b 3 (cond long 19 0)) (fresh (settings 1 100 0)) [] (record { answer = opened d; state = fresh x; list = [] }) .answer
         ≡ refused 3)
         ↔ (d ≡ 0)
-    go d true e = ((λ r. eqb-true d 0 e), (λ z. refl))
-    go d false e = ((λ r. let z : _≡_ {A = ℕ} 0 1 = cc in absurd (omega arith)), (λ z. absurd (eqb-false d 0 e z)))
+    go d true long e = ((λ r. eqb-true d 0 e), (λ z. refl))
+    go d false true e = ((λ r. let z : _≡_ {A = ℕ} 19 3 = cc in absurd (omega arith)), (λ z. absurd (eqb-false d 0 e z)))
+    go d false false e = ((λ r. let z : _≡_ {A = ℕ} 0 1 = cc in absurd (omega arith)), (λ z. absurd (eqb-false d 0 e z)))

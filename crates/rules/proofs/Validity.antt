@@ -28,6 +28,7 @@ fresh-valid x g =
       percent-high = g .percent-high;
       bound-is = refl;
       bound-low = g .bound-low;
+      tail-high = g .tail-high;
       clock-high = omega arith;
       next-low = omega arith;
       next-high = omega arith;
@@ -46,11 +47,19 @@ opening-valid x = go (firstOf (openRefusals x)) refl
         (i : ℕ)
         → firstOf (openRefusals x) ≡ i
         → ValidState
-        (answering i (fresh (settings 1 100)) [] (record { answer = opened (fresh x .bound); state = fresh x; list = [] }) .state)
+        (answering i (fresh (settings 1 100 0)) [] (record { answer = opened (fresh x .bound); state = fresh x; list = [] }) .state)
     go zero e = fresh-valid x (open-granted x (firstOf-none (openRefusals x) (openRefusals-numbered x) e))
     go (suc i) e =
-        fresh-valid (settings 1 100)
-        (record { limit-low = omega arith; limit-high = omega arith; percent-high = omega arith; bound-low = omega arith })
+        fresh-valid (settings 1 100 0)
+        (
+        record {
+          limit-low = omega arith;
+          limit-high = omega arith;
+          percent-high = omega arith;
+          bound-low = omega arith;
+          tail-high = omega arith;
+        }
+        )
 
 -- All calls
 

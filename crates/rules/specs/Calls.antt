@@ -15,12 +15,13 @@ use Rattle.rules.specs.Judgement.{restarted, judged}
 abbrev pub places : ℕ
 places = 180
 
--- "A station holds a limit N, a percentage c, a bound D, a clock, the next ticket and up to 180 charges."
--- The charges stand in ticket order.
+-- "A station holds a limit N, a percentage c, a bound D, a clock, the next ticket and up to 180 charges", and r, the `tail`:
+-- how many minutes a point draws after its end. The charges stand in ticket order.
 pub record State : Type 0 where
   pub limit : ℕ
   pub percent : ℕ
   pub bound : ℕ
+  pub tail : ℕ
   pub clock : ℕ
   pub next : ℕ
   pub charges : List Charge
@@ -31,7 +32,15 @@ limitsOf s = limits (s .limit) (s .bound)
 -- the same station with another clock and other charges
 abbrev pub holding : State → ℕ → List Charge → State
 holding s clock cs =
-    record { limit = s .limit; percent = s .percent; bound = s .bound; clock = clock; next = s .next; charges = cs }
+    record {
+      limit = s .limit;
+      percent = s .percent;
+      bound = s .bound;
+      tail = s .tail;
+      clock = clock;
+      next = s .next;
+      charges = cs;
+    }
 
 -- What a call answers.
 pub data Answer : Type 0 where
@@ -64,13 +73,14 @@ answering (suc k) s list r = record { answer = refused (suc k); state = s; list 
 
 -- Open
 
--- what an opening is given: the limit N and the percentage c
+-- what an opening is given: the limit N, the percentage c, and r: "Opening takes r, 0 to 5."
 pub record Settings : Type 0 where
   pub limit : ℕ
   pub percent : ℕ
+  pub tail : ℕ
 
-abbrev pub settings : ℕ → ℕ → Settings
-settings n c = record { limit = n; percent = c }
+abbrev pub settings : ℕ → ℕ → ℕ → Settings
+settings n c r = record { limit = n; percent = c; tail = r }
 
 -- x / 100, up where more than a half is left, and where exactly a half is, up from an odd number and down to an even one
 abbrev pub nearestHundreds : ℕ → ℕ
@@ -88,6 +98,7 @@ fresh x =
       limit = x .limit;
       percent = x .percent;
       bound = boundOf (x .limit) (x .percent);
+      tail = x .tail;
       clock = 0;
       next = 1;
       charges = [];
@@ -101,12 +112,14 @@ openRefusals x =
     ∷ (ltb 100 (x .percent), 2)
     -- "when this D is 0"
     ∷ (eqb (boundOf (x .limit) (x .percent)) 0, 3)
+    -- "after 3, r above 5"
+    ∷ (ltb 5 (x .tail), 19)
     ∷ []
 
--- "Beside a refused opening stands the fresh station of 1, 100."
+-- "Beside a refused opening stands the fresh station of 1, 100." "Beside a refused opening r is 0."
 unfoldable pub opening : Settings → Result
 opening x =
-    answering (firstOf (openRefusals x)) (fresh (settings 1 100)) []
+    answering (firstOf (openRefusals x)) (fresh (settings 1 100 0)) []
     (record { answer = opened (fresh x .bound); state = fresh x; list = [] })
 
 -- The calls of a station that stands.
@@ -137,10 +150,19 @@ lent (enquire ticket) = []
 
 -- An order, previewed or committed
 
--- "The order minute is the clock."
+-- "The order minute is the clock." It is active for its p and the station's r.
 abbrev pub newCharge : State → ℕ → ℕ → ℕ → ℕ → ℕ → Charge
 newCharge s line p d rate start =
-    record { ticket = s .next; line = line; orderMinute = s .clock; time = p; due = d; start = start; rate = rate }
+    record {
+      ticket = s .next;
+      line = line;
+      orderMinute = s .clock;
+      time = p;
+      activeTime = p + s .tail;
+      due = d;
+      start = start;
+      rate = rate;
+    }
 
 -- what an order draws, whenever it is due and wherever it starts
 abbrev pub drawFor : State → ℕ → ℕ → ℕ → Draw
@@ -222,6 +244,7 @@ taking s c =
       limit = s .limit;
       percent = s .percent;
       bound = s .bound;
+      tail = s .tail;
       clock = s .clock;
       next = suc (s .next);
       charges = s .charges ++ (c ∷ []);
@@ -302,7 +325,8 @@ replanningLines s allowance =
 
 -- Enquire
 
--- "waiting with its start, charging with start and end, or refusal 15"
+-- "waiting with its start, charging with start and end, or refusal 15". The end is s + p: in its tail a charge is still held,
+-- and charging with an end at or below the clock.
 abbrev pub told : ℕ → List Charge → ℕ → Answer
 told clock [] ticket = refused 15
 told clock (c ∷ cs) ticket =

@@ -50,7 +50,7 @@ casesAToL =
     ∷ case 2 50 1 (ordersE ++ (move 1 lentList ∷ [])) (givenE ++ (givenF ∷ []))
     -- g
     ∷ record {
-      settings = settings 2 50;
+      settings = settings 2 50 0;
       calls = callsG ++ (replanLatest ∷ []);
       opening = opened 1;
       given = givenE ++ (givenF ∷ gives (previewed 1) ∷ gives (committed 7 1) ∷ gives (planned 1 0 0 0) ∷ []);

@@ -9,12 +9,14 @@ use Rattle.rules.specs.Basics.{keep}
 use Rattle.rules.specs.Load.{Load, Draw, draw, loadFrom}
 
 -- "A charge has a ticket, a line, an order minute, a charging time p, a due minute d and a start s." "Each order states a
--- rate, 1 or 2."
+-- rate, 1 or 2." `activeTime` is p + r, the minutes in which it is active: "The new edition counts a point as drawing for r
+-- minutes after its end."
 pub record Charge : Type 0 where
   pub ticket : ℕ
   pub line : ℕ
   pub orderMinute : ℕ
   pub time : ℕ
+  pub activeTime : ℕ
   pub due : ℕ
   pub start : ℕ
   pub rate : ℕ
@@ -27,6 +29,7 @@ starting c s =
       line = c .line;
       orderMinute = c .orderMinute;
       time = c .time;
+      activeTime = c .activeTime;
       due = c .due;
       start = s;
       rate = c .rate;
@@ -38,9 +41,9 @@ endOf c = c .start + c .time
 
 -- what it draws wherever it starts
 abbrev pub drawOf : Charge → Draw
-drawOf c = draw (c .line) (c .time) (c .rate)
+drawOf c = draw (c .line) (c .activeTime) (c .rate)
 
--- "It is active in minutes s to s + p − 1."
+-- "A charge is active, for limit and balance, in minutes s to s + p + r − 1."
 abbrev pub loadOf : Charge → Load
 loadOf c = loadFrom (drawOf c) (c .start)
 
@@ -60,9 +63,13 @@ begunCharges clock cs = keep (isBegun clock) cs
 abbrev pub waitingCharges : ℕ → List Charge → List Charge
 waitingCharges clock cs = keep (isWaiting clock) cs
 
--- "A charge whose end is at or below the clock is finished."
+-- s + p + r: the minute from which on it draws nothing
+abbrev pub activeUntil : Charge → ℕ
+activeUntil c = c .start + c .activeTime
+
+-- "is finished when s + p + r is at or below the clock"
 abbrev pub isFinished : ℕ → Charge → Bool
-isFinished clock c = leb (endOf c) clock
+isFinished clock c = leb (activeUntil c) clock
 
 abbrev pub unfinishedCharges : ℕ → List Charge → List Charge
 unfinishedCharges clock cs = keep (λ c. not (isFinished clock c)) cs
@@ -80,13 +87,13 @@ abbrev pub latestStartBefore : Charge → Charge → Bool
 latestStartBefore a b =
     ltZ (latestStart a) (latestStart b) || (leZ (latestStart a) (latestStart b) && ltb (a .ticket) (b .ticket))
 
--- "the last end of held charges (0 if none)"
+-- "the last end of held charges (0 if none)", without r: "Cause 4 compares s + p"
 abbrev pub lastEnd : List Charge → ℕ
 lastEnd [] = 0
 lastEnd (c ∷ cs) = max (endOf c) (lastEnd cs)
 
 -- "max(0, end − d)": a difference of natural numbers is 0 where it would be below. "Its lateness counts from the due
--- minute given", also where this is below the clock.
+-- minute given", also where this is below the clock; "its lateness still uses s + p".
 abbrev pub lateOf : Charge → ℕ
 lateOf c = endOf c - c .due
 

@@ -86,12 +86,17 @@ abbrev enquiries : ℕ → ℕ → List Call
 enquiries zero i = []
 enquiries (suc k) i = enquire i ∷ enquiries k (suc i)
 
+-- an opening alone, with r 0
 abbrev pub opens : ℕ → ℕ → Answer → Case
-opens n c a = record { settings = settings n c; calls = []; opening = a; given = []; minutes = [] }
+opens n c a = record { settings = settings n c 0; calls = []; opening = a; given = []; minutes = [] }
+
+-- Open N, c and r: D, and what the calls give.
+abbrev pub caseWithTail : ℕ → ℕ → ℕ → ℕ → List Call → List Given → Case
+caseWithTail n c r d calls given =
+    record { settings = settings n c r; calls = calls; opening = opened d; given = given; minutes = [] }
 
 abbrev pub case : ℕ → ℕ → ℕ → List Call → List Given → Case
-case n c d calls given =
-    record { settings = settings n c; calls = calls; opening = opened d; given = given; minutes = [] }
+case n c d calls given = caseWithTail n c 0 d calls given
 
 -- Open 1, 100, orders that get the starts `held`, a replan, and the starts of all of them afterwards.
 abbrev pub replanned : List Call → Call → List ℕ → Answer → List ℕ → Case

@@ -16,3 +16,4 @@ pub mod CasesPreviewed
 pub mod CasesOfTwoRates
 pub mod CasesOfPriority
 pub mod CasesOnBusyEvenings
+pub mod CasesOfTails

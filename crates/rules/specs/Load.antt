@@ -25,7 +25,7 @@ draw line time rate = record { line = line; time = time; rate = rate }
 abbrev pub loadFrom : Draw → ℕ → Load
 loadFrom a s = record { line = a .line; rate = a .rate; from = s; until = s + a .time }
 
--- "It is active in minutes s to s + p − 1."
+-- "It is active in minutes" `from` up to, and without, `until`.
 abbrev pub active : Load → ℕ → Bool
 active x t = leb (x .from) t && ltb t (x .until)
 

@@ -7,20 +7,21 @@ use mathlib.Core.List.{List, [], _∷_}
 use lib.ListN.{length}
 use Rattle.rules.specs.Basics.{Each}
 use Rattle.rules.specs.Load.{Limits, IsLine, IsRate, sound}
-use Rattle.rules.specs.Charge.{Charge, endOf, loadsOf, lastEnd}
+use Rattle.rules.specs.Charge.{Charge, activeUntil, loadsOf, lastEnd}
 use Rattle.rules.specs.Calls.{places, State, boundOf, limitsOf}
 
 -- one charge that is held: its rate is within N and D, so that it has a start wherever nothing else is drawn
-pub record ValidCharge (y : Limits) (clock next : ℕ) (c : Charge) : Type 0 where
+pub record ValidCharge (y : Limits) (tail clock next : ℕ) (c : Charge) : Type 0 where
   pub ticket-low : 1 ≤ c .ticket
   pub ticket-given : c .ticket < next
   pub line : IsLine (c .line)
   pub time-low : 1 ≤ c .time
   pub time-high : c .time ≤ 1440
+  pub active : c .activeTime ≡ c .time + tail
   pub due-high : c .due ≤ 2000000
   pub ordered : c .orderMinute ≤ clock
   pub not-early : c .orderMinute ≤ c .start
-  pub unfinished : clock < endOf c
+  pub unfinished : clock < activeUntil c
   pub rate : IsRate (c .rate)
   pub within-limit : c .rate ≤ y .limit
   pub within-bound : c .rate ≤ y .bound
@@ -36,12 +37,13 @@ pub record ValidState (s : State) : Type 0 where
   pub percent-high : s .percent ≤ 100
   pub bound-is : s .bound ≡ boundOf (s .limit) (s .percent)
   pub bound-low : 1 ≤ s .bound
+  pub tail-high : s .tail ≤ 5
   pub clock-high : s .clock ≤ 1000000
   pub next-low : 1 ≤ s .next
   pub next-high : s .next ≤ 65536
   pub few : length (s .charges) ≤ places
-  pub each : Each (ValidCharge (limitsOf s) (s .clock) (s .next)) (s .charges)
+  pub each : Each (ValidCharge (limitsOf s) (s .tail) (s .clock) (s .next)) (s .charges)
   pub rising : Rising 1 (s .charges)
-  -- next - 1 tickets have been given: no end is above the clock and 1,440 minutes for each of them
-  pub ends-high : lastEnd (s .charges) ≤ s .clock + 1440 * (s .next - 1)
+  -- next - 1 tickets have been given: no end is above the clock and 1,445 minutes for each of them, the largest p + r
+  pub ends-high : lastEnd (s .charges) ≤ s .clock + 1445 * (s .next - 1)
   pub sound-on : sound (limitsOf s) (s .clock) (loadsOf (s .charges)) ≡ true

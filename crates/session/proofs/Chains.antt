@@ -24,7 +24,7 @@ use Rattle.session.proofs.Sessions.{finish, first-first, feed-append, c
 
 -- what is known after each turn
 record Known (read written : List ℕ) (s : Session) (block : List ℕ) : Type 0 where
-  pub fed : over (s .wants) ≡ false → feed (fresh (settings 1 100)) [] read ≡ first written (feed (view (s .station)) (heldOf s block) [])
+  pub fed : over (s .wants) ≡ false → feed (fresh (settings 1 100 0)) [] read ≡ first written (feed (view (s .station)) (heldOf s block) [])
   pub whole : over (s .wants) ≡ true → console read ≡ record { state = view (s .station); text = written }
   pub request : s .wants ≡ Bytes → (split 10 (heldOf s block) ≡ heldOf s block ∷ []) × (s .held ≤ 4097)
 
@@ -40,12 +40,12 @@ waits s kept w h = rw (append-nil kept, w, take-all 4097 kept h)
 -- one part more of the input
 fed-more :
     (read part written : List ℕ) (s : State) (kept text : List ℕ) (t : Fed)
-    → feed (fresh (settings 1 100)) [] read ≡ first written (feed s kept [])
+    → feed (fresh (settings 1 100 0)) [] read ≡ first written (feed s kept [])
     → feed s kept part ≡ first text t
-    → feed (fresh (settings 1 100)) [] (read ++ part) ≡ first (written ++ text) t
+    → feed (fresh (settings 1 100 0)) [] (read ++ part) ≡ first (written ++ text) t
 fed-more read part written s kept text t p q =
     let g : Fed = feed s kept [] in
-    feed-append (fresh (settings 1 100)) [] read part
+    feed-append (fresh (settings 1 100 0)) [] read part
     ∙ ap (λ (o : Fed). first (o .text) (feed (o .state) (o .kept) part)) p
     ∙ sym (first-first written (g .text) (feed (g .state) (g .kept) part))
     ∙ ap (first written) (sym (feed-append s kept [] part) ∙ q)
@@ -54,7 +54,7 @@ fed-more read part written s kept text t p q =
 -- the end of the input
 fed-last :
     (read written : List ℕ) (s : State) (kept : List ℕ) (t : Told)
-    → feed (fresh (settings 1 100)) [] read ≡ first written (feed s kept [])
+    → feed (fresh (settings 1 100 0)) [] read ≡ first written (feed s kept [])
     → split 10 kept ≡ kept ∷ []
     → length kept ≤ 4097
     → answered s kept ≡ t
@@ -82,7 +82,7 @@ standing-request w kept held there h e = rw e at h
 module _ {read written : List ℕ} {s : Session} {before : List ℕ} {count : ℕ} {block : List ℕ} {r : Next} {next out : List ℕ}
     (k : Known read written s before) (g : over (s .wants) ≡ false) (same : heldOf s block ≡ heldOf s before)
     (t : Turned s count block r next out) where
-  known-fed : feed (fresh (settings 1 100)) [] read ≡ first written (feed (view (s .station)) (heldOf s block) [])
+  known-fed : feed (fresh (settings 1 100 0)) [] read ≡ first written (feed (view (s .station)) (heldOf s block) [])
   known-fed = k .fed g ∙ ap (λ (x : List ℕ). first written (feed (view (s .station)) x [])) (sym same)
 
   known-next : Known (read ++ readOf s count block) (written ++ take (r .at) out) (r .session) next
@@ -101,7 +101,7 @@ module _ {read written : List ℕ} {s : Session} {before : List ℕ} {count : �
 known : {read written : List ℕ} {s : Session} {block : List ℕ} → Chain read written s block → Known read written s block
 known (opened {s} {block} v h w) = first-known s block v h w
   where
-    first-known : (s : Session) (block : List ℕ) → view (s .station) ≡ fresh (settings 1 100) → s .held ≡ 0 → s .wants ≡ Bytes → Known [] [] s block
+    first-known : (s : Session) (block : List ℕ) → view (s .station) ≡ fresh (settings 1 100 0) → s .held ≡ 0 → s .wants ≡ Bytes → Known [] [] s block
     first-known s block v h w =
         record {
           fed = λ _. rw (v, h);
@@ -135,6 +135,6 @@ reached-on {s} {before} {block} {count} {r} {next} {out} c g same t =
     }
 
 -- the station that `serve` begins with
-pub opened-fresh : {a : Answer} {s : Station} {list : List ℕ} → Gives (opening (settings 1 100)) a s list → view s ≡ fresh (settings 1 100)
+pub opened-fresh : {a : Answer} {s : Station} {list : List ℕ} → Gives (opening (settings 1 100 0)) a s list → view s ≡ fresh (settings 1 100 0)
 unfolding opening
 opened-fresh g = ap (λ (x : Result). x .state) (g .result)

@@ -118,6 +118,6 @@ finish-requests s [] h = absurd h
 finish-requests s (request ∷ requests) h = finish-served s request requests
 
 -- a whole input as one part
-pub console-fed : (input : List ℕ) → finish (feed (fresh (settings 1 100)) [] input) ≡ console input
+pub console-fed : (input : List ℕ) → finish (feed (fresh (settings 1 100 0)) [] input) ≡ console input
 unfolding console
-console-fed input = finish-requests (fresh (settings 1 100)) (split 10 input) (split-some 10 input)
+console-fed input = finish-requests (fresh (settings 1 100 0)) (split 10 input) (split-some 10 input)

@@ -18,7 +18,7 @@ session s (request ∷ requests) = saying (answered s request .text) (session (a
 -- The whole input. Its requests stand between line feeds (10), so a last one without a line feed counts, and after a last
 -- line feed comes an empty request. The station that stands at the beginning is the fresh one of 1, 100.
 unfoldable pub console : List ℕ → Told
-console input = session (fresh (settings 1 100)) (split 10 input)
+console input = session (fresh (settings 1 100 0)) (split 10 input)
 
 -- Input in parts
 

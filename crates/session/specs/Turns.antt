@@ -110,7 +110,7 @@ pub record Turned (s : Session) (count : ℕ) (block : List ℕ) (r : Next) (nex
 -- it, whatever was read; reading keeps the bytes that are held.
 pub data Chain : List ℕ → List ℕ → Session → List ℕ → Type 0 where
   opened :
-      {s : Session} {block : List ℕ} → view (s .station) ≡ fresh (settings 1 100) → s .held ≡ 0 → s .wants ≡ Bytes → Chain [] [] s block
+      {s : Session} {block : List ℕ} → view (s .station) ≡ fresh (settings 1 100 0) → s .held ≡ 0 → s .wants ≡ Bytes → Chain [] [] s block
   turned :
       {read written : List ℕ} {s : Session} {before : List ℕ} {count : ℕ} {block : List ℕ} {r : Next} {next out : List ℕ}
       → Chain read written s before
@@ -125,7 +125,7 @@ pub data Chain : List ℕ → List ℕ → Session → List ℕ → Type 0 where
 pub record AnswersAll (read written : List ℕ) (s : Session) (block : List ℕ) : Type 0 where
   pub so-far :
       s .wants ≡ Bytes
-      → feed (fresh (settings 1 100)) [] read ≡ record { state = view (s .station); kept = heldOf s block; text = written }
+      → feed (fresh (settings 1 100 0)) [] read ≡ record { state = view (s .station); kept = heldOf s block; text = written }
   pub whole : s .wants ≡ Nothing → console read ≡ record { state = view (s .station); text = written }
 
 abbrev pub EveryChain : Type 0

@@ -41,9 +41,9 @@ rising-places f low (suc k) a r i j h l m =
 
 -- each held charge is valid
 pub held-valid :
-    (s : Station) → Valid s → (i : ℕ) → i < s .charges .held → ValidCharge (limits (s .limit) (s .bound)) (s .clock) (s .next) (chargeAt (s .charges) i)
+    (s : Station) → Valid s → (i : ℕ) → i < s .charges .held → ValidCharge (limits (s .limit) (s .bound)) (s .tail) (s .clock) (s .next) (chargeAt (s .charges) i)
 held-valid s v i h =
-    tabulate-each (ValidCharge (limits (s .limit) (s .bound)) (s .clock) (s .next)) (chargeAt (s .charges)) (s .charges .held) 0 (v .state .each) i
+    tabulate-each (ValidCharge (limits (s .limit) (s .bound)) (s .tail) (s .clock) (s .next)) (chargeAt (s .charges)) (s .charges .held) 0 (v .state .each) i
     (omega arith) (omega arith)
 
 -- "No held time reaches 100,000,000."
@@ -63,11 +63,13 @@ valid-listed s v =
 
     small : (i : ℕ) → i < s .charges .held → Small (chargeAt (s .charges) i)
     small i h =
-        let f : ValidCharge (limits (s .limit) (s .bound)) (s .clock) (s .next) (chargeAt (s .charges) i) = held-valid s v i h in
+        let f : ValidCharge (limits (s .limit) (s .bound)) (s .tail) (s .clock) (s .next) (chargeAt (s .charges) i) = held-valid s v i h in
         record {
           on-line = f .line;
           time-low = f .time-low;
           time-most = f .time-high;
+          active-least = omega (arith, f .active);
+          active-most = omega (arith, f .active, f .time-high, v .state .tail-high);
           due-most = f .due-high;
           is-rate = f .rate;
           start-most = omega (arith, ended i h, f .time-low, v .state .ends-high, v .state .clock-high, v .state .next-high);

@@ -33,6 +33,7 @@ movedStation s target left =
       limit = s .limit;
       percent = s .percent;
       bound = s .bound;
+      tail = s .tail;
       clock = target;
       next = s .next;
       charges = left;

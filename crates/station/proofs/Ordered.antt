@@ -17,7 +17,7 @@ use Rattle.charges.specs.Arrays.{charge, chargeAt, chargesOf, Holds}
 use Rattle.station.specs.declared.Station.{Station}
 use Rattle.station.specs.declared.order.PreviewAnswer.{PreviewAnswer}
 use Rattle.station.specs.declared.order.PreviewAnswer.the-variants.{Previewed}
-use Rattle.station.specs.View.{view}
+use Rattle.station.specs.View.{view, Valid}
 use Rattle.station.specs.Answers.{giving, previewAnswer}
 use Rattle.station.proofs.Refusing.{call-refused, call-granted}
 
@@ -25,6 +25,7 @@ use Rattle.station.proofs.Refusing.{call-refused, call-granted}
 pub record Orderable (s : Station) (line time due rate : ℕ) : Type 0 where
   pub some : 1 ≤ time
   pub time-most : time ≤ 1440
+  pub active-most : time + s .tail ≤ 1445
   pub is-rate : IsRate rate
   pub within-limit : rate ≤ s .limit
   pub within-bound : rate ≤ s .bound
@@ -32,12 +33,13 @@ pub record Orderable (s : Station) (line time due rate : ℕ) : Type 0 where
   pub tickets-left : s .next ≤ 65535
 
 pub orderable :
-    (s : Station) (line time due rate : ℕ) → NoneHolds (orderRefusals (view s) line time due rate) → Orderable s line time due rate
-orderable s line time due rate e =
+    (s : Station) (line time due rate : ℕ) → Valid s → NoneHolds (orderRefusals (view s) line time due rate) → Orderable s line time due rate
+orderable s line time due rate v e =
     let g = order-granted (view s) line time due rate e in
     record {
       some = g .time-low;
       time-most = g .time-high;
+      active-most = omega (arith, g .time-high, v .state .tail-high);
       is-rate = g .is-rate;
       within-limit = g .within-limit;
       within-bound = g .within-bound;
@@ -97,6 +99,7 @@ committedStation s c =
       limit = s .limit;
       percent = s .percent;
       bound = s .bound;
+      tail = s .tail;
       clock = s .clock;
       next = s .next + 1;
       charges = c;
@@ -109,7 +112,7 @@ pub call-committed :
     → start ≡ shown
     → {xs : List Charge}
     → Holds xs c
-    → xs ≡ chargesOf (s .charges) ++ (charge (s .next) line (s .clock) time due start rate ∷ [])
+    → xs ≡ chargesOf (s .charges) ++ (charge (s .next) line (s .clock) time (time + s .tail) due start rate ∷ [])
     → giving (committed (s .next) start) (committedStation s c) [] ≡ step (view s) (commit line time due rate shown)
 unfolding committing
 call-committed s line time due rate start shown c free f same h e =

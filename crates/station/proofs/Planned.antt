@@ -56,6 +56,7 @@ holdingCharges s c =
       limit = s .limit;
       percent = s .percent;
       bound = s .bound;
+      tail = s .tail;
       clock = s .clock;
       next = s .next;
       charges = c;

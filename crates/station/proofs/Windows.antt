@@ -1,21 +1,21 @@
 -- The windows of a search for a start: the charges that begin before a window's end draw below it what all held ones do.
 use mathlib.Core.Logic.{_⊎_, inl, inr, ⊎-elim}
 use mathlib.Core.Path.{_≡_, refl, _∙_}
-use Prim.Native.Nat.{ℕ, zero, suc, _+_, _-_, _≤_, _<_, max}
+use Prim.Native.Nat.{ℕ, zero, suc, _+_, _-_, _^_, _≤_, _<_, max}
 use mathlib.Core.Bool.{Bool, true, false}
 use mathlib.Core.List.{List, [], _∷_, _++_, append-nil, append-assoc}
 use native.Mathlib.Omega.{arith}
 use lib.ListN.{length, length-append}
 use borrow.Author.Tests.{lt-ltb, le-ltb, le-leb, lt-leb}
-use Rattle.rules.specs.Basics.{tabulate, at}
+use Rattle.rules.specs.Basics.{Each, tabulate, at}
 use Rattle.rules.specs.Load.{Load, IsLine, IsRate, draws, count, lastUntil, limits, soundAt, sound}
 use Rattle.rules.specs.Charge.{Charge, loadOf, loadsOf, isBegun, begunCharges}
 use Rattle.rules.specs.Search.{added, earliest}
 use Rattle.rules.specs.Calls.{isPassed, startFor}
 use Rattle.rules.proofs.Ranges.{below-or-not, first-is}
-use Rattle.rules.proofs.Lists.{length-tabulate, keep-none}
+use Rattle.rules.proofs.Lists.{each-map, length-tabulate, keep-none}
 use Rattle.rules.proofs.Counts.{draws-before, count-append}
-use Rattle.rules.proofs.Ends.{last-until}
+use Rattle.rules.proofs.Ends.{last-until, until-kept}
 use Rattle.rules.proofs.TestedStarts.{counts-own, fails-unsound, fits-sound}
 use Rattle.charges.specs.declared.Charges.{Charges}
 use Rattle.charges.specs.Arrays.{chargeAt, chargesOf}
@@ -29,7 +29,7 @@ use Rattle.search.specs.declared.candidate.Draw.{Draw}
 use Rattle.search.specs.Candidates.{drawOf, fitsIn, CanFit, FirstFitting}
 use Rattle.search.proofs.Starts.{can-start}
 use Rattle.planner.proofs.Profiles.{shown-can-add}
-use Rattle.planner.proofs.Showing.{length-loads-of, loads-append, last-kept, listed-ends, listed-rates}
+use Rattle.planner.proofs.Showing.{length-loads-of, loads-append, listed-ends, listed-rates}
 use Rattle.station.specs.declared.Station.{Station}
 use Rattle.station.specs.View.{view, Valid}
 use Rattle.station.proofs.Listing.{valid-listed}
@@ -117,11 +117,12 @@ module _ {p q : Profile} {c : Charges} {low high i : ℕ} (can : CanAddStarted p
   now-shown = w .shown (can .room .clock) (can .room .loads) (can .room .shows)
 
   -- one that is added leaves room for those behind it
-  pub extended-can-add : {rate : ℕ} → isPassed low high (chargeAt c i) ≡ true → IsRate rate → CanAdd q (chargeAt c i .time) rate (chargeAt c i .start)
-  extended-can-add {rate} e is-rate =
+  pub extended-can-add :
+      {time rate : ℕ} → isPassed low high (chargeAt c i) ≡ true → chargeAt c i .start + time < 2 ^ 32 → IsRate rate → CanAdd q time rate (chargeAt c i .start)
+  extended-can-add {time} {rate} e fits is-rate =
       let n : i + 1 + (c .held - (i + 1)) ≡ c .held = omega arith in
       let all : length (startedBelow low high c (i + 1)) ≤ length (started low high (chargesOf c)) = rw n at (started-few low high c (i + 1) (c .held - (i + 1))) in
-      shown-can-add now-shown (chargeAt c i .time) rate (chargeAt c i .start)
+      shown-can-add now-shown time rate (chargeAt c i .start)
       (omega (
         arith,
         all,
@@ -130,16 +131,17 @@ module _ {p q : Profile} {c : Charges} {low high i : ℕ} (can : CanAddStarted p
         length-loads-of (startedBelow low high c i),
         can .room .few,
       ))
-      is-rate (can .ends i more)
+      is-rate fits
 
   pub extended-on :
-      {r v : Profile} {rate : ℕ}
+      {r v : Profile} {time rate : ℕ}
       → isPassed low high (chargeAt c i) ≡ true
-      → LoadAdded q r (chargeAt c i .line) (chargeAt c i .time) rate (chargeAt c i .start)
+      → LoadAdded q r (chargeAt c i .line) time rate (chargeAt c i .start)
+      → time ≡ chargeAt c i .activeTime
       → rate ≡ chargeAt c i .rate
       → v ≡ r
       → Extended p v c low high (i + 1)
-  extended-on {r} {v} {rate} e a whole same =
+  extended-on {r} {v} {time} {rate} e a long whole same =
       record {
         shown = λ clock loads s.
             rw (
@@ -148,7 +150,7 @@ module _ {p q : Profile} {c : Charges} {low high i : ℕ} (can : CanAddStarted p
               loads-append (startedBelow low high c i) (chargeAt c i ∷ []),
               ← append-assoc loads (loadsOf (startedBelow low high c i)) (loadOf (chargeAt c i) ∷ []),
             )
-            (added-shows (can .rated i more) (rw whole at a) clock (loads ++ loadsOf (startedBelow low high c i)) (w .shown clock loads s));
+            (added-shows (can .rated i more) (rw (long, whole) at a) clock (loads ++ loadsOf (startedBelow low high c i)) (w .shown clock loads s));
       }
 
   pub extended-past : {v : Profile} → isPassed low high (chargeAt c i) ≡ false → v ≡ q → Extended p v c low high (i + 1)
@@ -220,9 +222,7 @@ window-on {s} {p} {q} {low} {high} w h a =
             arith,
             w .last,
             last-append (w .loads) (loadsOf (started low high (chargesOf (s .charges)))),
-            last-until (started low high (chargesOf (s .charges))),
-            last-until (chargesOf (s .charges)),
-            last-kept (isPassed low high) (chargesOf (s .charges)),
+            until-kept (isPassed low high) (chargesOf (s .charges)),
           );
       alike = λ l t.
           omega (
@@ -242,7 +242,17 @@ window-counts {s} {until} w l t i a b =
 -- no held time reaches 100,000,000
 pub last-held : (s : Station) → Valid s → lastUntil (loadsOf (chargesOf (s .charges))) ≤ 100000000
 last-held s v =
-    omega (arith, last-until (chargesOf (s .charges)), v .state .ends-high, v .state .clock-high, v .state .next-high)
+    omega (
+      arith,
+      last-until (s .tail) (chargesOf (s .charges)) active,
+      v .state .ends-high,
+      v .state .tail-high,
+      v .state .clock-high,
+      v .state .next-high,
+    )
+  where
+    active : Each (λ c. c .activeTime ≡ c .time + s .tail) (chargesOf (s .charges))
+    active = each-map _ (λ c. c .activeTime ≡ c .time + s .tail) (λ c h. h .active) (chargesOf (s .charges)) (v .state .each)
 
 -- The search
 

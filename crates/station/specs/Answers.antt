@@ -38,7 +38,7 @@ pub record Tests (s : State) (rounds : ℕ) (p : Proposal) (answer : Answer) (ne
 
 -- the settings of an opening, in the words of the rules
 abbrev pub settingsOf : Settings → rules.Settings
-settingsOf x = settings (x .limit) (x .percent)
+settingsOf x = settings (x .limit) (x .percent) (x .tail)
 
 abbrev pub openAnswer : OpenAnswer → Answer
 openAnswer (Opened bound) = opened bound

@@ -10,6 +10,7 @@ view s =
       limit = s .limit;
       percent = s .percent;
       bound = s .bound;
+      tail = s .tail;
       clock = s .clock;
       next = s .next;
       charges = chargesOf (s .charges);

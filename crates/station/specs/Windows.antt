@@ -39,7 +39,7 @@ StartedAdded p q c low high =
 -- what an order draws that none of refusals 4 to 18 turns away
 pub record Fits (s : Station) (a : Draw) : Type 0 where
   pub some : 1 ≤ a .time
-  pub time-most : a .time ≤ 1440
+  pub time-most : a .time ≤ 1445
   pub is-rate : IsRate (a .rate)
   pub within-limit : a .rate ≤ s .limit
   pub within-bound : a .rate ≤ s .bound

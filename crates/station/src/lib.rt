@@ -11,6 +11,8 @@ pub struct Station {
     limit: u32,
     percent: u32,
     bound: u32,
+    // r: how many minutes a point draws after its end.
+    tail: u32,
     clock: u32,
     next: u32,
     charges: charges::Charges,

@@ -8,10 +8,11 @@ ghost use Rattle.charges.specs.Arrays.{Columns};
 ghost use Rattle.station.specs.View.{view};
 ghost use Rattle.station.specs.Answers.{Gives, settingsOf, openAnswer};
 
-// What an opening is given: the limit N and the percentage c.
+// What an opening is given: the limit N, the percentage c and r.
 pub struct Settings {
     pub limit: u32,
     pub percent: u32,
+    pub tail: u32,
 }
 
 pub enum OpenAnswer {
@@ -45,6 +46,7 @@ fn open_refusal(settings: Settings) -> u32
 {
     let limit = settings.limit;
     let percent = settings.percent;
+    let tail = settings.tail;
     if limit < 1 {
         return 1;
     }
@@ -58,6 +60,9 @@ fn open_refusal(settings: Settings) -> u32
     let bound = nearest_hundreds(product);
     if bound == 0 {
         return 3;
+    }
+    if 5 < tail {
+        return 19;
     }
     0
 }
@@ -74,6 +79,7 @@ fn fresh(settings: Settings) -> Station
         limit,
         percent,
         bound,
+        tail: settings.tail,
         clock: 0,
         next: 1,
         charges: charges::Charges::none(),
@@ -81,7 +87,7 @@ fn fresh(settings: Settings) -> Station
 }
 
 impl Station {
-    // "Beside a refused opening stands the fresh station of 1, 100."
+    // "Beside a refused opening stands the fresh station of 1, 100", and "r is 0".
     pub fn open(settings: Settings) -> Opening
         ensures { λ r. ⌜ Gives (opening (settingsOf settings)) (openAnswer (r .answer)) (r .station) [] ⌝ }
     {
@@ -90,6 +96,7 @@ impl Station {
             let least = Settings {
                 limit: 1,
                 percent: 100,
+                tail: 0,
             };
             return Opening {
                 answer: OpenAnswer::Refused(refusal),

@@ -118,7 +118,12 @@ impl Station {
         if 0 < refusal {
             return PreviewAnswer::Refused(refusal);
         }
-        let draw = Draw { line, time, rate };
+        let active_time = time + self.tail;
+        let draw = Draw {
+            line,
+            time: active_time,
+            rate,
+        };
         PreviewAnswer::Previewed(self.earliest_start(draw))
     }
 
@@ -153,7 +158,17 @@ impl Station {
                 }
                 let ticket = self.next;
                 let held = self.charges;
-                let with = held.push(ticket, line, self.clock, time, due, start, rate);
+                let active_time = time + self.tail;
+                let with = held.push(
+                    ticket,
+                    line,
+                    self.clock,
+                    time,
+                    active_time,
+                    due,
+                    start,
+                    rate,
+                );
                 let mut next = self;
                 next.next = ticket + 1;
                 next.charges = with;

@@ -33,7 +33,7 @@ pub fn add_started(
         let start = held.starts[i];
         if is_between(low, high, start) {
             let line = held.lines[i];
-            let time = held.times[i];
+            let time = held.active_times[i];
             let rate = held.rates[i];
             steps = add(at, counts, steps, line, time, rate, start);
         }

@@ -46,7 +46,7 @@ impl Measured {
     /// one is taken there, and from then on the call keeps the plan.
     fn kept(mut first: Vec<Line>, call: Line) -> Measured {
         first.push(call.clone());
-        let answers = answers_of(Station::fresh(1, 100), &first);
+        let answers = answers_of(Station::fresh(1, 100, 0), &first);
         let last = show(answers.last().map_or(b"".as_slice(), Vec::as_slice));
         let rounds = last.rsplit(' ').next().and_then(|word| word.parse().ok()).unwrap_or(0);
         Measured { rounds, ..Measured::repeatable(first, call) }
@@ -117,7 +117,7 @@ pub fn typical_offer(held: usize) -> Measured {
         let call = Call::Enquire { ticket };
         write_call(&call).into_bytes()
     }));
-    let answers = answers_of(Station::fresh(1, 100), &first);
+    let answers = answers_of(Station::fresh(1, 100, 0), &first);
     let start = |answer: &Line| {
         let text = show(answer);
         text.strip_prefix("waiting ")?.split(' ').next()?.parse().ok()
@@ -180,7 +180,7 @@ mod tests {
         let kept = [typical_latest(180), typical_lines(180), typical_offer(180)];
         let worst = [worst_latest(), worst_offer()];
         for measured in kept.iter().chain(&worst) {
-            let answers = answers_of(Station::fresh(1, 100), &measured.scripts(2)[0]);
+            let answers = answers_of(Station::fresh(1, 100, 0), &measured.scripts(2)[0]);
             let last = show(&answers[answers.len() - 1]);
             assert!(last.starts_with("plan 7 "), "{last}");
         }
@@ -193,7 +193,7 @@ mod tests {
             let commits = [typical_commit(held), worst_commit(held)];
             let previews = [typical_preview(held), worst_preview(held), preview_before_all(held)];
             for measured in commits.into_iter().chain(previews) {
-                let answers = answers_of(Station::fresh(1, 100), &measured.scripts(2)[0]);
+                let answers = answers_of(Station::fresh(1, 100, 0), &measured.scripts(2)[0]);
                 let refused = answers.iter().find(|answer| answer.starts_with(b"refused"));
                 assert_eq!(refused.map(|answer| show(answer)), None);
             }
@@ -204,7 +204,7 @@ mod tests {
     fn previews_that_find_room_at_once_or_behind_all() {
         for held in [20, 60, 120, 180] {
             let last = |measured: Measured| {
-                let answers = answers_of(Station::fresh(1, 100), &measured.scripts(1)[0]);
+                let answers = answers_of(Station::fresh(1, 100, 0), &measured.scripts(1)[0]);
                 answers.last().map(|answer| show(answer))
             };
             for measured in [typical_preview(held), preview_before_all(held)] {
@@ -218,7 +218,7 @@ mod tests {
     fn rounds_that_are_the_last() {
         for measured in [one_round(true), one_round(false), all_equal()] {
             assert_eq!(measured.rounds, 1);
-            let answers = answers_of(Station::fresh(1, 100), &measured.scripts(2)[0]);
+            let answers = answers_of(Station::fresh(1, 100, 0), &measured.scripts(2)[0]);
             assert!(show(&answers[answers.len() - 1]).starts_with("plan 7 "));
         }
     }

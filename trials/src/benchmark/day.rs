@@ -84,7 +84,7 @@ pub fn script(class: Class, number: u64, replan: Replan) -> Vec<Line> {
 /// call; the fast program finds these starts.
 fn script_of(class: Class, cars: &[Car], replan: Replan) -> Vec<Line> {
     let mut day = Day { clock: 0, lines: Vec::new() };
-    day.call(&Call::Open { limit: class.limit, percent: class.percent });
+    day.call(&Call::Open { limit: class.limit, percent: class.percent, tail: 0 });
     for (place, car) in cars.iter().enumerate() {
         day.move_to(car.arrival);
         let Car { line, time, due, .. } = *car;
@@ -99,7 +99,7 @@ fn script_of(class: Class, cars: &[Car], replan: Replan) -> Vec<Line> {
         }
     }
     day.move_to(LAST_MINUTE);
-    fill(Station::fresh(1, 100), &day.lines)
+    fill(Station::fresh(1, 100, 0), &day.lines)
 }
 
 struct Day {
@@ -141,7 +141,7 @@ mod tests {
         let lines = script_of(CLASS, &[car(0), car(1), car(2), car(7)], Replan::Latest);
         let text: Vec<String> = lines.iter().map(|line| show(line)).collect();
         let expected = [
-            "open 5 20",
+            "open 5 20 0",
             "commit 1 10 20 1 0",
             "move 1 360",
             "commit 1 10 21 1 10",

@@ -28,7 +28,7 @@ pub fn run(program: &str, repeat: usize, days: u64) -> Result<(), String> {
     let begun = Instant::now();
     let pair = Pair::new(program, repeat)?;
     // A program that is not there, or does not speak the protocol, is told at once.
-    pair.answers(&[b"open 5 20".to_vec()])?;
+    pair.answers(&[b"open 5 20 0".to_vec()])?;
     print_method(&pair, repeat)?;
     println!("### Whole days\n");
     days::print(&pair)?;

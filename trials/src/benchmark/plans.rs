@@ -20,7 +20,7 @@ fn value(class: Class, days: u64) -> Result<Valued, String> {
     for number in 0..days {
         for (replan, sum) in REPLANS.iter().zip(&mut worths) {
             let script = day::script(class, number, *replan);
-            sum.add(worth(&script, &answers_of(Station::fresh(1, 100), &script))?);
+            sum.add(worth(&script, &answers_of(Station::fresh(1, 100, 0), &script))?);
         }
     }
     Ok(Valued { class, days, worths })

@@ -25,14 +25,14 @@ fn order(on: u32, time: u32, due: u32) -> Line {
 
 /// The lines with the starts that the fast program would show.
 fn filled(lines: Vec<Line>) -> Vec<Line> {
-    fill(Station::fresh(1, 100), &lines)
+    fill(Station::fresh(1, 100, 0), &lines)
 }
 
 /// A peak of the source's scenario 2, even lines, N = 20 and Δ = 0.2: all cars at
 /// once and all of them waiting.
 pub fn peak(held: usize) -> Vec<Line> {
     let cars = cars::of_day(&mut Random::new(SEED), 2, true, held as u64);
-    let mut lines = vec![line(&Call::Open { limit: 20, percent: 20 })];
+    let mut lines = vec![line(&Call::Open { limit: 20, percent: 20, tail: 0 })];
     let orders = cars.iter().map(|car| order(car.line, car.time, car.due - car.arrival));
     lines.extend(orders);
     filled(lines)
@@ -42,7 +42,7 @@ pub fn peak(held: usize) -> Vec<Line> {
 /// their own lines or all on line 1.
 pub fn one_round(spread: bool) -> Vec<Line> {
     let cars = cars::of_day(&mut Random::new(SEED), 2, true, 180);
-    let mut lines = vec![line(&Call::Open { limit: 20, percent: 100 })];
+    let mut lines = vec![line(&Call::Open { limit: 20, percent: 100, tail: 0 })];
     lines.extend(cars.iter().map(|car| {
         let on = if spread { car.line } else { 1 };
         order(on, car.time, car.due - car.arrival)
@@ -52,7 +52,7 @@ pub fn one_round(spread: bool) -> Vec<Line> {
 
 /// 180 charges of line 1 that differ in nothing but their tickets.
 pub fn all_equal() -> Vec<Line> {
-    let mut lines = vec![line(&Call::Open { limit: 20, percent: 100 })];
+    let mut lines = vec![line(&Call::Open { limit: 20, percent: 100, tail: 0 })];
     lines.extend((0..180).map(|_| order(1, 60, 240)));
     filled(lines)
 }
@@ -63,7 +63,7 @@ pub const PASSING: u32 = 1_000;
 /// Charges that last and leave a point of line 3 free from the clock on, with ends in
 /// minutes of their own. Few go to line 3; the bound makes most of the others wait.
 pub fn lasting(held: usize) -> Vec<Line> {
-    let mut lines = vec![line(&Call::Open { limit: 20, percent: 40 })];
+    let mut lines = vec![line(&Call::Open { limit: 20, percent: 40, tail: 0 })];
     for place in 0..held as u32 {
         let on = if place % 9 == 8 { 3 } else { 1 + place % 2 };
         lines.push(order(on, PASSING + 100 + 37 * place % 300, LOOSE));
@@ -79,7 +79,7 @@ pub fn preview_at_once() -> Line {
 /// Charges on one point of line 1, one behind the other, all but the first of which start
 /// behind the minute of `preview_at_once`.
 pub fn behind(held: usize) -> Vec<Line> {
-    let mut lines = vec![line(&Call::Open { limit: 1, percent: 100 })];
+    let mut lines = vec![line(&Call::Open { limit: 1, percent: 100, tail: 0 })];
     lines.extend((0..held).map(|_| order(1, 10, LOOSE)));
     filled(lines)
 }
@@ -106,7 +106,7 @@ const LONGEST: u32 = 1_440;
 /// order on it goes through all steps. Orders leave no such gaps; an offer does. The
 /// first ticket lies last, so that every load goes in before all others.
 pub fn dense(held: usize) -> (Vec<Line>, Line) {
-    let mut lines = vec![line(&Call::Open { limit: 1, percent: 100 })];
+    let mut lines = vec![line(&Call::Open { limit: 1, percent: 100, tail: 0 })];
     let mut starts = vec![0, LONGEST];
     lines.extend([order(1, LONGEST, LOOSE), order(1, LONGEST, LOOSE)]);
     let short = held as u32 - 2;
@@ -138,7 +138,7 @@ pub fn preview_behind_dense() -> Line {
 /// All charges on one line with one point, ordered against latest-start order, so
 /// that each goes through all placed before it.
 pub fn queue(held: usize) -> Vec<Line> {
-    let mut lines = vec![line(&Call::Open { limit: 1, percent: 100 })];
+    let mut lines = vec![line(&Call::Open { limit: 1, percent: 100, tail: 0 })];
     let due = |place: usize| 8 * (held - place) as u32;
     lines.extend((0..held).map(|place| order(1, 8, due(place))));
     filled(lines)

@@ -6,7 +6,7 @@
 use super::plan::{ALLOWANCE_SPENT, NO_START};
 use super::priority::{foremost, shortest, Crowd};
 use super::profile::{Load, Profile, NEVER};
-use super::station::{Charge, Station};
+use super::station::Station;
 use crate::yard::Planned;
 
 /// A cap never rises along the minutes. Place k holds the first minute from which
@@ -42,9 +42,9 @@ impl Station {
         let mut starts = vec![0; waiting.len()];
         let crowds = [0, 1, 2].map(|line| {
             let own = waiting.iter().filter(|(_, charge)| charge.line == line);
-            Crowd::of(own)
+            Crowd::of(own, self.tail)
         });
-        let begun = Profile::of(self.begun().map(Charge::load), self.clock);
+        let begun = self.profile(self.begun());
         let mut rounds = 0;
         loop {
             let mut profile = begun.clone();
@@ -90,9 +90,14 @@ impl Station {
                 _ => profile.run_from(start, crowd.longest, |counts| caps.room(counts[line], rate)),
             });
             let chosen = unplaced.remove(foremost(&unplaced, room));
-            profile.add(Load { line, rate: chosen.rate, from: start, until: start + chosen.time });
+            profile.add(Load {
+                line,
+                rate: chosen.rate,
+                from: start,
+                until: start + chosen.active,
+            });
             starts[chosen.place] = start;
-            if chosen.time == shortest_of_rate[usize::from(chosen.rate) - 1] {
+            if chosen.active == shortest_of_rate[usize::from(chosen.rate) - 1] {
                 shortest_of_rate = shortest(&unplaced);
             }
         }
@@ -118,7 +123,7 @@ fn start_of_any(
 fn any_placed(minute: u32, crowd: &Crowd, starts: &[u32]) -> bool {
     crowd.waiting.iter().any(|waiting| {
         let start = starts[waiting.place];
-        start <= minute && minute < start + waiting.time
+        start <= minute && minute < start + waiting.active
     })
 }
 

@@ -1,6 +1,6 @@
 //! "All three end with the same test", and "Replan by latest start".
 
-use super::profile::{Load, Profile};
+use super::profile::Load;
 use super::station::{Charge, Station};
 use crate::yard::Planned;
 
@@ -36,7 +36,7 @@ impl Station {
         for (charge, start) in waiting.zip(starts) {
             charge.start = *start;
         }
-        let profile = Profile::of(charges.iter().map(Charge::load), self.clock);
+        let profile = self.profile(charges.iter());
         if !profile.within_limit(self.rules) {
             return Err(5);
         }
@@ -83,14 +83,15 @@ impl Station {
     /// Begun charges may be unsound without the waiting ones. Then the first
     /// charge has to cover every unsound minute, and from there on all is sound.
     fn latest_starts(&self) -> Option<Vec<u32>> {
-        let mut profile = Profile::of(self.begun().map(Charge::load), self.clock);
+        let mut profile = self.profile(self.begun());
         let waiting = self.in_latest_start_order();
         let mut starts = vec![0; waiting.len()];
         let mut span = profile.unsound_span(self.rules);
         for (place, charge) in waiting {
             let (first, after) = span.take().unwrap_or((u32::MAX, 0));
-            let least = after.saturating_sub(charge.time).max(self.clock);
             let Charge { line, rate, time, .. } = charge;
+            let time = time + self.tail;
+            let least = after.saturating_sub(time).max(self.clock);
             let start = profile.earliest(line, rate, time, least, self.rules);
             if start > first {
                 return None;

@@ -87,8 +87,10 @@ pub const E: [u32; 512] = [
 pub struct Waiting {
     /// Its place in an offer.
     pub place: usize,
-    pub time: u32,
-    pub due: u32,
+    time: u32,
+    /// Its active minutes, tail included.
+    pub active: u32,
+    due: u32,
     pub rate: u16,
     weight: u32,
 }
@@ -105,14 +107,15 @@ pub struct Crowd {
 
 impl Crowd {
     /// Of the charges of a line, already in latest-start order.
-    pub fn of<'a>(charges: impl Iterator<Item = &'a (usize, Charge)>) -> Crowd {
+    pub fn of<'a>(charges: impl Iterator<Item = &'a (usize, Charge)>, tail: u32) -> Crowd {
         let mut crowd = Crowd::default();
         for (place, charge) in charges {
             let Charge { time, due, rate, .. } = *charge;
-            crowd.waiting.push(Waiting { place: *place, time, due, rate, weight: 0 });
+            let active = time + tail;
+            crowd.waiting.push(Waiting { place: *place, time, active, due, rate, weight: 0 });
             crowd.number += 1;
             crowd.time += u64::from(time);
-            crowd.longest = crowd.longest.max(time);
+            crowd.longest = crowd.longest.max(active);
         }
         crowd
     }
@@ -131,12 +134,12 @@ impl Crowd {
     }
 }
 
-/// The shortest time of each rate, or NEVER.
+/// The fewest active minutes of each rate, or NEVER.
 pub fn shortest(unplaced: &[Waiting]) -> [u32; 2] {
     let mut shortest = [u32::MAX; 2];
     for waiting in unplaced {
         let of_rate = &mut shortest[usize::from(waiting.rate) - 1];
-        *of_rate = waiting.time.min(*of_rate);
+        *of_rate = waiting.active.min(*of_rate);
     }
     shortest
 }
@@ -147,7 +150,7 @@ pub fn foremost(unplaced: &[Waiting], room: [u32; 2]) -> usize {
     let mut best = None;
     let (mut weight, mut time) = (0, 1);
     for (place, waiting) in unplaced.iter().enumerate() {
-        if waiting.time > room[usize::from(waiting.rate) - 1] {
+        if waiting.active > room[usize::from(waiting.rate) - 1] {
             continue;
         }
         let mine = u64::from(waiting.weight) * time;

@@ -4,13 +4,12 @@
 //! clock on, which is as long as the charge at first and twice as long whenever the
 //! search has come to its end.
 
-use super::profile::{Load, Profile, Rules, Wanted, NEVER};
-use super::station::Charge;
+use super::profile::{Load, Profile, Wanted, NEVER};
+use super::station::Station;
 
 /// The profile up to the end of the window.
 struct Window<'a> {
-    charges: &'a [Charge],
-    clock: u32,
+    station: &'a Station,
     profile: Profile,
     /// How many charges are in.
     added: usize,
@@ -20,41 +19,43 @@ struct Window<'a> {
 }
 
 impl Window<'_> {
-    fn new(charges: &[Charge], clock: u32, length: u32) -> Window<'_> {
+    fn new(station: &Station, length: u32) -> Window<'_> {
+        let clock = station.clock;
         let profile = Profile::empty(clock);
-        let mut window = Window { charges, clock, profile, added: 0, length, until: clock };
+        let mut window = Window { station, profile, added: 0, length, until: clock };
         window.add_until(clock + length);
         window
     }
 
     fn widen(&mut self) {
         self.length *= 2;
-        self.add_until(self.clock + self.length);
+        self.add_until(self.station.clock + self.length);
     }
 
     /// Adds the loads that start from the present end of the window to this one.
     fn add_until(&mut self, until: u32) {
-        for charge in self.charges {
-            let Load { line, rate, from, until: end } = charge.load();
-            let from = from.max(self.clock);
+        let Station { charges, clock, tail, .. } = self.station;
+        for charge in charges {
+            let Load { line, rate, from, until: end } = charge.load(*tail);
+            let from = from.max(*clock);
             if self.until <= from && from < until {
                 self.profile.add(Load { line, rate, from, until: end });
                 self.added += 1;
             }
         }
-        self.until = if self.added == self.charges.len() { NEVER } else { until };
+        self.until = if self.added == charges.len() { NEVER } else { until };
     }
 }
 
 /// The smallest start, not below the clock, with which the held charges, which are sound,
-/// and this one are sound together.
-pub fn earliest(charges: &[Charge], clock: u32, wanted: Wanted, rules: Rules) -> u32 {
-    let mut window = Window::new(charges, clock, wanted.time);
-    let (mut start, mut step) = (clock, 0);
+/// and this one are sound together. The time wanted has the tail in it.
+pub fn earliest(station: &Station, wanted: Wanted) -> u32 {
+    let mut window = Window::new(station, wanted.time);
+    let (mut start, mut step) = (station.clock, 0);
     loop {
         // A test up to the end of the window fails rightly, but does not pass.
         let time = wanted.time.min(window.until - start);
-        let tested = window.profile.test(step, start, Wanted { time, ..wanted }, rules);
+        let tested = window.profile.test(step, start, Wanted { time, ..wanted }, station.rules);
         if tested.fits && time == wanted.time {
             return start;
         }
@@ -72,12 +73,14 @@ pub fn earliest(charges: &[Charge], clock: u32, wanted: Wanted, rules: Rules) ->
 #[cfg(test)]
 mod tests {
     use super::*;
-    use crate::fast::profile::Tested;
+    use crate::fast::profile::{Rules, Tested};
+    use crate::fast::station::Charge;
     use crate::random::Random;
     use crate::reference::{self, minutes};
 
     const CLOCK: u32 = 100;
     const RULES: Rules = Rules { limit: 3, bound: 2 };
+    const TAIL: u32 = 4;
 
     fn charges(random: &mut Random, count: u64) -> Vec<Charge> {
         let charge = |ticket| Charge {
@@ -95,7 +98,7 @@ mod tests {
         let Charge { ticket, line, time, due, rate, start } = *charge;
         let (line, rate) = (line as u32 + 1, rate.into());
         let (time, due, start) = (time.into(), due.into(), start.into());
-        reference::Charge { ticket, line, order: 0, time, due, rate, start }
+        reference::Charge { ticket, line, order: 0, time, due, rate, start, tail: TAIL.into() }
     }
 
     /// Number and verdict are those of the reference, for any plan and candidate.
@@ -105,9 +108,10 @@ mod tests {
         for _ in 0..300 {
             let count = random.below(9);
             let plan = charges(&mut random, count);
-            let profile = Profile::of(plan.iter().map(Charge::load), CLOCK);
+            let profile = Profile::of(plan.iter().map(|charge| charge.load(TAIL)), CLOCK);
             let candidate = charges(&mut random, 1)[0];
             let Charge { line, rate, time, .. } = candidate;
+            let time = time + TAIL;
             for start in CLOCK..CLOCK + 260 {
                 let rules = minutes::Rules { limit: 3, bound: 2 };
                 let slow_plan: Vec<_> = plan.iter().map(slow).collect();
@@ -130,11 +134,13 @@ mod tests {
         for _ in 0..2_000 {
             let count = random.below(12);
             let plan = charges(&mut random, count);
-            let profile = Profile::of(plan.iter().map(Charge::load), CLOCK);
+            let mut station = Station::fresh(1, 100, TAIL);
+            (station.rules, station.clock, station.charges) = (RULES, CLOCK, plan);
+            let profile = station.profile(station.charges.iter());
             let time = random.pick(&[1, 2, 7, 30, 200]);
             let (line, rate) = (random.below(3) as usize, random.between(1, 2) as u16);
             let expected = profile.earliest(line, rate, time, CLOCK, RULES);
-            assert_eq!(earliest(&plan, CLOCK, Wanted { line, rate, time }, RULES), expected);
+            assert_eq!(earliest(&station, Wanted { line, rate, time }), expected);
         }
     }
 }

@@ -2,7 +2,7 @@
 //! profile: each call that looks at minutes makes the profile anew. A station that
 //! kept it from call to call would save that; docs/BENCHMARKS.md says how much.
 
-use super::profile::{Load, Rules, Wanted};
+use super::profile::{Load, Profile, Rules, Wanted};
 use super::search::earliest;
 use crate::yard::{Committed, Found, Moved, Order, Planned, Refusal, Yard};
 
@@ -25,8 +25,9 @@ impl Charge {
         self.start + self.time
     }
 
-    pub fn load(&self) -> Load {
-        Load { line: self.line, rate: self.rate, from: self.start, until: self.end() }
+    /// What it draws, with the station's tail.
+    pub fn load(&self, tail: u32) -> Load {
+        Load { line: self.line, rate: self.rate, from: self.start, until: self.end() + tail }
     }
 
     /// The key of latest-start order, which may be negative; charges lie in ticket
@@ -45,15 +46,18 @@ fn bound(limit: u32, percent: u32) -> u32 {
 
 pub struct Station {
     pub rules: Rules,
+    /// r: contactors open so many minutes late.
+    pub tail: u32,
     pub clock: u32,
     next_ticket: u32,
     pub charges: Vec<Charge>,
 }
 
 impl Station {
-    pub fn fresh(limit: u32, percent: u32) -> Station {
+    pub fn fresh(limit: u32, percent: u32, tail: u32) -> Station {
         Station {
             rules: Rules { limit: limit as u16, bound: bound(limit, percent) as u16 },
+            tail,
             clock: 0,
             next_ticket: 1,
             charges: Vec::with_capacity(PLACES),
@@ -90,8 +94,13 @@ impl Station {
     fn earliest(&self, order: Order) -> Result<u32, Refusal> {
         self.check_order(order)?;
         let (line, rate) = (order.line as usize - 1, order.rate as u16);
-        let wanted = Wanted { line, rate, time: order.time };
-        Ok(earliest(&self.charges, self.clock, wanted, self.rules))
+        let wanted = Wanted { line, rate, time: order.time + self.tail };
+        Ok(earliest(self, wanted))
+    }
+
+    /// The profile of some of the charges.
+    pub fn profile<'a>(&self, charges: impl Iterator<Item = &'a Charge>) -> Profile {
+        Profile::of(charges.map(|charge| charge.load(self.tail)), self.clock)
     }
 
     pub fn waiting(&self) -> impl Iterator<Item = &Charge> {
@@ -106,18 +115,20 @@ impl Station {
 }
 
 impl Yard for Station {
-    fn open(&mut self, limit: u32, percent: u32) -> Result<u32, Refusal> {
+    fn open(&mut self, limit: u32, percent: u32, tail: u32) -> Result<u32, Refusal> {
         let refusal = if !(1..=60).contains(&limit) {
             1
         } else if percent > 100 {
             2
         } else if bound(limit, percent) == 0 {
             3
+        } else if tail > 5 {
+            19
         } else {
-            *self = Station::fresh(limit, percent);
+            *self = Station::fresh(limit, percent, tail);
             return Ok(u32::from(self.rules.bound));
         };
-        *self = Station::fresh(1, 100);
+        *self = Station::fresh(1, 100, 0);
         Err(refusal)
     }
 
@@ -157,7 +168,8 @@ impl Yard for Station {
             pair[1] = *start;
         }
         let held = self.charges.len();
-        self.charges.retain(|charge| charge.end() > target);
+        let tail = self.tail;
+        self.charges.retain(|charge| charge.end() + tail > target);
         self.clock = target;
         Ok(Moved { reported: passed.len(), dropped: held - self.charges.len() })
     }

@@ -26,7 +26,7 @@ pub struct Author {
 
 impl Author {
     pub fn new(kind: &'static str, number: u64, random: Random) -> Author {
-        let interpreter = Interpreter::new(Station::fresh(1, 100));
+        let interpreter = Interpreter::new(Station::fresh(1, 100, 0));
         Author { random, interpreter, script: Script { kind, number, ..Script::default() } }
     }
 
@@ -50,8 +50,15 @@ impl Author {
         self.line(write_call(&call).into_bytes());
     }
 
+    /// An opening whose contactors open late at times (N7).
     pub fn open(&mut self, limit: u32, percent: u32) {
-        self.call(Call::Open { limit, percent });
+        let late = self.random.percent(35);
+        let tail = if late { self.random.between(1, 5) as u32 } else { 0 };
+        self.open_with_tail(limit, percent, tail);
+    }
+
+    pub fn open_with_tail(&mut self, limit: u32, percent: u32, tail: u32) {
+        self.call(Call::Open { limit, percent, tail });
     }
 
     pub fn preview(&mut self, order: Order) {

@@ -24,7 +24,9 @@ fn opening(author: &mut Author) {
     let least = due::least_percent(u64::from(limit.clamp(1, 60))) as u32;
     let usual = author.random.between(u64::from(least), 100) as u32;
     let percent = argument(author, usual, &[0, 1, least - 1, least, 99, 100, 101]);
-    author.open(limit, percent);
+    let usual = author.random.below(6) as u32;
+    let tail = argument(author, usual, &[0, 1, 4, 5, 6, 7]);
+    author.open_with_tail(limit, percent, tail);
 }
 
 fn order(author: &mut Author) {

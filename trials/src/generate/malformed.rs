@@ -5,7 +5,7 @@ use super::author::Author;
 use super::{due, mixed};
 use crate::protocol::LONGEST_LINE;
 
-const SAMPLES: [&str; 53] = [
+const SAMPLES: [&str; 57] = [
     "",
     "#",
     "# commit 1 1 1 1 0",
@@ -24,12 +24,16 @@ const SAMPLES: [&str; 53] = [
     "open 5",
     "open 5 ",
     "open  5 20",
+    "open 5 20",
     "open 5 20 ",
-    "open 5 20 0",
-    "open five 20",
-    "open 5 20\r",
-    "open 4294967296 20",
-    "open 99999999999999999999999999 20",
+    "open 5 20 0 ",
+    "open 5 20 0 0",
+    "open five 20 0",
+    "open 5 20 -1",
+    "open 5 20 4294967296",
+    "open 5 20 0\r",
+    "open 4294967296 20 0",
+    "open 99999999999999999999999999 20 0",
     // The call that preview and commit have replaced.
     "order",
     "order 1 10 600",

@@ -23,6 +23,7 @@ mod rates;
 mod rounds;
 mod searches;
 mod spent;
+mod tails;
 mod tickets;
 mod unopened;
 mod weights;
@@ -39,7 +40,7 @@ pub struct Kind {
     write: fn(&mut Author),
 }
 
-pub const KINDS: [Kind; 20] = [
+pub const KINDS: [Kind; 21] = [
     Kind { name: "edges", share: 15, write: edges::write },
     Kind { name: "mixed", share: 24, write: mixed::write },
     Kind { name: "offers", share: 15, write: offers::write },
@@ -56,6 +57,7 @@ pub const KINDS: [Kind; 20] = [
     Kind { name: "priority", share: 12, write: priority::write },
     Kind { name: "weights", share: 5, write: weights::write },
     Kind { name: "searches", share: 8, write: searches::write },
+    Kind { name: "tails", share: 15, write: tails::write },
     // These are long and come once in a thousand, at turns of their own.
     Kind { name: "tickets", share: 0, write: tickets::write },
     Kind { name: "spent", share: 0, write: spent::write },

@@ -8,7 +8,7 @@ use crate::random::Random;
 const SEED: u64 = 11;
 
 pub fn write(author: &mut Author) {
-    author.open(60, 2);
+    author.open_with_tail(60, 2, 0);
     let mut times = Random::new(SEED);
     for place in 0..180 {
         let time = times.between(1, 200) as u32;

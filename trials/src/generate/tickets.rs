@@ -17,7 +17,7 @@ fn crowd(author: &mut Author) {
 }
 
 pub fn write(author: &mut Author) {
-    author.open(60, 100);
+    author.open_with_tail(60, 100, 0);
     while author.station().next_ticket <= LAST_TICKET - 180 {
         crowd(author);
         author.move_on(1);

@@ -30,15 +30,15 @@ impl Station {
             (13, self.charges.len() == PLACES),
             (14, self.next_ticket > 65_535),
         ])?;
-        let (ticket, order) = (self.next_ticket, self.clock);
-        Ok(Charge { ticket, line, order, time, due, rate, start: order })
+        let (ticket, order, tail) = (self.next_ticket, self.clock, self.tail);
+        Ok(Charge { ticket, line, order, time, due, rate, start: order, tail })
     }
 
     /// "The start is the smallest s not below the clock with which the held plan and
     /// this charge are sound together."
     pub fn earliest(&self, charge: &Charge) -> u64 {
         smallest_start(&self.charges, charge, self.clock, self.rules())
-            .expect("the held plan is sound, so its last end is a start")
+            .expect("the held plan is sound, so there is a start behind all of it")
     }
 
     /// "Answer: ticket and start. Tickets rise by one."
@@ -50,14 +50,14 @@ impl Station {
 }
 
 impl Yard for Station {
-    /// "Beside a refused opening stands the fresh station of 1, 100." "Refusal 3 is
-    /// given when this D is 0" (N3).
-    fn open(&mut self, limit: u32, percent: u32) -> Result<u32, Refusal> {
-        let (limit, percent) = (u64::from(limit), u64::from(percent));
-        *self = Station::fresh(1, 100);
+    /// "Beside a refused opening stands the fresh station of 1, 100", and "r is 0" (N7).
+    /// "Refusal 3 is given when this D is 0" (N3). "Refused: 19, after 3, r above 5" (N7).
+    fn open(&mut self, limit: u32, percent: u32, tail: u32) -> Result<u32, Refusal> {
+        let (limit, percent, tail) = (u64::from(limit), u64::from(percent), u64::from(tail));
+        *self = Station::fresh(1, 100, 0);
         refuse_first(&[(1, !(1..=60).contains(&limit)), (2, percent > 100)])?;
-        refuse_first(&[(3, bound(limit, percent) == 0)])?;
-        *self = Station::fresh(limit, percent);
+        refuse_first(&[(3, bound(limit, percent) == 0), (19, tail > 5)])?;
+        *self = Station::fresh(limit, percent, tail);
         Ok(self.bound as u32)
     }
 
@@ -117,6 +117,8 @@ impl Yard for Station {
         Ok(self.end_with(list, rounds))
     }
 
+    /// "an enquiry shows it as the end" (N7): s + p, also where that is at or below the
+    /// clock.
     fn enquire(&self, ticket: u32) -> Result<Found, Refusal> {
         let charge = self.charges.iter().find(|charge| charge.ticket == ticket).ok_or(15u32)?;
         let Charge { start, rate, .. } = *charge;

@@ -3,7 +3,7 @@
 //! through to its end before the next one is looked at.
 
 use super::minutes;
-use super::station::{last_end, lateness, Station};
+use super::station::{last_clear, last_end, lateness, Station};
 use crate::yard::Planned;
 
 pub const NO_START: u32 = 1;
@@ -30,7 +30,7 @@ impl Station {
         if last_end(&plan) > last_end(&self.charges) {
             return LATER_END;
         }
-        let length = last_end(&plan).max(self.clock) - self.clock;
+        let length = last_clear(&plan).max(self.clock) - self.clock;
         let counts = minutes::counts(&plan, self.clock, length);
         let rules = self.rules();
         if !counts.iter().all(|counts| rules.within_limit(counts)) {

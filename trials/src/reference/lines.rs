@@ -11,7 +11,7 @@ use super::judge::{List, ALLOWANCE_SPENT, NO_START};
 use super::latest::in_ticket_order;
 use super::minutes::{count_charge, counts, Counts};
 use super::priority::Crowd;
-use super::station::{last_end, Charge, Station};
+use super::station::{last_clear, Charge, Station};
 
 /// The caps of the three lines in one minute; minutes as in the counts.
 type Caps = Vec<[u64; 3]>;
@@ -50,8 +50,8 @@ impl Station {
     /// Enough minutes for any round: a charge has room at the latest after all
     /// others of its line, since no cap is ever below D, and no rate is above D.
     fn minutes_of_a_round(&self) -> u64 {
-        let waiting: u64 = self.waiting().iter().map(|charge| charge.time).sum();
-        last_end(&self.begun()).max(self.clock) - self.clock + waiting
+        let waiting: u64 = self.waiting().iter().map(Charge::active_time).sum();
+        last_clear(&self.begun()).max(self.clock) - self.clock + waiting
     }
 
     fn round(&self, caps: &Caps) -> Round {
@@ -111,9 +111,9 @@ impl Room<'_> {
         self.counts[minute][self.line] + weight <= self.caps[minute][self.line]
     }
 
-    /// "in all its minutes"
+    /// "in all its minutes": the active ones, tail included (N7)
     fn fits(&self, charge: &Charge, start: u64) -> bool {
-        let mut minutes = start..start + charge.time;
+        let mut minutes = start..start + charge.active_time();
         minutes.all(|minute| self.has_room(charge.weight(), minute as usize))
     }
 
@@ -128,18 +128,18 @@ impl Room<'_> {
         starts.min().expect("a charge is unplaced")
     }
 
-    /// The smallest start at which this charge fits: the first run of p minutes in a row
-    /// with room for its rate.
+    /// The smallest start at which this charge fits: the first run of as many minutes in a
+    /// row with room for its rate as it is active.
     fn first_of(&self, charge: &Charge) -> u64 {
         let mut in_a_row = 0;
         for minute in 0..self.caps.len() {
             let has_room = self.has_room(charge.weight(), minute);
             in_a_row = if has_room { in_a_row + 1 } else { 0 };
-            if in_a_row == charge.time {
-                return minute as u64 + 1 - charge.time;
+            if in_a_row == charge.active_time() {
+                return minute as u64 + 1 - in_a_row;
             }
         }
-        unreachable!("the minutes after the line's last end have room")
+        unreachable!("the minutes in which nothing else of the line is active have room")
     }
 }
 

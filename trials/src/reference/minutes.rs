@@ -46,7 +46,7 @@ pub fn counts(charges: &[Charge], from: u64, minutes: u64) -> Vec<Counts> {
 /// Counts one more charge in each of its active minutes that the array has.
 pub fn count_charge(counts: &mut [Counts], charge: &Charge, from: u64) {
     let line = charge.line as usize - 1;
-    let until = charge.end().min(from + counts.len() as u64);
+    let until = charge.clear().min(from + counts.len() as u64);
     for minute in charge.start.max(from)..until {
         counts[(minute - from) as usize][line] += charge.weight();
     }

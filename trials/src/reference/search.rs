@@ -7,15 +7,15 @@
 //! give these numbers at once, so a long queue does not cost its square.
 
 use super::minutes::{self, Rules};
-use super::station::{last_end, Charge};
+use super::station::{last_clear, Charge};
 
 /// The smallest start of `charge` (its own start is not looked at), or none.
 ///
-/// After the last end of the plan the charge is alone, and no later start
-/// changes the minutes before: the last end is the last start worth a trial.
+/// Where nothing of the plan is active any more the charge is alone, and no later start
+/// changes the minutes before: that minute is the last start worth a trial.
 pub fn smallest_start(plan: &[Charge], charge: &Charge, clock: u64, rules: Rules) -> Option<u64> {
-    let last_trial = last_end(plan).max(clock);
-    let length = last_trial + charge.time - clock;
+    let last_trial = last_clear(plan).max(clock);
+    let length = last_trial + charge.active_time() - clock;
     let counts = minutes::counts(plan, clock, length);
     let line = charge.line as usize - 1;
     let without = Totals::of(counts.iter().map(|counts| !rules.sound_in(counts)));
@@ -25,7 +25,7 @@ pub fn smallest_start(plan: &[Charge], charge: &Charge, clock: u64, rules: Rules
         !rules.sound_in(&counts)
     }));
     (clock..=last_trial).find(|start| {
-        let (from, until) = (start - clock, start - clock + charge.time);
+        let (from, until) = (start - clock, start - clock + charge.active_time());
         let own = with.between(from, until);
         let others = without.between(0, from) + without.between(until, length);
         own + others == 0
@@ -50,14 +50,14 @@ pub struct Tested {
 /// held plan is sound.
 pub fn test(plan: &[Charge], candidate: &Charge, rules: Rules) -> Tested {
     let line = candidate.line as usize - 1;
-    for minute in candidate.start..candidate.end() {
+    for minute in candidate.start..candidate.clear() {
         let mut counts = minutes::counts(plan, minute, 1)[0];
         counts[line] += candidate.weight();
         if !rules.sound_in(&counts) {
             return Tested { fits: false, looked: minute - candidate.start + 1 };
         }
     }
-    Tested { fits: true, looked: candidate.time }
+    Tested { fits: true, looked: candidate.active_time() }
 }
 
 /// How many minutes in a span have a property.
@@ -85,7 +85,7 @@ mod tests {
     use super::*;
 
     fn charge(line: u32, start: u64, time: u64, rate: u32) -> Charge {
-        Charge { ticket: 1, line, order: 0, time, due: 0, rate, start }
+        Charge { ticket: 1, line, order: 0, time, due: 0, rate, start, tail: 0 }
     }
 
     const RULES: Rules = Rules { limit: 2, bound: 1 };
@@ -123,5 +123,17 @@ mod tests {
         }
         let tested = test(&[charge(2, 3, 9, 1)], &charge(2, 3, 7, 2), Rules { limit: 2, bound: 2 });
         assert_eq!(tested, Tested { fits: false, looked: 1 });
+    }
+
+    /// N7: the tail is among the active minutes, of the candidate and of the others.
+    #[test]
+    fn tails_are_looked_at() {
+        let late = |charge: Charge| Charge { tail: 3, ..charge };
+        let plan = [late(charge(1, 107, 3, 1))];
+        let tested = |start, time| test(&plan, &late(charge(1, start, time, 1)), RULES);
+        assert_eq!(tested(100, 4), Tested { fits: true, looked: 7 });
+        assert_eq!(tested(100, 5), Tested { fits: false, looked: 8 });
+        assert_eq!(tested(112, 5), Tested { fits: false, looked: 1 });
+        assert_eq!(tested(113, 5), Tested { fits: true, looked: 8 });
     }
 }

@@ -17,6 +17,8 @@ pub struct Charge {
     pub due: u64,
     pub rate: u32,
     pub start: u64,
+    /// r of the station that holds it.
+    pub tail: u64,
 }
 
 impl Charge {
@@ -25,9 +27,19 @@ impl Charge {
         self.start + self.time
     }
 
-    /// "It is active in minutes s to s + p − 1."
+    /// s + p + r: "a point as drawing for r minutes after its end" (N7).
+    pub fn clear(&self) -> u64 {
+        self.end() + self.tail
+    }
+
+    /// Its active minutes, tail included.
+    pub fn active_time(&self) -> u64 {
+        self.time + self.tail
+    }
+
+    /// "A charge is active, for limit and balance, in minutes s to s + p + r − 1" (N7).
     pub fn active_in(&self, minute: u64) -> bool {
-        self.start <= minute && minute < self.end()
+        self.start <= minute && minute < self.clear()
     }
 
     /// "It is *begun* when s is below the clock, else *waiting*"
@@ -35,9 +47,9 @@ impl Charge {
         self.start < clock
     }
 
-    /// "A charge whose end is at or below the clock is finished"
+    /// "is finished when s + p + r is at or below the clock" (N7)
     pub fn finished(&self, clock: u64) -> bool {
-        self.end() <= clock
+        self.clear() <= clock
     }
 
     /// "a charge of rate 2 counts as two wherever a line is counted" (N4)
@@ -50,7 +62,7 @@ impl Charge {
         self.due as i64 - self.time as i64
     }
 
-    /// max(0, end − d), however early d is.
+    /// max(0, end − d), however early d is: "its lateness still uses s + p" (N7).
     pub fn lateness(&self) -> u64 {
         self.end().saturating_sub(self.due)
     }
@@ -66,6 +78,8 @@ pub struct Station {
     pub limit: u64,
     pub percent: u64,
     pub bound: u64,
+    /// r: contactors open so many minutes late (N7).
+    pub tail: u64,
     pub clock: u64,
     pub next_ticket: u32,
     /// In ticket order: orders append, and dropping keeps the order.
@@ -74,9 +88,9 @@ pub struct Station {
 
 impl Station {
     /// "A fresh station: clock 0, next ticket 1, no charges."
-    pub fn fresh(limit: u64, percent: u64) -> Station {
+    pub fn fresh(limit: u64, percent: u64, tail: u64) -> Station {
         let bound = bound(limit, percent);
-        Station { limit, percent, bound, clock: 0, next_ticket: 1, charges: Vec::new() }
+        Station { limit, percent, bound, tail, clock: 0, next_ticket: 1, charges: Vec::new() }
     }
 
     pub fn rules(&self) -> Rules {
@@ -117,7 +131,12 @@ pub fn lateness(charges: &[Charge]) -> u64 {
     charges.iter().map(Charge::lateness).sum()
 }
 
-/// "the last end of held charges (0 if none)"
+/// "the last end of held charges (0 if none)": "Cause 4 compares s + p" (N7).
 pub fn last_end(charges: &[Charge]) -> u64 {
     charges.iter().map(Charge::end).max().unwrap_or(0)
+}
+
+/// From here on none of the charges is active.
+pub fn last_clear(charges: &[Charge]) -> u64 {
+    charges.iter().map(Charge::clear).max().unwrap_or(0)
 }

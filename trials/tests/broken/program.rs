@@ -33,7 +33,7 @@ struct Loop {
 impl Loop {
     fn new(fault: Fault) -> Loop {
         let limit = if fault == Fault::FirstStation { 2 } else { 1 };
-        let yard = Interpreter::new(Station::fresh(limit, 100));
+        let yard = Interpreter::new(Station::fresh(limit, 100, 0));
         Loop {
             fault,
             first: yard.clone(),

@@ -19,11 +19,11 @@ pub fn answers<Y: Yard>(yard: Y, text: &str) -> Vec<String> {
 }
 
 pub fn reference() -> trials::reference::Station {
-    trials::reference::Station::fresh(1, 100)
+    trials::reference::Station::fresh(1, 100, 0)
 }
 
 pub fn fast() -> trials::fast::Station {
-    trials::fast::Station::fresh(1, 100)
+    trials::fast::Station::fresh(1, 100, 0)
 }
 
 /// The reference and the fast program both give these answers.

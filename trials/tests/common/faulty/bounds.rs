@@ -18,24 +18,27 @@ fn wrong_bound(error: Error, hundredths: u64) -> Option<u64> {
 
 impl Faulty {
     /// The answer of the reference, and the station with the wrong bound or refusal.
-    pub fn opened(&mut self, limit: u32, percent: u32) -> Result<u32, Refusal> {
-        let answer = self.station.open(limit, percent);
+    pub fn opened(&mut self, limit: u32, percent: u32, tail: u32) -> Result<u32, Refusal> {
+        let answer = self.station.open(limit, percent, tail);
         if matches!(answer, Err(1 | 2)) {
             return answer;
         }
-        let (limit, percent) = (u64::from(limit), u64::from(percent));
-        let right = Station::fresh(limit, percent).bound;
+        let (limit, percent, tail) = (u64::from(limit), u64::from(percent), u64::from(tail));
+        let right = Station::fresh(limit, percent, tail).bound;
         let bound = wrong_bound(self.error, percent * limit).unwrap_or(right);
         let refused = match self.error {
             Error::RefusedBelowAHundred => percent * limit < 100,
             Error::RoundedDownAndOpened => right == 0,
             _ => bound == 0,
         };
-        self.station = Station::fresh(1, 100);
+        self.station = Station::fresh(1, 100, 0);
         if refused {
             return Err(3);
         }
-        self.station = Station { bound, ..Station::fresh(limit, percent) };
+        if tail > 5 {
+            return Err(19);
+        }
+        self.station = Station { bound, ..Station::fresh(limit, percent, tail) };
         Ok(bound as u32)
     }
 }

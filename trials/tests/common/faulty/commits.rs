@@ -1,7 +1,7 @@
 //! Previews and commits with an error in what is shown or taken.
 
 use super::{Error, Faulty};
-use trials::reference::{last_end, Charge, Station};
+use trials::reference::{last_clear, Charge, Station};
 use trials::yard::{Order, Refusal};
 
 impl Faulty {
@@ -11,7 +11,7 @@ impl Faulty {
         match self.error {
             Error::PreviewTakesATicket => self.station.next_ticket += 1,
             Error::PreviewShowsTheLastEnd => {
-                return last_end(&self.station.charges).max(self.station.clock)
+                return last_clear(&self.station.charges).max(self.station.clock)
             }
             _ => (),
         }
@@ -31,10 +31,10 @@ impl Faulty {
         taken.then_some(shown)
     }
 
-    /// Up to the last end, so that no plan gets too long to be counted.
+    /// As long as something is held, so that no plan gets too long to be counted.
     fn sound_with(&self, charge: Charge) -> bool {
         let Station { clock, charges: held, .. } = &self.station;
-        if charge.start < *clock || charge.start > last_end(held) {
+        if charge.start < *clock || charge.start > last_clear(held) {
             return false;
         }
         let plan = [held.as_slice(), &[charge]].concat();

@@ -6,7 +6,7 @@ use trials::reference::{in_ticket_order, latest_start_order, Charge, List, Stati
 const NO_START: u32 = 1;
 
 /// Errors that lie inside the rounds of a replan by lines.
-const OF_OWN_ROUNDS: [Error; 14] = [
+const OF_OWN_ROUNDS: [Error; 15] = [
     Error::LatestStartCutAtZero,
     Error::LatestStartUnsigned,
     Error::HigherTicketFirst,
@@ -20,6 +20,7 @@ const OF_OWN_ROUNDS: [Error; 14] = [
     Error::OneWrongNumber,
     Error::TableOnePlaceTooFar,
     Error::TableTooLong,
+    Error::TailNotInTheCaps,
     Error::OwnRounds,
 ];
 
@@ -53,7 +54,7 @@ impl Faulty {
         let (mut plan, mut placed) = (self.station.begun(), Vec::new());
         for charge in latest_start_order(self.station.waiting()) {
             let start = self.first_start(&plan, charge, |plan, start| {
-                let own = (start - clock) as usize..(start - clock + charge.time) as usize;
+                let own = (start - clock) as usize..(start - clock + charge.active_time()) as usize;
                 self.counts(plan)[own].iter().all(|counts| rules.sound_in(counts))
             })?;
             plan.push(charge.starting_at(start));

@@ -9,6 +9,7 @@ mod lists;
 mod priority;
 mod rounds;
 mod starts;
+mod tails;
 
 use trials::reference::{Charge, List, Station};
 use trials::yard::{Committed, Found, Moved, Order, Planned, Refusal, Yard};
@@ -90,6 +91,15 @@ pub enum Error {
     CandidateSkipped,
     /// What starts behind the charge's own length from the clock on is left out for good.
     WindowNotWidened,
+    // N7, contactors that open late
+    TailNotInTheBalance,
+    TailNotInTheCaps,
+    DroppedAtTheEnd,
+    LatenessWithTheTail,
+    EndShownWithTheTail,
+    TailOfARefusedOpening,
+    /// 19 before 3.
+    TailBeforeTheBound,
     /// None of these, but the rounds are made as for those in which the error lies.
     OwnRounds,
 }
@@ -105,7 +115,7 @@ pub struct Faulty {
 
 impl Faulty {
     pub fn new(error: Error) -> Faulty {
-        Faulty { error, station: Station::fresh(1, 100), reported: false, shown: None }
+        Faulty { error, station: Station::fresh(1, 100, 0), reported: false, shown: None }
     }
 
     /// A call of the reference, at which a start equal to the clock is begun if that
@@ -169,9 +179,9 @@ impl Faulty {
 }
 
 impl Yard for Faulty {
-    fn open(&mut self, limit: u32, percent: u32) -> Result<u32, Refusal> {
+    fn open(&mut self, limit: u32, percent: u32, tail: u32) -> Result<u32, Refusal> {
         self.reported = false;
-        self.opened(limit, percent)
+        self.opened_late(limit, percent, tail)
     }
 
     fn preview(&mut self, order: Order) -> Result<u64, Refusal> {
@@ -191,6 +201,7 @@ impl Yard for Faulty {
         let mut moved =
             self.with_clock(target.into(), |faulty| faulty.station.move_clock(target, report))?;
         self.station.clock = target.into();
+        moved.dropped += self.drop_at_the_end();
         if self.error == Error::ReportsOnlyOnce && self.reported {
             report.copy_from_slice(&untouched);
             moved.reported = 0;
@@ -200,13 +211,18 @@ impl Yard for Faulty {
     }
 
     fn offer(&mut self, starts: &[u32]) -> Result<Planned, Refusal> {
-        self.plan(|faulty| faulty.station.offer(starts))
+        self.plan(|faulty| {
+            if starts.len() != faulty.station.waiting().len() {
+                return Err(10);
+            }
+            Ok(faulty.ended(Ok(starts.iter().map(|start| u64::from(*start)).collect()), 0))
+        })
     }
 
     fn replan_by_latest_start(&mut self) -> Planned {
         let planned = self.plan(|faulty| {
             let list = faulty.latest_list();
-            Ok(faulty.station.end_with(list, 0))
+            Ok(faulty.ended(list, 0))
         });
         planned.expect("a replan by latest start is never refused")
     }
@@ -220,7 +236,7 @@ impl Yard for Faulty {
                 Error::SpentAfterNoRound => (Err(2), 0),
                 _ => faulty.lines_list(allowance),
             };
-            Ok(faulty.station.end_with(list, rounds))
+            Ok(faulty.ended(list, rounds))
         })
     }
 
@@ -229,6 +245,7 @@ impl Yard for Faulty {
         if self.error == Error::RateNotShown {
             faulty.station.charges.iter_mut().for_each(|charge| charge.rate = 1);
         }
-        faulty.with_clock(u64::MAX, |faulty| faulty.station.enquire(ticket))
+        let found = faulty.with_clock(u64::MAX, |faulty| faulty.station.enquire(ticket))?;
+        Ok(self.shown_end(found))
     }
 }

@@ -1,9 +1,10 @@
 //! Replans by lines whose rounds are made here, because the error lies inside them.
 //! `Error::OwnRounds` is none: with it they are the reference's.
 
+use super::starts::without_tail;
 use super::{Error, Faulty};
 use trials::reference::minutes::{count_charge, counts, Counts};
-use trials::reference::{in_ticket_order, last_end, Charge, List};
+use trials::reference::{in_ticket_order, last_clear, Charge, List};
 
 const NO_START: u32 = 1;
 const ALLOWANCE_SPENT: u32 = 2;
@@ -12,8 +13,8 @@ impl Faulty {
     pub fn own_rounds(&self, allowance: u32) -> (List, u32) {
         let station = &self.station;
         let (clock, begun, waiting) = (station.clock, station.begun(), station.waiting());
-        let times: u64 = waiting.iter().map(|charge| charge.time).sum();
-        let length = last_end(&begun).max(clock) - clock + times;
+        let times: u64 = waiting.iter().map(Charge::active_time).sum();
+        let length = last_clear(&begun).max(clock) - clock + times;
         let mut caps = vec![[station.limit; 3]; length as usize];
         for rounds in 1..allowance + 1 {
             let placed = self.placed(&begun, &waiting, &caps);
@@ -49,8 +50,9 @@ impl Faulty {
         let (mut unplaced, mut placed, mut start) = (own.clone(), Vec::new(), clock);
         while !unplaced.is_empty() {
             let fits = |charge: &Charge, start: u64| {
-                let (line, weight) = (charge.line as usize - 1, self.capped(*charge).weight());
-                let mut minutes = start - clock..start - clock + charge.time;
+                let charge = self.capped(*charge);
+                let (line, weight) = (charge.line as usize - 1, charge.weight());
+                let mut minutes = start - clock..start - clock + charge.active_time();
                 minutes.all(|minute| {
                     counts[minute as usize][line] + weight <= caps[minute as usize][line]
                 })
@@ -80,6 +82,7 @@ impl Faulty {
     fn capped(&self, charge: Charge) -> Charge {
         match self.error {
             Error::CapsCountCharges => at_rate_one(charge),
+            Error::TailNotInTheCaps => without_tail(charge),
             _ => charge,
         }
     }

@@ -4,7 +4,7 @@ use super::rounds::at_rate_one;
 use super::{Error, Faulty};
 use trials::reference::minutes::{counts, Counts, Rules};
 use trials::reference::search::{smallest_start, test};
-use trials::reference::{last_end, Charge, Station};
+use trials::reference::{last_clear, Charge, Station};
 
 impl Faulty {
     /// The first start with which the plan passes a test, which is told the start too.
@@ -15,7 +15,7 @@ impl Faulty {
         passes: impl Fn(&[Charge], u64) -> bool,
     ) -> Option<u64> {
         let clock = self.station.clock;
-        let last = last_end(plan).max(clock);
+        let last = last_clear(plan).max(clock);
         (clock..=last).find(|start| {
             let with_it = [plan, &[charge.starting_at(*start)]].concat();
             passes(&with_it, *start)
@@ -25,7 +25,7 @@ impl Faulty {
     /// The counts of a plan from the clock on.
     pub fn counts(&self, plan: &[Charge]) -> Vec<Counts> {
         let clock = self.station.clock;
-        counts(plan, clock, last_end(plan).max(clock) - clock)
+        counts(plan, clock, last_clear(plan).max(clock) - clock)
     }
 
     /// The earliest start of an order. A plan that an error has made unsound may leave
@@ -36,7 +36,7 @@ impl Faulty {
         let within = |plan: &[Charge]| self.all(plan, |counts| rules.within_limit(counts));
         let balanced = |plan: &[Charge]| self.all(plan, |counts| rules.balanced(counts));
         let start = match self.error {
-            Error::QueuesBehindTheLastEnd => Some(last_end(held).max(*clock)),
+            Error::QueuesBehindTheLastEnd => Some(last_clear(held).max(*clock)),
             Error::OneStartForEverybody => Some(1_000),
             Error::WaitingIgnored => smallest_start(&self.station.begun(), charge, *clock, rules),
             Error::CountedInTheMinuteOfTheEnd => {
@@ -57,21 +57,26 @@ impl Faulty {
                 let halves: Vec<Charge> = plan.iter().flat_map(|charge| halves(*charge)).collect();
                 within(&halves) && balanced(&halves)
             }),
+            Error::TailNotInTheBalance => self.first_start(held, *charge, |plan, _| {
+                let short: Vec<Charge> = plan.iter().copied().map(without_tail).collect();
+                within(plan) && balanced(&short)
+            }),
             Error::StartAndLastMinuteOnly => self.first_start(held, *charge, |plan, start| {
                 let counts = self.counts(plan);
                 let first = (start - clock) as usize;
-                [first, first + charge.time as usize - 1]
+                [first, first + charge.active_time() as usize - 1]
                     .map(|minute| counts[minute])
                     .iter()
                     .all(|counts| rules.sound_in(counts))
             }),
             Error::CandidateSkipped => Some(self.by_candidates(charge)),
             Error::WindowNotWidened => {
-                let near = |held: &&Charge| held.start < clock + charge.time;
+                let near = |held: &&Charge| held.start < clock + charge.active_time();
                 let near: Vec<Charge> = held.iter().filter(near).copied().collect();
                 self.first_start(&near, *charge, |plan, start| {
-                    let own = (start - clock) as usize..(start - clock + charge.time) as usize;
-                    self.counts(plan)[own].iter().all(|counts| rules.sound_in(counts))
+                    let own = start - clock..start - clock + charge.active_time();
+                    let counts = self.counts(plan);
+                    own.into_iter().all(|minute| rules.sound_in(&counts[minute as usize]))
                 })
             }
             _ => smallest_start(held, charge, *clock, rules),
@@ -98,7 +103,12 @@ impl Faulty {
 }
 
 fn with_its_end(mut charge: Charge) -> Charge {
-    charge.time += 1;
+    charge.tail += 1;
+    charge
+}
+
+pub fn without_tail(mut charge: Charge) -> Charge {
+    charge.tail = 0;
     charge
 }
 

@@ -52,7 +52,7 @@ add-requires : tie.Need-add-requires Inv-loop μ-loop
 add-requires c κs =
     let s = c .before .before .before .before .before .before .before .before .before .before .before .before in
     let l = c .before .before .before .before .before .before .before .before .loop in
-    begun-can-add (s .args .before) (s .args .t1) (l .i) (l .inv .1) (s .pre .0) (s .pre .1) (omega (arith, s .pre .2 (l .i) (c .before .before .before .before .before .before .before .loop-test .taken))) (c .before .before .before .before .before .before .before .loop-test .taken)
+    begun-can-add (s .args .before) (s .args .t1) (l .i) (l .inv .1) (s .pre .0) (omega (arith, s .pre .1 (l .i) (c .before .before .before .before .before .before .before .loop-test .taken))) (omega (arith, s .pre .2 (l .i) (c .before .before .before .before .before .before .before .loop-test .taken))) (c .before .before .before .before .before .before .before .loop-test .taken)
 
 add-i : tie.Need-add-i Inv-loop μ-loop
 add-i c = omega arith
@@ -67,7 +67,7 @@ loop-again c =
     ⊎-elim
     (λ w. (
       omega arith,
-      begun-on (s .args .before) (s .args .t1) (l .i) (l .inv .1) (s .pre .2 (l .i) (c .before .before .loop-test .taken)) (w .0 .taken) (w .6 .ensures) (omega arith) (same-parts (w .7) (w .8) (w .9)),
+      begun-on (s .args .before) (s .args .t1) (l .i) (l .inv .1) (s .pre .2 (l .i) (c .before .before .loop-test .taken)) (w .0 .taken) (w .6 .ensures) (omega arith) (omega arith) (same-parts (w .7) (w .8) (w .9)),
     ))
     (λ w. (
       omega arith,

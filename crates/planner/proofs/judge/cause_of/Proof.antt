@@ -2,7 +2,7 @@
 use borrow.Author.Tests.{not-true, not-false}
 use borrow.Author.Needs.{needs}
 use Rattle.profile.proofs.Balances.{limit-shows, unbalanced-shows}
-use Rattle.planner.proofs.Judging.{ends-fit, next-rated, judges-three, judges-four, judges-five, judges-six, judges-none}
+use Rattle.planner.proofs.Judging.{ends-fit, next-rated, next-active, judges-three, judges-four, judges-five, judges-six, judges-none}
 use Rattle.planner.proofs.judge.cause_of.Statement.{statement}
 use Rattle.planner.proofs.judge.cause_of.Tie as tie
 
@@ -26,7 +26,8 @@ returns-2 c =
 profile-before-requires : tie.Need-profile-before-requires
 profile-before-requires c κs = (
   c .before .before .before .before .before .before .pre .1 .columns .few,
-  ends-fit (c .before .before .before .before .before .before .args .next) (c .before .before .before .before .before .before .pre .0) (c .before .before .last-end .ensures) (c .before .last-end2 .ensures) (c .if2 .left),
+  ends-fit (c .before .before .before .before .before .before .args .next) (c .before .before .before .before .before .before .pre .0) (c .before .before .last-end .ensures) (c .before .last-end2 .ensures) (c .if2 .left)
+      (next-active _ _ (c .before .before .before .before .before .before .pre .0) (c .before .before .before .before .before .before .pre .1)),
   next-rated _ _ (c .before .before .before .before .before .before .pre .0) (c .before .before .before .before .before .before .pre .1),
 )
 

@@ -10,17 +10,17 @@ use Rattle.priority.proofs.choice.choose.Statement.{statement}
 use Rattle.priority.proofs.choice.choose.Tie as tie
 
 abbrev Inv-loop : tie.InvT-loop
-Inv-loop times dues rates left n number total shortest start one two best₀ weights taken₀ j₀ best taken j =
-    BestSoFar times dues rates left n number total start one two best (taken .time) (taken .weight) j
+Inv-loop times actives dues rates left n number total shortest start one two best₀ weights taken₀ j₀ best taken j =
+    BestSoFar times actives dues rates left n number total start one two best (taken .time) (taken .weight) j
 
 abbrev μ-loop : tie.MeasureT-loop
-μ-loop times dues rates left n number total shortest start one two best₀ weights taken₀ j₀ best taken j = n - j
+μ-loop times actives dues rates left n number total shortest start one two best₀ weights taken₀ j₀ best taken j = n - j
 
 fitting-requires : tie.Need-fitting-requires Inv-loop μ-loop
 fitting-requires c κs = (c .pre .can-fit, omega arith)
 
 returns : tie.Need-returns Inv-loop μ-loop
-returns c = none-fits (c .before .fitting .ensures) (c .if1 .taken)
+returns c = none-fits (search (c .before .fitting .ensures)) (c .if1 .taken)
 
 table-requires : tie.Need-table-requires Inv-loop μ-loop
 table-requires c κs = search needs

@@ -49,7 +49,7 @@ enum-told-9 : tie.Need-enum-told-9
 enum-told-9 c = search needs
 
 returns : tie.Need-returns
-returns c = rw (c .enum-told .given .1, c .before .before .before .before .before .before .number-at .ensures, c .before .before .before .before .before .number-at2 .ensures) (record { call-is = search; call-fits = tt })
+returns c = rw (c .enum-told .given .1, c .before .before .before .before .before .before .number-at .ensures, c .before .before .before .before .before .number-at2 .ensures, c .before .before .before .before .number-at3 .ensures) (record { call-is = search; call-fits = tt })
 
 returns-2 : tie.Need-returns-2
 returns-2 c = rw (c .enum-told2 .given .1, c .before .before .before .before .before .before .number-at .ensures, c .before .before .before .before .before .number-at2 .ensures, c .before .before .before .before .number-at3 .ensures, c .before .before .before .number-at4 .ensures) (record { call-is = search; call-fits = (omega arith, refl) })

@@ -33,7 +33,7 @@ module _ (c : tie.After-found2) where
   found = found-granted (begun .args .self) (begun .args .line) (begun .args .time) (begun .args .due) (begun .args .rate) _ _ (c .found2 .given .1) (c .before .before .start-for .ensures) .1
 
   granted : Orderable (begun .args .self) (begun .args .line) (begun .args .time) (begun .args .due) (begun .args .rate)
-  granted = orderable (begun .args .self) (begun .args .line) (begun .args .time) (begun .args .due) (begun .args .rate) free
+  granted = orderable (begun .args .self) (begun .args .line) (begun .args .time) (begun .args .due) (begun .args .rate) (begun .pre) free
 
 returns : tie.Need-returns
 returns c =
@@ -45,13 +45,16 @@ returns c =
       valid = s .pre;
     }
 
+add-active-time : tie.Need-add-active-time
+add-active-time c = omega (arith, granted (c .before .before .before .before) .active-most)
+
 push-requires : tie.Need-push-requires
 push-requires c κs =
-    let f = c .before .before .before in
+    let f = c .before .before .before .before in
     (begun f .pre .columns, granted f .room)
 
 add-next : tie.Need-add-next
-add-next c = omega (arith, granted (c .before .before .before .before) .tickets-left)
+add-next c = omega (arith, granted (c .before .before .before .before .before) .tickets-left)
 
 returns-2 : tie.Need-returns-2
 returns-2 c =
@@ -65,12 +68,12 @@ returns-2 c =
 
 returns-3 : tie.Need-returns-3
 returns-3 c =
-    let f = c .before .before .before .before in
+    let f = c .before .before .before .before .before in
     let s = begun f in
     call-gives (s .args .self) (commit (s .args .line) (s .args .time) (s .args .due) (s .args .rate) (s .args .shown)) _
     (committedStation (s .args .self) (c .push .result)) _ (s .pre) (c .push .ensures .columns)
     (call-committed (s .args .self) (s .args .line) (s .args .time) (s .args .due) (s .args .rate) _ (s .args .shown) (c .push .result)
-    (free f) (found f) (omega (arith, c .before .before .if1 .left)) (c .push .ensures) (search))
+    (free f) (found f) (omega (arith, c .before .before .before .if1 .left)) (c .push .ensures) (search))
 
 pub commit-spec : {M : Type 1} → statement M
 commit-spec =
@@ -80,6 +83,7 @@ commit-spec =
     enum-known-found
     enum-known-found-2
     returns
+    add-active-time
     push-requires
     add-next
     returns-2

@@ -12,9 +12,9 @@ abbrev Inv-loop : tie.InvT-loop
 Inv-loop self draw clock limits steps₀ at₀ counts₀ start₀ low₀ until₀ steps at counts start low until =
     Seeking self draw (profileOf steps at counts) start low until
 
--- a window that shows no start ends before the last end and a charging time
+-- a window that shows no start ends before the last tail and an active time
 abbrev μ-loop : tie.MeasureT-loop
-μ-loop self draw clock limits steps₀ at₀ counts₀ start₀ low₀ until₀ steps at counts start low until = 100001440 - until
+μ-loop self draw clock limits steps₀ at₀ counts₀ start₀ low₀ until₀ steps at counts start low until = 100001445 - until
 
 new-requires : tie.Need-new-requires Inv-loop μ-loop
 new-requires c κs =

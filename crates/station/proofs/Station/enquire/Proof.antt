@@ -79,7 +79,7 @@ element-copy-out-rate c = omega (arith, low (c .before .before .before))
 add-t20 : tie.Need-add-t20
 add-t20 c =
     let s = small (c .before .before .before .before .before .before) in
-    omega (arith, s .start-most, s .time-most)
+    omega (arith, s .start-most, s .time-most, s .active-most)
 
 returns-2 : tie.Need-returns-2
 returns-2 c =

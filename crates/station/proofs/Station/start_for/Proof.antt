@@ -26,16 +26,19 @@ module _ (c : tie.Else1) where
   granted : Orderable (c .before .before .args .self) (c .before .before .args .line) (c .before .before .args .time) (c .before .before .args .due) (c .before .before .args .rate)
   granted =
       let s = c .before .before in
-      orderable (s .args .self) (s .args .line) (s .args .time) (s .args .due) (s .args .rate)
+      orderable (s .args .self) (s .args .line) (s .args .time) (s .args .due) (s .args .rate) (s .pre)
       (refusals-none (view (s .args .self)) (preview (s .args .line) (s .args .time) (s .args .due) (s .args .rate)) (sym (c .before .order-refusal .ensures) ∙ none))
+
+add-active-time : tie.Need-add-active-time
+add-active-time c = omega (arith, granted (c .before) .active-most)
 
 earliest-start-requires : tie.Need-earliest-start-requires
 earliest-start-requires c κs =
-    let g = granted c in (
-      c .before .before .pre,
+    let g = granted (c .before) in (
+      c .before .before .before .pre,
       record {
-        some = g .some;
-        time-most = g .time-most;
+        some = omega (arith, g .some);
+        time-most = omega (arith, g .time-most, g .active-most);
         is-rate = g .is-rate;
         within-limit = g .within-limit;
         within-bound = g .within-bound;
@@ -44,12 +47,12 @@ earliest-start-requires c κs =
 
 returns-2 : tie.Need-returns-2
 returns-2 c =
-    let s = c .before .before .before in
-    let r = c .before .before .order-refusal in
+    let s = c .before .before .before .before in
+    let r = c .before .before .before .order-refusal in
     let found : startFor (view (s .args .self)) (drawFor (view (s .args .self)) (s .args .line) (s .args .time) (s .args .rate)) ≡ at (c .earliest-start .result) = search (c .earliest-start .ensures) in
     shown-found (s .args .self) (s .args .line) (s .args .time) (s .args .due) (s .args .rate) (r .result) (at _) (r .ensures)
-    (none (c .before)) found
+    (none (c .before .before)) found
 
 pub start-for-spec : {M : Type 1} → statement M
 start-for-spec =
-    tie.close (tie.spec order-refusal-requires returns earliest-start-requires returns-2)
+    tie.close (tie.spec order-refusal-requires returns add-active-time earliest-start-requires returns-2)

@@ -18,7 +18,7 @@ none-requires c κs = search needs
 
 returns : tie.Need-returns
 returns c =
-    (view-fresh _ _ _ _ (omega (arith, c .before .nearest-hundreds .ensures)) (c .none .ensures), c .none .ensures .columns)
+    (view-fresh _ _ _ _ _ (omega (arith, c .before .nearest-hundreds .ensures)) (c .none .ensures), c .none .ensures .columns)
 
 pub fresh-spec : {M : Type 1} → statement M
 fresh-spec = tie.close (tie.spec mul-product nearest-hundreds-requires none-requires returns)

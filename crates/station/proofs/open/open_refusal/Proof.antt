@@ -28,8 +28,12 @@ returns-4 c =
 
 returns-5 : tie.Need-returns-5
 returns-5 c =
-    simp (le-ltb _ _ (c .before .before .before .before .if1 .left), le-ltb _ _ (c .before .before .before .if2 .left), le-ltb _ _ (c .before .before .if3 .left), ne-eqb _ 0 (λ e. c .if4 .left (c .before .nearest-hundreds .ensures ∙ e)))
+    simp (le-ltb _ _ (c .before .before .before .before .before .if1 .left), le-ltb _ _ (c .before .before .before .before .if2 .left), le-ltb _ _ (c .before .before .before .if3 .left), ne-eqb _ 0 (λ e. c .before .if4 .left (c .before .before .nearest-hundreds .ensures ∙ e)), lt-ltb _ _ (c .if5 .taken))
+
+returns-6 : tie.Need-returns-6
+returns-6 c =
+    simp (le-ltb _ _ (c .before .before .before .before .before .if1 .left), le-ltb _ _ (c .before .before .before .before .if2 .left), le-ltb _ _ (c .before .before .before .if3 .left), ne-eqb _ 0 (λ e. c .before .if4 .left (c .before .before .nearest-hundreds .ensures ∙ e)), le-ltb _ _ (c .if5 .left))
 
 pub open-refusal-spec : {M : Type 1} → statement M
 open-refusal-spec =
-    tie.close (tie.spec returns returns-2 returns-3 mul-product nearest-hundreds-requires returns-4 returns-5)
+    tie.close (tie.spec returns returns-2 returns-3 mul-product nearest-hundreds-requires returns-4 returns-5 returns-6)

@@ -59,7 +59,7 @@ element-copy-out-rate c =
 
 add-requires : tie.Need-add-requires Inv-loop μ-loop
 add-requires c κs =
-    extended-can-add (c .before .before .before .before .before .before .before .before .before .before .pre) (c .before .before .before .before .before .before .before .before .before .loop .inv .1) (omega (arith, c .before .before .before .before .before .before .before .before .loop-test .taken)) (sym (c .before .before .before .before .before .before .is-between .ensures) ∙ c .before .before .before .before .before .if1 .taken) (omega (arith, c .before .before .before .before .before .before .before .before .before .before .pre .rated (c .before .before .before .before .before .before .before .before .before .loop .i) (omega (arith, c .before .before .before .before .before .before .before .before .loop-test .taken))))
+    extended-can-add (c .before .before .before .before .before .before .before .before .before .before .pre) (c .before .before .before .before .before .before .before .before .before .loop .inv .1) (omega (arith, c .before .before .before .before .before .before .before .before .loop-test .taken)) (sym (c .before .before .before .before .before .before .is-between .ensures) ∙ c .before .before .before .before .before .if1 .taken) (omega (arith, c .before .before .before .before .before .before .before .before .before .before .pre .ends (c .before .before .before .before .before .before .before .before .before .loop .i) (omega (arith, c .before .before .before .before .before .before .before .before .loop-test .taken)))) (omega (arith, c .before .before .before .before .before .before .before .before .before .before .pre .rated (c .before .before .before .before .before .before .before .before .before .loop .i) (omega (arith, c .before .before .before .before .before .before .before .before .loop-test .taken))))
 
 add-i : tie.Need-add-i Inv-loop μ-loop
 add-i c =
@@ -72,7 +72,7 @@ loop-less c =
 loop-again : tie.Need-loop-again Inv-loop μ-loop
 loop-again c =
     ⊎-elim
-    (λ w. (omega arith, extended-on (c .before .before .before .before .before .pre) (c .before .before .before .before .loop .inv .1) (omega (arith, c .before .before .before .loop-test .taken)) (sym (c .before .is-between .ensures) ∙ w .0 .taken) (w .6 .ensures) (omega arith) (same-parts (w .9) (w .7) (w .8))))
+    (λ w. (omega arith, extended-on (c .before .before .before .before .before .pre) (c .before .before .before .before .loop .inv .1) (omega (arith, c .before .before .before .loop-test .taken)) (sym (c .before .is-between .ensures) ∙ w .0 .taken) (w .6 .ensures) (omega arith) (omega arith) (same-parts (w .9) (w .7) (w .8))))
     (λ w. (omega arith, extended-past (c .before .before .before .before .before .pre) (c .before .before .before .before .loop .inv .1) (omega (arith, c .before .before .before .loop-test .taken)) (sym (c .before .is-between .ensures) ∙ w .0 .left) (same-parts (w .3) (w .1) (w .2))))
     (c .if1 .came)
 
