@@ -1,6 +1,5 @@
 pub mod Refusing
 pub mod Listing
-pub mod Windows
 pub mod Opened
 pub mod Enquiring
 pub mod Ordered

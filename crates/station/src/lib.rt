@@ -5,7 +5,6 @@ pub mod enquiry;
 pub mod open;
 pub mod order;
 pub mod plan;
-mod window;
 
 pub struct Station {
     limit: u32,
