@@ -4,6 +4,5 @@ pub mod Opened
 pub mod Enquiring
 pub mod Ordered
 pub mod Planned
-pub mod Applying
 pub mod Moved
 pub mod Determined

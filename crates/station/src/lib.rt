@@ -1,5 +1,4 @@
 // A charging station by value, and its calls.
-pub mod calls;
 pub mod clock;
 pub mod enquiry;
 pub mod open;

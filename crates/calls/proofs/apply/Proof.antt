@@ -1,8 +1,8 @@
 use mathlib.Core.Path.{refl}
-use Rattle.station.proofs.Applying.{as-found}
+use Rattle.calls.proofs.Applying.{as-found}
 use borrow.Author.Needs.{needs}
-use Rattle.station.proofs.Station.apply.Statement.{statement}
-use Rattle.station.proofs.Station.apply.Tie as tie
+use Rattle.calls.proofs.apply.Statement.{statement}
+use Rattle.calls.proofs.apply.Tie as tie
 
 enum-known-call : tie.Need-enum-known-call
 enum-known-call c = search needs
