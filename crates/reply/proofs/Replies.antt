@@ -12,12 +12,12 @@ use Rattle.answers.specs.Answers.{answerText, pairsOf}
 use Rattle.requests.specs.Requests.{readRequest, meaning, lentList, Lent, Asks}
 use Rattle.requests.specs.declared.request.Request.{Request}
 use Rattle.station.specs.declared.Station.{Station}
-use Rattle.station.specs.declared.calls.Call.{Call}
-use Rattle.station.specs.declared.calls.Call.the-variants.{Preview, Commit, Move, Offer, ReplanLatest, ReplanLines, Enquire}
-use Rattle.station.specs.declared.calls.Answer as code
+use Rattle.calls.specs.declared.Call.{Call}
+use Rattle.calls.specs.declared.Call.the-variants.{Preview, Commit, Move, Offer, ReplanLatest, ReplanLines, Enquire}
+use Rattle.calls.specs.declared.Answer as code
 use Rattle.station.specs.View.{view, Valid}
 use Rattle.station.specs.Answers.{Gives}
-use Rattle.station.specs.Applied.{callOf, report, lends, answerOf, Applies}
+use Rattle.calls.specs.Applied.{callOf, lends, answerOf, Applies}
 use Rattle.reply.specs.Reply.{told, reply, reportOf, requestReport, Replied, Lists, answered}
 use Rattle.reply.proofs.Reports.{Reports, reports, few-reports, text-after}
 

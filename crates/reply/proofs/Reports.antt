@@ -17,9 +17,9 @@ use Rattle.rules.specs.Calls.{State, Answer, refused, opened, previewed, commit
 use Rattle.rules.proofs.Lists.{length-keep}
 use Rattle.charges.proofs.Sorting.{length-sorted}
 use Rattle.answers.specs.Answers.{answerText, pairsOf}
-use Rattle.station.specs.declared.calls.Call.{Call}
-use Rattle.station.specs.declared.calls.Call.the-variants.{Preview, Commit, Move, Offer, ReplanLatest, ReplanLines, Enquire}
-use Rattle.station.specs.Applied.{callOf, Lends, none, starts, report, lends, lentOf}
+use Rattle.calls.specs.declared.Call.{Call}
+use Rattle.calls.specs.declared.Call.the-variants.{Preview, Commit, Move, Offer, ReplanLatest, ReplanLines, Enquire}
+use Rattle.calls.specs.Applied.{callOf, Lends, none, reads, writes, lends, lentOf}
 use Rattle.reply.specs.Reply.{told}
 
 -- the lent list is printed where something is reported, and nowhere else
@@ -80,8 +80,8 @@ few-moved s target list few = go (ltb 1000000 target) refl (ltb (length list) 36
 -- what a call reports: nothing, but for a clock move
 abbrev pub Reports : Lends → ℕ → ℕ → Type 0
 Reports none n places = n ≡ 0
-Reports starts n places = n ≡ 0
-Reports report n places = (n ≤ 180) × (2 * n ≤ places)
+Reports reads n places = n ≡ 0
+Reports writes n places = (n ≤ 180) × (2 * n ≤ places)
 
 pub reports :
     (s : State) (c : Call) (ss list : List ℕ) → length (s .charges) ≤ 180
@@ -101,12 +101,12 @@ reports s (Enquire ticket) ss list few =
 
 pub few-reports : (l : Lends) (n places : ℕ) → Reports l n places → (n ≤ 180) × (2 * n ≤ places)
 few-reports none n places h = omega arith
-few-reports starts n places h = omega arith
-few-reports report n places h = h
+few-reports reads n places h = omega arith
+few-reports writes n places h = h
 
 pub text-after :
     (l : Lends) (a : Answer) (ss list : List ℕ) (places : ℕ) → Reports l (pairsOf a) places
     → answerText a list ≡ answerText a (lentOf l ss list)
 text-after none a ss list places h = text-same a list [] h
-text-after starts a ss list places h = text-same a list ss h
-text-after report a ss list places h = refl
+text-after reads a ss list places h = text-same a list ss h
+text-after writes a ss list places h = refl

@@ -7,11 +7,11 @@ ghost use Rattle.rules.specs.Calls.{opening, step};
 ghost use Rattle.requests.specs.Requests.{readRequest, requestValues, lentList, Lent};
 ghost use Rattle.station.specs.View.{view, Valid};
 ghost use Rattle.station.specs.Answers.{settingsOf};
-ghost use Rattle.station.specs.Applied.{callOf, lends};
+ghost use Rattle.calls.specs.Applied.{callOf, lends};
 ghost use Rattle.reply.specs.Reply.{told, answered, reportOf, requestReport, Replied, Lists};
+use calls::Call;
 use requests::Request;
 use station::Station;
-use station::calls::Call;
 use station::open::Settings;
 
 // The next station, and the place after the answer.
@@ -48,7 +48,7 @@ fn reply_call(
 {
     let lent = requests::places_lent(places);
     requests::fill_lent(list, lent);
-    let applied = station.apply(call, starts, &mut list[..lent]);
+    let applied = calls::apply(station, call, starts, &mut list[..lent]);
     let after = applied.station;
     let answer = applied.answer;
     let next = answers::print_answer(answer, &list[..lent], out, at);

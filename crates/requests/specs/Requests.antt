@@ -17,7 +17,7 @@ use Rattle.requests.specs.declared.request.Reason.the-variants.{UnknownC
 use Rattle.requests.specs.declared.word.CallName.{CallName}
 use Rattle.requests.specs.declared.word.CallName.the-variants.{Open, Preview, Commit, Move, Offer, Latest, Lines, Enquire, Unknown}
 use Rattle.station.specs.Answers.{settingsOf}
-use Rattle.station.specs.Applied as applied
+use Rattle.calls.specs.Applied as applied
 use Rattle.requests.specs.declared.request.Request as declared
 use Rattle.requests.specs.declared.request.Request.the-variants as request
 use Rattle.requests.specs.declared.request.Takes.{Takes}
@@ -153,8 +153,8 @@ meaning (request.Error reason) list = error reason
 -- what is lent beside a call: places to a call that reports, and to no other
 abbrev pub Lent : applied.Lends → ℕ → Type 0
 Lent applied.none places = places ≡ 0
-Lent applied.starts places = places ≡ 0
-Lent applied.report places = Unit {0}
+Lent applied.reads places = places ≡ 0
+Lent applied.writes places = Unit {0}
 
 -- a call's starts are among the first k numbers of the list
 abbrev pub Fits : ℕ → declared.Request → Type 0

@@ -7,7 +7,7 @@ ghost use Rattle.text.specs.Parts.{partsAfter};
 ghost use Rattle.requests.specs.Requests.{taken, AtMost, Calls, readCall, callValues, readRequest, requestValues, TakesNumbers, Asks};
 use crate::word::CallName;
 use crate::word::call_named;
-use station::calls::Call;
+use calls::Call;
 use station::open::Settings;
 use text::Number;
 use text::part_end;

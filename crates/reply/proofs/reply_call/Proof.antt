@@ -7,7 +7,7 @@ use lib.ListN.{length, take, drop, length-replicate}
 use lib.Seq.{length-take-le, take-at}
 use Rattle.requests.specs.Requests.{lentList}
 use Rattle.station.specs.View.{view}
-use Rattle.station.specs.Applied.{Applies}
+use Rattle.calls.specs.Applied.{Applies}
 use Rattle.reply.proofs.Replies.{lent-front, few-told, call-replied, list-left}
 use borrow.Author.Needs.{needs}
 use Rattle.reply.proofs.reply_call.Statement.{statement}
