@@ -5,6 +5,7 @@ use native.Mathlib.Omega.{arith}
 use native.Mathlib.Numerals.{add-one}
 use native.Mathlib.Nat.{mul-le-mul}
 use Rattle.layout.specs.Image.{weighed, checkOf}
+use Rattle.layout.proofs.Cases.{largest-check}
 
 pub weighed-none : (f : ℕ → ℕ) → weighed f 0 ≡ 0
 unfolding weighed
@@ -47,12 +48,7 @@ pub check-zero : (f : ℕ → ℕ) → ((i : ℕ) → i < 508 → f i ≡ 0) →
 unfolding checkOf
 check-zero f h = weighed-zero f 508 h
 
--- the check of 508 bytes of 255, computed
-pub largest-check : checkOf (λ i. 255) ≡ 32967930
-unfolding checkOf weighed
-largest-check = refl
-
--- no check of bytes is above it, so that 32 bits hold every check
+-- no check of bytes is above the largest, so that 32 bits hold every check
 pub check-most : (f : ℕ → ℕ) → ((i : ℕ) → i < 508 → f i < 256) → checkOf f ≤ 32967930
 unfolding checkOf
 check-most f h = omega (arith, weighed-most f (λ i. 255) 508 (λ i l. omega (arith, h i l)), check-is (λ i. 255) ∙ largest-check)

@@ -1,3 +1,4 @@
+pub mod Cases
 pub mod Listing
 pub mod Numbers
 pub mod Checks
@@ -11,4 +12,5 @@ pub mod Validity
 pub mod Refusing
 pub mod ReadBack
 pub mod RoundTrip
+pub mod ZeroBytes
 pub mod Changing

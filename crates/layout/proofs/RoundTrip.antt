@@ -6,16 +6,18 @@ use mathlib.Core.Bool.{true, cond}
 use mathlib.Core.List.{List}
 use native.Mathlib.Omega.{arith}
 use lib.Dec.{eqb}
+use lib.ListN.{length}
 use borrow.Author.Tests.{ne-eqb}
 use Rattle.rules.specs.Calls.{State, settings, fresh}
 use Rattle.rules.specs.Valid.{ValidState}
-use Rattle.rules.proofs.Ranges.{and-both}
+use Rattle.rules.proofs.Ranges.{and-both, fails}
+use Rattle.layout.specs.Lists.{every}
 use Rattle.layout.specs.Image.{imageOf}
 use Rattle.layout.specs.Validity.{isValid}
-use Rattle.layout.specs.Reading.{stateIn, same, isOf, restoreRefusal, RestoreResult, restoring}
+use Rattle.layout.specs.Reading.{stateIn, checked, same, isOf, restoreRefusal, RestoreResult, restoring}
 use Rattle.layout.proofs.Imaging.{image-length, all-checked, same-self}
 use Rattle.layout.proofs.Validity.{test-of-valid}
-use Rattle.layout.proofs.Refusing.{not-refused, accepted, accepted-state, fresh-valid}
+use Rattle.layout.proofs.Refusing.{refused-contents, not-refused, accepted, accepted-state, fresh-valid}
 use Rattle.layout.proofs.ReadBack.{state-back}
 
 -- Saved, then restored
@@ -63,6 +65,13 @@ accepted-exactly xs = (
   (λ e. record { station = stateIn xs; valid = accepted xs e .valid; is-image = sym (accepted xs e .saved) }),
   (λ i. ap restoreRefusal (i .is-image) ∙ image-accepted (i .station) (i .valid)),
 )
+
+-- "22, contents": every other image of the right size with right checks, so one byte of "all else" that is not zero too
+pub others-refused :
+    (xs : List ℕ) → length xs ≡ 4608 → every (checked xs) 9 ≡ true → (ImageOfValid xs → ⊥) → restoring xs .refusal ≡ 22
+others-refused xs l c n =
+    refused-contents xs l c
+    (fails (isOf xs (stateIn xs)) (λ e. n (accepted-exactly xs .0 (not-refused xs l c e))))
 
 -- two valid stations with the same image are one
 pub image-determines : (s t : State) → ValidState s → ValidState t → imageOf s ≡ imageOf t → s ≡ t
