@@ -1,5 +1,5 @@
 -- "a 32-bit check, the sum of (place + 1) × byte": what it is at most, and that it depends on its 508 bytes alone.
-use mathlib.Core.Path.{_≡_, refl, sym, _∙_}
+use mathlib.Core.Path.{_≡_, refl, _∙_}
 use Prim.Native.Nat.{ℕ, zero, suc, _+_, _*_, _≤_, _<_}
 use native.Mathlib.Omega.{arith}
 use native.Mathlib.Numerals.{add-one}

@@ -87,4 +87,4 @@ module _ (s : State) where
 
 pub same-self : (xs : List ℕ) → same xs xs ≡ true
 unfolding same
-same-self xs = every-all (samePlace xs xs) 4608 (λ k h. eq-eqb (getD xs k 0) (getD xs k 0) refl)
+same-self xs = every-all (samePlace xs xs) _ (λ k h. eq-eqb (getD xs k 0) (getD xs k 0) refl)

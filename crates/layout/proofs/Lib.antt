@@ -12,5 +12,5 @@ pub mod Validity
 pub mod Refusing
 pub mod ReadBack
 pub mod RoundTrip
-pub mod ZeroBytes
+pub mod Examples
 pub mod Changing

@@ -16,6 +16,7 @@ use Rattle.layout.specs.Lists.{every}
 use Rattle.layout.specs.Image.{imageOf}
 use Rattle.layout.specs.Validity.{isValid}
 use Rattle.layout.specs.Reading.{stateIn, sized, checked, samePlace, same, isOf, restoreRows, restoreRefusal, restoring}
+use Rattle.layout.specs.Saving.{saving}
 use Rattle.layout.proofs.Listing.{every-at}
 use Rattle.layout.proofs.Imaging.{image-length}
 use Rattle.layout.proofs.Validity.{valid-by-test}
@@ -24,10 +25,20 @@ pub same-equal : (xs ys : List ℕ) → length xs ≡ 4608 → length ys ≡ 460
 unfolding same
 same-equal xs ys p q e =
     ext-getD 0 xs ys (p ∙ sym q)
-    (λ k h. eqb-true (getD xs k 0) (getD ys k 0) (every-at (samePlace xs ys) 4608 e k (omega arith)))
+    (λ k h. eqb-true (getD xs k 0) (getD ys k 0) (every-at (samePlace xs ys) _ e k (omega arith)))
+
+-- Saving
+
+pub saving-written : (s : State) (list : List ℕ) → length list ≡ 4608 → saving s list ≡ record { refusal = 0; image = imageOf s }
+unfolding saving
+saving-written s list h = rw (eq-eqb (length list) 4608 h)
+
+pub saving-refused : (s : State) (list : List ℕ) → (length list ≡ 4608 → ⊥) → saving s list ≡ record { refusal = 20; image = list }
+unfolding saving
+saving-refused s list h = rw (ne-eqb (length list) 4608 h)
 
 module _ (xs : List ℕ) where
-  -- Each refusal
+  -- Each refusal of restoring
 
   pub refused-length : (length xs ≡ 4608 → ⊥) → restoreRefusal xs ≡ 20
   unfolding restoreRefusal

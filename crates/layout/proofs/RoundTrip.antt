@@ -14,10 +14,11 @@ use Rattle.rules.proofs.Ranges.{and-both, fails}
 use Rattle.layout.specs.Lists.{every}
 use Rattle.layout.specs.Image.{imageOf}
 use Rattle.layout.specs.Validity.{isValid}
-use Rattle.layout.specs.Reading.{stateIn, checked, same, isOf, restoreRefusal, RestoreResult, restoring}
+use Rattle.layout.specs.Reading.{stateIn, checked, same, isOf, restoreRefusal, restoring}
+use Rattle.layout.specs.Saving.{saving}
 use Rattle.layout.proofs.Imaging.{image-length, all-checked, same-self}
 use Rattle.layout.proofs.Validity.{test-of-valid}
-use Rattle.layout.proofs.Refusing.{refused-contents, not-refused, accepted, accepted-state, fresh-valid}
+use Rattle.layout.proofs.Refusing.{saving-written, refused-contents, not-refused, accepted, accepted-state, fresh-valid}
 use Rattle.layout.proofs.ReadBack.{state-back}
 
 -- Saved, then restored
@@ -33,6 +34,13 @@ image-accepted s v =
 -- "Saving and restoring give the same station"
 pub restored-saved : (s : State) → ValidState s → restoring (imageOf s) ≡ record { refusal = 0; state = s }
 restored-saved s v = rw (image-accepted s v, state-back s v)
+
+pub saved-restored :
+    (s : State) (list : List ℕ)
+    → ValidState s
+    → length list ≡ 4608
+    → restoring (saving s list .image) ≡ record { refusal = 0; state = s }
+saved-restored s list v h = rw (saving-written s list h) (restored-saved s v)
 
 -- Restored, then saved
 

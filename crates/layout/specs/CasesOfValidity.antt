@@ -1,11 +1,11 @@
 -- Stations on both sides of each edge of the request's list.
-use Prim.Native.Nat.{ℕ}
+use Prim.Native.Nat.{ℕ, _+_, _*_, _/_, _%_}
 use mathlib.Core.Bool.{Bool, true, false}
 use mathlib.Core.List.{List, [], _∷_, _++_}
 use Rattle.rules.specs.Basics.{tabulate}
 use Rattle.rules.specs.Charge.{Charge}
 use Rattle.rules.specs.Calls.{State, boundOf, settings, fresh}
-use Rattle.layout.specs.CasesOfImages.{charge, station, small}
+use Rattle.layout.specs.CasesOfImages.{charge, station}
 
 -- a station of N 2 and c 50 at minute 300 with next ticket 261 that holds one charge
 abbrev pub holdingOne : Charge → State
@@ -40,11 +40,11 @@ casesOfSettings =
     ∷ (empty 2 50 0 0 0, false)
     ∷ (empty 2 50 0 0 65537, false)
     ∷ (empty 1 50 0 0 1, false)
-    -- "180 places", and one more
-    ∷ (station 2 50 300 261 (tabulate (λ i. charge i 300 0 0 1 1 1) 181 1), false)
+    -- 181 charges, and nothing else wrong
+    ∷ (station 60 100 300 261 (tabulate (λ i. charge i (300 + 4 * (i / 100)) 0 0 1 (1 + i % 3) 1) 181 1), false)
     ∷ []
 
--- fields of a charge in range, and refusal 18: a rate of 2 where D is 1
+-- fields of a charge in range, and refusal 18: a rate of 2 where D is 1, in a plan that is sound by the other lines
 abbrev pub casesOfFields : List (State × Bool)
 casesOfFields =
     (holdingOne (charge 1 300 2000000 0 1440 3 1), true)
@@ -54,7 +54,7 @@ casesOfFields =
     ∷ (holdingOne (charge 1 300 0 0 1 0 1), false)
     ∷ (holdingOne (charge 1 300 0 0 1 4 1), false)
     ∷ (holdingOne (charge 1 300 0 0 1 1 0), false)
-    ∷ (holdingOne (charge 1 300 0 0 1 1 2), false)
+    ∷ (station 2 50 300 261 (charge 1 300 0 0 1 1 2 ∷ charge 2 300 0 0 1 2 1 ∷ charge 3 300 0 0 1 3 1 ∷ []), false)
     ∷ (station 2 100 300 261 (charge 1 300 0 0 1 1 2 ∷ []), true)
     ∷ (station 3 100 300 261 (charge 1 300 0 0 1 1 3 ∷ []), false)
     ∷ []
@@ -69,8 +69,7 @@ casesOfTickets =
     ∷ (holdingTwo (charge 1 300 0 0 1 1 1) (charge 261 300 0 0 1 2 1), false)
     ∷ []
 
--- With r = 3 a charge of 5 minutes that starts in minute 293 is active in minute 300, one that starts in minute 292 is not. Two
--- tickets given leave ends up to 300 + 2,890.
+-- With r = 3 a charge of 5 minutes that starts in minute 293 is active in minute 300, one that starts in minute 292 is not.
 abbrev pub casesOfTimes : List (State × Bool)
 casesOfTimes =
     (holdingOne (charge 1 293 0 293 5 1 1), true)
@@ -78,20 +77,35 @@ casesOfTimes =
     ∷ (holdingOne (charge 1 300 0 300 5 1 1), true)
     ∷ (holdingOne (charge 1 301 0 301 5 1 1), false)
     ∷ (holdingOne (charge 1 298 0 299 5 1 1), false)
-    ∷ (station 2 50 300 3 (charge 2 3150 0 0 40 1 1 ∷ []), true)
+    ∷ []
+
+-- Two tickets given leave ends up to 300 + 2 × 1,445.
+abbrev pub casesOfEnds : List (State × Bool)
+casesOfEnds =
+    (station 2 50 300 3 (charge 2 3150 0 0 40 1 1 ∷ []), true)
     ∷ (station 2 50 300 3 (charge 2 3151 0 0 40 1 1 ∷ []), false)
     ∷ []
 
--- "and whose plan is sound": N is 2 and D 1. Two on a line at once differ from none by 2; past minutes may, and so two of which one
--- ends when the clock is reached.
+-- what the test of the records says; whether so long plans are sound is not computed
+abbrev pub casesOfRecords : List (State × Bool)
+casesOfRecords = casesOfFields ++ casesOfTickets ++ casesOfTimes ++ casesOfEnds
+
+-- two on line 1 from minute 290 on, and one each on lines 2 and 3 from minute 299 on, for 8 and for so many minutes and r
+abbrev pub fourHeld : ℕ → List Charge
+fourHeld time =
+    charge 1 290 0 0 17 1 1 ∷ charge 2 290 0 0 17 1 1 ∷ charge 3 299 0 0 8 2 1 ∷ charge 4 299 0 0 time 3 1 ∷ []
+
+-- "and whose plan is sound": N is 2 and D 1. Before minute 299 the four differ by 2, which is past; from the clock on they do not,
+-- unless the last ends early.
 abbrev pub casesOfPlans : List (State × Bool)
 casesOfPlans =
-    (small, true)
-    ∷ (fresh (settings 1 100 0), true)
+    (fresh (settings 1 100 0), true)
     ∷ (holdingTwo (charge 1 302 0 0 5 1 1) (charge 2 310 0 0 5 1 1), true)
     ∷ (holdingTwo (charge 1 302 0 0 5 1 1) (charge 2 309 0 0 5 1 1), false)
-    ∷ (station 1 100 300 261 (charge 1 302 0 0 5 1 1 ∷ charge 2 309 0 0 5 1 1 ∷ []), false)
+    ∷ (station 2 50 300 261 (fourHeld 8), true)
+    ∷ (station 2 50 300 261 (fourHeld 7), false)
+    ∷ (holdingTwo (charge 7 300 0 0 1 1 1) (charge 7 300 0 0 1 2 1), false)
     ∷ []
 
 abbrev pub casesOfValidity : List (State × Bool)
-casesOfValidity = casesOfSettings ++ casesOfFields ++ casesOfTickets ++ casesOfTimes ++ casesOfPlans
+casesOfValidity = casesOfSettings ++ casesOfPlans

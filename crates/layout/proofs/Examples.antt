@@ -1,4 +1,4 @@
--- An image of all zero bytes has right checks, and is refused for its contents: N is 0.
+-- A station that is saved and restored, and an image that is refused: all zero bytes have right checks, but N is 0.
 use mathlib.Core.Logic.{_⊎_, inl, inr}
 use mathlib.Core.Path.{_≡_, refl, sym, _∙_}
 use Prim.Native.Nat.{ℕ, _+_, _*_, _≤_, _<_}
@@ -7,15 +7,26 @@ use mathlib.Core.List.{List}
 use native.Mathlib.Omega.{arith}
 use lib.ListN.{length, getD, List·getD-eq-default}
 use borrow.Author.Tests.{eq-eqb}
+use Rattle.rules.specs.Load.{limited, balanced, sound}
 use Rattle.rules.proofs.Ranges.{fails, below-or-not}
 use Rattle.layout.specs.Lists.{listed, every}
 use Rattle.layout.specs.Bytes.{numberAt}
-use Rattle.layout.specs.Image.{checkOf}
-use Rattle.layout.specs.Reading.{inBlock, headerAt, stateIn, checked, isOf, restoreRefusal}
+use Rattle.layout.specs.Image.{checkOf, imageOf}
+use Rattle.layout.specs.Validity.{between, settingsRanged, boundRight, fieldsRanged, rateRight, timesRight, chargeRight, ticketRight, recordRight, isValid}
+use Rattle.layout.specs.Reading.{inBlock, headerAt, stateIn, checked, isOf, restoreRefusal, restoring}
+use Rattle.layout.specs.CasesOfImages.{small}
 use Rattle.layout.proofs.Listing.{length-listed, getD-listed, every-all}
 use Rattle.layout.proofs.Numbers.{number-same}
 use Rattle.layout.proofs.Checks.{check-zero}
+use Rattle.layout.proofs.Validity.{valid-by-test}
 use Rattle.layout.proofs.Refusing.{refused-contents, not-refused, accepted}
+use Rattle.layout.proofs.RoundTrip.{restored-saved}
+
+pub small-restored : restoring (imageOf small) ≡ record { refusal = 0; state = small }
+unfolding every between settingsRanged boundRight fieldsRanged rateRight timesRight chargeRight ticketRight recordRight isValid limited balanced sound
+small-restored = restored-saved small (valid-by-test small refl)
+
+-- All zero bytes
 
 abbrev pub zeros : List ℕ
 zeros = listed (λ k. 0) 4608
