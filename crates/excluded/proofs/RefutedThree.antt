@@ -84,7 +84,7 @@ shown-before-taken d = let h : 5 ≤ 0 = d .orders .0 .not-early in omega arith
 -- `in-time`: ticket 1 ends at 21, and the two orders of minute 0 last 20
 ends-later : DemandThree (untested 4) one (single ∷ commit 1 10 15 1 10 ∷ offer (11 ∷ 0 ∷ []) ∷ []) → ⊥
 unfolding limited balanced sound earliest judged opening committing enquiring
-ends-later d = let h : 21 ≤ 20 = d .orders .0 .in-time in omega arith
+ends-later d = let h : 21 ≤ 20 = d .in-time .0 in omega arith
 
 -- `reported`: start 0 was never reported
 start-at-clock-left-out : DemandThree startAtClockLeftOut one (single ∷ move 1 lentList ∷ []) → ⊥
