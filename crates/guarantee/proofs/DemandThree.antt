@@ -208,14 +208,14 @@ module _ (s : State) (calls : List Call) (v : ValidState s) where
         limit =
             λ l t j from.
             rw (count-history s (past step s calls) (reached .now) (reached .known) l t)
-            (reached .known .invariant .always t from .limit l j);
+            (reached .known .invariant .always t (omega (arith, from)) .limit l j);
         balance =
             λ l m t j i from.
             rw (
               count-history s (past step s calls) (reached .now) (reached .known) l t,
               count-history s (past step s calls) (reached .now) (reached .known) m t,
             )
-            (reached .known .invariant .always t from .balance l m j i);
+            (reached .known .invariant .always t (omega (arith, from)) .balance l m j i);
         tickets =
             let a : Accepted s (reached .known .next) (past step s calls .orders) = reached .known .invariant .accepted in
             (a .new, a .is, a .numbered);
@@ -223,6 +223,20 @@ module _ (s : State) (calls : List Call) (v : ValidState s) where
         no-other = only-ours s (past step s calls) (reached .now) (reached .known);
         unmoved = unmoved-part;
       }
+
+  pub clock-later : s .clock ≤ past step s calls .clock
+  clock-later = reached .later
+
+-- what it holds has at the beginning the starts that it has them with
+pub beginning-starts :
+    (s : State) → ValidState s → Each (λ c. startOf step (beginning s) (orderOf c) ≡ c .start) (s .charges)
+beginning-starts s v =
+    each-map
+    (Said (beginning s) (unfinishedCharges (s .clock) (s .charges)))
+    (λ c. startOf step (beginning s) (orderOf c) ≡ c .start)
+    (λ c e. e .start)
+    (s .charges)
+    (said s (beginning s) (s .charges) (station-known s v))
 
 -- From an opening
 

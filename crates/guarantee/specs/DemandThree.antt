@@ -66,16 +66,20 @@ pub record DemandThree (gives : Gives) (s : State) (calls : List Call) : Type 0 
   pub no-other : NoOther (past gives s calls)
   pub unmoved : NoneMoved gives s calls
 
+-- "from its clock on"
+abbrev pub Since : State → ℕ → Type 0
+Since s t = s .clock ≤ t
+
 -- The claim for any other valid station that a list of calls begins with: "for an image from elsewhere, limit and balance hold
 -- from its clock on, with the charges it holds counted too, their lines, times and rates, and the starts of those begun, as it
 -- has them" (`beginning`). What went before is not known, so no ceiling on ends is claimed.
 pub record DemandThreeFrom (gives : Gives) (s : State) (calls : List Call) : Type 0 where
-  pub limit : (l t : ℕ) → IsLine l → s .clock ≤ t → countIn gives (past gives s calls) l t ≤ s .limit
+  pub limit : (l t : ℕ) → IsLine l → Since s t → countIn gives (past gives s calls) l t ≤ s .limit
   pub balance :
       (l m t : ℕ)
       → IsLine l
       → IsLine m
-      → s .clock ≤ t
+      → Since s t
       → countIn gives (past gives s calls) l t ≤ countIn gives (past gives s calls) m t + s .bound
   -- the orders accepted by the calls get the tickets from its next one on
   pub tickets :
