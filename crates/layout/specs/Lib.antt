@@ -5,3 +5,5 @@ pub mod Image
 pub mod Validity
 pub mod Reading
 pub mod Saving
+pub mod CasesOfImages
+pub mod CasesOfValidity
