@@ -1,0 +1,4 @@
+pub mod Elsewhere
+pub mod Together
+pub mod Restarts
+pub mod Bus

@@ -1,0 +1,4 @@
+pub mod Events
+pub mod Restarts
+pub mod Bus
+pub mod Example
