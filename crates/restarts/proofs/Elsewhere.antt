@@ -37,9 +37,6 @@ reports-added (c ∷ calls) h =
     (added ++ later .0, later .1 ∙ append-assoc (h .reports) added (later .0))
 
 module _ (s : State) (calls : List Call) (v : ValidState s) where
-  there : Past
-  there = past step s calls
-
   from : DemandThreeFrom step s calls
   from = demand-three-from s calls v
 
@@ -99,4 +96,4 @@ module _ (s : State) (calls : List Call) (v : ValidState s) where
   pub from-elsewhere : FromElsewhere s calls
   from-elsewhere =
       let new = reports-added calls (beginning s) in
-      record { three = from; begun = begun-starts; not-again = (new .0, new .1, not-again (new .0) (new .1)) }
+      record { three = from; begun = each-in (λ c f j. f (omega (arith, j))) (s .charges) begun-starts; not-again = (new .0, new .1, not-again (new .0) (new .1)) }

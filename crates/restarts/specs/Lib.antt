@@ -1,4 +1,3 @@
 pub mod Events
 pub mod Restarts
 pub mod Bus
-pub mod Example

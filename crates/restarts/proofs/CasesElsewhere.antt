@@ -1,62 +1,16 @@
--- The lists of calls tried on events, and the claim for an image from elsewhere on a station, with values worked out by hand.
+-- The claim for an image from elsewhere, tried on a station, with what is right worked out by hand.
 use mathlib.Core.Path.{_≡_, refl}
 use Prim.Native.Nat.{ℕ}
 use mathlib.Core.Bool.{true}
-use mathlib.Core.List.{List, [], _∷_, map}
+use mathlib.Core.List.{[], _∷_, map}
 use lib.ListN.{replicate}
 use Rattle.rules.specs.Load.{limited, balanced, sound}
 use Rattle.rules.specs.Search.{earliest}
 use Rattle.rules.specs.Charge.{Charge}
-use Rattle.rules.specs.Calls.{Settings, settings, State, refused, waiting, charging, Call, commit, move, enquire, opening, committing, moving, enquiring, step}
-use Rattle.guarantee.specs.Past.{Order, Report, Past, past, timesReported, enquiry, startOf, countIn}
+use Rattle.rules.specs.Calls.{State, refused, waiting, charging, commit, move, committing, moving, enquiring, step}
+use Rattle.guarantee.specs.Past.{Order, Past, past, timesReported, enquiry, startOf, countIn}
 use Rattle.layout.specs.Lists.{every}
 use Rattle.layout.specs.Validity.{between, settingsRanged, boundRight, fieldsRanged, rateRight, timesRight, chargeRight, ticketRight, recordRight, isValid}
-use Rattle.layout.specs.Reading.{restoreRefusal}
-use Rattle.restarts.specs.Events.{Event, opens, made, saves, restores, brings, Beginning, anOpening, aRefusedRestore, CallList, listsFrom, unsaved, inForce}
-use Rattle.restarts.specs.Restarts.{stands}
-
--- Lists in force
-
--- a first charge on line 1, and a second one behind it
-abbrev firstOrder : Call
-firstOrder = commit 1 10 60 1 0
-
-abbrev secondOrder : Call
-secondOrder = commit 1 10 60 1 10
-
-abbrev laterMove : Call
-laterMove = move 5 (replicate 360 7)
-
-abbrev one : Settings
-one = settings 1 100 0
-
--- an order, save 0, another order and a clock move, save 1; then save 0 is restored, and an enquiry made: the second order and the
--- move fall out
-restored-first :
-    inForce one
-    (made firstOrder ∷ saves ∷ made secondOrder ∷ made laterMove ∷ saves ∷ restores 0 ∷ made (enquire 1) ∷ [])
-    ≡ record { beginning = anOpening one; calls = firstOrder ∷ enquire 1 ∷ [] }
-restored-first = refl
-
--- save 1 is restored after save 0 was
-restored-second :
-    inForce one
-    (made firstOrder ∷ saves ∷ made secondOrder ∷ saves ∷ restores 0 ∷ made laterMove ∷ restores 1 ∷ made (enquire 1) ∷ [])
-    ≡ record { beginning = anOpening one; calls = firstOrder ∷ secondOrder ∷ enquire 1 ∷ [] }
-restored-second = refl
-
--- a list that is no image is refused: a new list begins, with the fresh station of 1, 100 and r = 0, and save 0 is still there
-refused-restore :
-    (inForce (settings 2 50 2) (made firstOrder ∷ saves ∷ brings [] ∷ made firstOrder ∷ [])
-    ≡ record { beginning = aRefusedRestore; calls = firstOrder ∷ [] })
-    × (inForce (settings 2 50 2) (made firstOrder ∷ saves ∷ brings [] ∷ made firstOrder ∷ restores 0 ∷ [])
-    ≡ record { beginning = anOpening (settings 2 50 2); calls = firstOrder ∷ [] })
-    × (stands (settings 2 50 2) (made laterMove ∷ brings [] ∷ []) .clock ≡ 0)
-    × (stands (settings 2 50 2) (made laterMove ∷ brings [] ∷ []) .limit ≡ 1)
-unfolding restoreRefusal opening
-refused-restore = (refl, refl, refl, refl)
-
--- From elsewhere
 
 -- a charge of rate 1, due in minute 60
 abbrev held : ℕ → ℕ → ℕ → ℕ → ℕ → Charge
@@ -88,7 +42,7 @@ uneven =
     }
 
 -- restore accepts its image
-uneven-valid : isValid uneven ≡ true
+pub uneven-valid : isValid uneven ≡ true
 unfolding isValid settingsRanged between boundRight every recordRight ticketRight chargeRight fieldsRanged rateRight timesRight sound limited balanced
 uneven-valid = refl
 
@@ -96,7 +50,7 @@ uneven-valid = refl
 abbrev continued : Past
 continued = past step uneven (commit 3 4 60 1 5 ∷ move 6 (replicate 360 7) ∷ [])
 
-continued-known :
+pub continued-known :
     (continued .clock ≡ 6)
     × (map (λ (o : Order). o .ticket) (continued .orders) ≡ 2 ∷ 3 ∷ 5 ∷ 6 ∷ 7 ∷ 8 ∷ 9 ∷ [])
     × (map (startOf step continued) (continued .orders) ≡ 0 ∷ 0 ∷ 3 ∷ 3 ∷ 4 ∷ 20 ∷ 5 ∷ [])
@@ -106,7 +60,7 @@ unfolding limited balanced sound earliest committing moving enquiring
 continued-known = (refl, refl, refl, refl, refl)
 
 -- before its clock lines 1 and 2 differ by 2, which is above D; from its clock on by 1 at most
-continued-counts :
+pub continued-counts :
     (map (countIn step continued 1) (0 ∷ 2 ∷ 5 ∷ 9 ∷ 10 ∷ 20 ∷ []) ≡ 2 ∷ 2 ∷ 2 ∷ 2 ∷ 0 ∷ 1 ∷ [])
     × (map (countIn step continued 2) (0 ∷ 2 ∷ 5 ∷ 9 ∷ 10 ∷ 20 ∷ []) ≡ 0 ∷ 0 ∷ 2 ∷ 2 ∷ 1 ∷ 0 ∷ [])
     × (map (countIn step continued 3) (0 ∷ 2 ∷ 5 ∷ 9 ∷ 10 ∷ 20 ∷ []) ≡ 0 ∷ 0 ∷ 2 ∷ 1 ∷ 1 ∷ 0 ∷ [])
