@@ -2,10 +2,16 @@
 
 use std::collections::HashMap;
 use std::io::{self, Read, Write};
+use std::path::Path;
 use std::process::ExitCode;
 use std::time::{Duration, Instant};
+use trials::bus::files::Disk;
+use trials::bus::images::{Images, Reference};
+use trials::bus::keep::Kept;
+use trials::bus::Bus;
 use trials::compare::{compare, Choice, Failure, LOOPS};
 use trials::program::Program;
+use trials::role::Role;
 use trials::{
     benchmark, coverage, demand, fast, fill, generate, interpret, loops, reference, script,
 };
@@ -13,10 +19,11 @@ use trials::{
 const USAGE: &str = "\
 trials answers < SCRIPT                      answers of the reference
 trials fast < SCRIPT                         answers of the fast program
+trials bus [FILE] < SCRIPT                   answers of a bus over an image, kept in FILE
 trials fill < SCRIPT                         the script with a start for each commit's '?'
 trials generate [--kind KIND] [--seed S] [--scripts K]
 trials compare PROGRAM [--scripts K] [--seed S] [--kind KIND] [--without KIND]
-                       [--patience SECONDS]
+                       [--patience SECONDS] [--as bus]
 trials loops [TITLE]                         titles of the trials of the loop, or an input
 trials coverage [--scripts K] [--seed S] [--kind KIND] [--without KIND]
 trials benchmark PROGRAM [--repeat R] [--days D]
@@ -61,7 +68,17 @@ impl Words {
             seed: self.number("seed", 1)?,
             kind: self.kind("kind")?,
             without: self.kind("without")?,
+            role: self.role()?,
         })
+    }
+
+    /// A console, unless it is said to be a bus.
+    fn role(&self) -> Result<Role, String> {
+        match self.named.get("as").map(String::as_str) {
+            None | Some("console") => Ok(Role::Console),
+            Some("bus") => Ok(Role::Bus),
+            Some(other) => Err(format!("--as {other}: there are console and bus")),
+        }
     }
 
     /// The kind of scripts that a named word gives.
@@ -90,6 +107,7 @@ fn run(words: &Words) -> Outcome {
     match words.others.first().map(String::as_str) {
         Some("answers") => serve(reference::Station::fresh(1, 100, 0)),
         Some("fast") => serve(fast::Station::fresh(1, 100, 0)),
+        Some("bus") => serve_bus(Reference, words.others.get(1)),
         Some("fill") => fill_script(),
         Some("generate") => print_scripts(&words.choice(1)?),
         Some("compare") => run_comparison(words),
@@ -104,6 +122,20 @@ fn run(words: &Words) -> Outcome {
 fn serve(yard: impl trials::yard::Yard) -> Outcome {
     let (input, output) = (io::stdin().lock(), io::stdout().lock());
     interpret::serve(yard, input, output).map_err(|error| error.to_string())
+}
+
+/// A bus, with its image in a file if there is one named.
+fn serve_bus(images: impl Images, file: Option<&String>) -> Outcome {
+    let (input, output) = (io::stdin().lock(), io::stdout().lock());
+    let mut bus = Bus::new(images, Disk);
+    let served = match file {
+        None => interpret::serve_lines(|line, out| bus.answer(line, out), input, output),
+        Some(file) => {
+            let mut kept = Kept::new(bus, Path::new(file));
+            interpret::serve_lines(|line, out| kept.answer(line, out), input, output)
+        }
+    };
+    served.map_err(|error| error.to_string())
 }
 
 fn fill_script() -> Outcome {
