@@ -8,13 +8,17 @@ use std::sync::atomic::{AtomicUsize, Ordering};
 pub struct Folder(PathBuf);
 
 impl Folder {
-    /// Of this process and this name; the path has no space where the system's folder for
-    /// such files has none.
+    /// Of this process and this name, in memory where the system has a place for that: ten
+    /// thousands of small files keep a disk busy.
     pub fn new(name: &str) -> io::Result<Folder> {
         static FOLDERS: AtomicUsize = AtomicUsize::new(0);
         let number = FOLDERS.fetch_add(1, Ordering::Relaxed);
         let name = format!("trials-{name}-{}-{number}", std::process::id());
-        let path = std::env::temp_dir().join(name);
+        let in_memory = Path::new("/dev/shm").join(&name);
+        let path = match fs::create_dir_all(&in_memory) {
+            Ok(()) => in_memory,
+            Err(_) => std::env::temp_dir().join(name),
+        };
         fs::create_dir_all(&path)?;
         Ok(Folder(path))
     }

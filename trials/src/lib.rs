@@ -8,6 +8,7 @@ pub mod benchmark;
 pub mod bus;
 pub mod compare;
 pub mod coverage;
+pub mod damage;
 pub mod demand;
 pub mod fast;
 pub mod feed;

@@ -9,11 +9,11 @@ use trials::bus::files::Disk;
 use trials::bus::images::{Images, Reference};
 use trials::bus::keep::Kept;
 use trials::bus::Bus;
-use trials::compare::{compare, Choice, Failure, LOOPS};
+use trials::compare::{compare, Choice, Failure, Summary, LOOPS};
 use trials::program::Program;
 use trials::role::Role;
 use trials::{
-    benchmark, coverage, demand, fast, fill, generate, interpret, loops, reference, script,
+    benchmark, coverage, damage, demand, fast, fill, generate, interpret, loops, reference, script,
 };
 
 const USAGE: &str = "\
@@ -24,6 +24,7 @@ trials fill < SCRIPT                         the script with a start for each co
 trials generate [--kind KIND] [--seed S] [--scripts K]
 trials compare PROGRAM [--scripts K] [--seed S] [--kind KIND] [--without KIND]
                        [--patience SECONDS] [--as bus]
+trials images BUS [--seed S] [--times T]     damaged images and images from elsewhere
 trials loops [TITLE]                         titles of the trials of the loop, or an input
 trials coverage [--scripts K] [--seed S] [--kind KIND] [--without KIND]
 trials benchmark PROGRAM [--repeat R] [--days D]
@@ -111,6 +112,7 @@ fn run(words: &Words) -> Outcome {
         Some("fill") => fill_script(),
         Some("generate") => print_scripts(&words.choice(1)?),
         Some("compare") => run_comparison(words),
+        Some("images") => run_images(words),
         Some("loops") => print_loops(words.others.get(1)),
         Some("coverage") => print_coverage(&words.choice(1_000)?),
         Some("benchmark") => run_benchmark(words),
@@ -198,6 +200,26 @@ fn run_comparison(words: &Words) -> Outcome {
         Err(failure) => {
             print_failure(&failure)?;
             Err(format!("the comparison failed, seed {}", choice.seed))
+        }
+    }
+}
+
+/// Damaged images and images from elsewhere, read by a bus.
+fn run_images(words: &Words) -> Outcome {
+    let command = words.others.get(1).or(words.named.get("program")).ok_or(USAGE)?;
+    let (seed, times) = (words.number("seed", 1)?, words.number("times", 1)?);
+    let patience = Duration::from_secs(words.number("patience", 60)?);
+    let program = Program::new(command, patience);
+    let begun = Instant::now();
+    match damage::compare(&program, damage::trials(seed, times)) {
+        Ok(Summary { scripts, answers }) => {
+            let seconds = begun.elapsed().as_secs_f64();
+            println!("{scripts} images, {answers} answers, all as they should be ({seconds:.1} s)");
+            Ok(())
+        }
+        Err(failure) => {
+            print_failure(&failure)?;
+            Err(format!("a trial of images failed, seed {seed}"))
         }
     }
 }

@@ -83,6 +83,7 @@ impl<'a> Trial<'a> {
             for (place, script) in scripts.iter_mut().enumerate() {
                 let path = folder.file(&place.to_string());
                 script.lines.push(format!("write {path}").into_bytes());
+                bus.files_mut().expect(&path);
                 script.answers = bus::answers_of(&mut bus, &script.lines);
                 written.push((path, bus.image().to_vec()));
             }

@@ -24,20 +24,27 @@ impl Files for Disk {
     }
 }
 
-/// Those of one run, in memory: what is there to read, and what was written.
+/// Those of one run, in memory: what is there to read, and what was written. Only files
+/// that are expected can be written.
 #[derive(Clone, Debug, Default)]
 pub struct Shelf {
     pub stored: HashMap<Vec<u8>, Vec<u8>>,
-    pub written: HashMap<Vec<u8>, Vec<u8>>,
+    pub written: HashMap<Vec<u8>, Option<Vec<u8>>>,
+}
+
+impl Shelf {
+    pub fn expect(&mut self, path: &str) {
+        self.written.insert(path.as_bytes().to_vec(), None);
+    }
 }
 
 impl Files for Shelf {
     fn read(&self, path: &[u8]) -> Option<Vec<u8>> {
-        self.written.get(path).or(self.stored.get(path)).cloned()
+        self.stored.get(path).cloned()
     }
 
     fn write(&mut self, path: &[u8], bytes: &[u8]) -> Option<()> {
-        self.written.insert(path.to_vec(), bytes.to_vec());
+        *self.written.get_mut(path)? = Some(bytes.to_vec());
         Some(())
     }
 }

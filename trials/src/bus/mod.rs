@@ -56,6 +56,10 @@ impl<I: Images, F: Files> Bus<I, F> {
         &self.files
     }
 
+    pub fn files_mut(&mut self) -> &mut F {
+        &mut self.files
+    }
+
     /// Appends the answer to a line and says whether there was one.
     pub fn answer(&mut self, text: &[u8], out: &mut Vec<u8>) -> bool {
         if let Some(line) = FileLine::of(text) {
