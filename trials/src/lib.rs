@@ -17,6 +17,7 @@ pub mod folder;
 pub mod generate;
 pub mod image;
 pub mod interpret;
+pub mod kills;
 pub mod listen;
 pub mod loops;
 pub mod program;

@@ -10,10 +10,12 @@ use trials::bus::images::{Images, Reference};
 use trials::bus::keep::Kept;
 use trials::bus::Bus;
 use trials::compare::{compare, Choice, Failure, Summary, LOOPS};
+use trials::kills::Tally;
 use trials::program::Program;
 use trials::role::Role;
 use trials::{
-    benchmark, coverage, damage, demand, fast, fill, generate, interpret, loops, reference, script,
+    benchmark, coverage, damage, demand, fast, fill, generate, interpret, kills, loops, reference,
+    script,
 };
 
 const USAGE: &str = "\
@@ -25,6 +27,8 @@ trials generate [--kind KIND] [--seed S] [--scripts K]
 trials compare PROGRAM [--scripts K] [--seed S] [--kind KIND] [--without KIND]
                        [--patience SECONDS] [--as bus]
 trials images BUS [--seed S] [--times T]     damaged images and images from elsewhere
+trials kills BUS [--stops K] [--seed S] [--seconds T]
+                                             stops at random moments, the image in a file
 trials loops [TITLE]                         titles of the trials of the loop, or an input
 trials coverage [--scripts K] [--seed S] [--kind KIND] [--without KIND]
 trials benchmark PROGRAM [--repeat R] [--days D]
@@ -113,6 +117,7 @@ fn run(words: &Words) -> Outcome {
         Some("generate") => print_scripts(&words.choice(1)?),
         Some("compare") => run_comparison(words),
         Some("images") => run_images(words),
+        Some("kills") => run_kills(words),
         Some("loops") => print_loops(words.others.get(1)),
         Some("coverage") => print_coverage(&words.choice(1_000)?),
         Some("benchmark") => run_benchmark(words),
@@ -220,6 +225,27 @@ fn run_images(words: &Words) -> Outcome {
         Err(failure) => {
             print_failure(&failure)?;
             Err(format!("a trial of images failed, seed {seed}"))
+        }
+    }
+}
+
+/// A bus that keeps its image in a file, stopped and started again.
+fn run_kills(words: &Words) -> Outcome {
+    let command = words.others.get(1).or(words.named.get("program")).ok_or(USAGE)?;
+    let program: Vec<String> = command.split_whitespace().map(String::from).collect();
+    let (seed, stops) = (words.number("seed", 1)?, words.number("stops", 300)? as usize);
+    let longest = Duration::from_secs(words.number("seconds", 25)?);
+    let begun = Instant::now();
+    match kills::compare(&program, seed, stops, longest) {
+        Ok(Tally { stops, answers, after }) => {
+            let seconds = begun.elapsed().as_secs_f64();
+            println!("{stops} stops, {after} of them after the call in hand was kept,");
+            println!("{answers} answers, no answered call lost ({seconds:.1} s)");
+            Ok(())
+        }
+        Err(failure) => {
+            print_failure(&failure)?;
+            Err(format!("the trial of stops failed, seed {seed}"))
         }
     }
 }

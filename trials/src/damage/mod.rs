@@ -118,8 +118,8 @@ fn found(trial: &Trial, what: String) -> Failure {
     Failure { title: format!("an image: {}", trial.title), lines, what }
 }
 
-/// Calls of every kind, and lines that are none.
-const CALLS: [&str; 8] = [
+/// Calls of every kind but openings.
+const CALLS: [&str; 7] = [
     "preview 1 5 50 1",
     "commit 1 5 50 1 100",
     "move 1000000 360",
@@ -127,19 +127,18 @@ const CALLS: [&str; 8] = [
     "latest",
     "lines 5",
     "enquire 3",
-    "enquire",
 ];
 
 /// Calls that have a refusal of their own, which comes after 20 to 22.
-const REFUSED: [&str; 6] =
-    ["preview 4 0 50 9", "commit 1 5 2000001 1 0", "move 1000001 0", "offer 1 2 3", "lines 0", "x"];
+const REFUSED: [&str; 5] =
+    ["preview 4 0 50 9", "commit 1 5 2000001 1 0", "move 1000001 0", "offer 1 2 3", "lines 0"];
 
-/// All of them, an opening that is refused, and a call after it; an opening in the end
+/// All of them, lines that are no calls, an opening that is refused, and a call after it; an opening in the end
 /// where `opened`.
 fn all_calls(opened: bool) -> Vec<Line> {
     let mut calls: Vec<&str> = CALLS.to_vec();
     calls.extend(REFUSED);
-    calls.extend(["open 61 100 0", "latest"]);
+    calls.extend(["enquire", "x", "open 61 100 0", "latest"]);
     if opened {
         calls.extend(["open 2 50 0", "commit 1 10 60 1 0"]);
     }
