@@ -10,6 +10,7 @@ use trials::bus::images::{Images, Reference};
 use trials::bus::keep::Kept;
 use trials::bus::Bus;
 use trials::compare::{compare, Choice, Failure, Summary, LOOPS};
+use trials::fast::Fast;
 use trials::kills::Tally;
 use trials::program::Program;
 use trials::role::Role;
@@ -22,6 +23,7 @@ const USAGE: &str = "\
 trials answers < SCRIPT                      answers of the reference
 trials fast < SCRIPT                         answers of the fast program
 trials bus [FILE] < SCRIPT                   answers of a bus over an image, kept in FILE
+trials fast-bus [FILE] < SCRIPT              the same of the fast program
 trials fill < SCRIPT                         the script with a start for each commit's '?'
 trials generate [--kind KIND] [--seed S] [--scripts K]
 trials compare PROGRAM [--scripts K] [--seed S] [--kind KIND] [--without KIND]
@@ -31,7 +33,7 @@ trials kills BUS [--stops K] [--seed S] [--seconds T]
                                              stops at random moments, the image in a file
 trials loops [TITLE]                         titles of the trials of the loop, or an input
 trials coverage [--scripts K] [--seed S] [--kind KIND] [--without KIND]
-trials benchmark PROGRAM [--repeat R] [--days D]
+trials benchmark PROGRAM [--bus BUS] [--repeat R] [--days D] [--only bus]
                                              run times beside those of the fast program
 trials demand SCRIPT ANSWERS                 demand 3 from calls and answers alone";
 
@@ -113,6 +115,7 @@ fn run(words: &Words) -> Outcome {
         Some("answers") => serve(reference::Station::fresh(1, 100, 0)),
         Some("fast") => serve(fast::Station::fresh(1, 100, 0)),
         Some("bus") => serve_bus(Reference, words.others.get(1)),
+        Some("fast-bus") => serve_bus(Fast, words.others.get(1)),
         Some("fill") => fill_script(),
         Some("generate") => print_scripts(&words.choice(1)?),
         Some("compare") => run_comparison(words),
@@ -185,7 +188,12 @@ fn print_coverage(choice: &Choice) -> Outcome {
 
 fn run_benchmark(words: &Words) -> Outcome {
     let command = words.others.get(1).or(words.named.get("program")).ok_or(USAGE)?;
-    benchmark::run(command, words.number("repeat", 5)? as usize, words.number("days", 5)?)
+    let bus = words.named.get("bus").map(String::as_str);
+    let (repeat, days) = (words.number("repeat", 5)? as usize, words.number("days", 5)?);
+    match (bus, words.named.get("only").map(String::as_str)) {
+        (Some(bus), Some("bus")) => benchmark::run_bus(command, bus, repeat),
+        _ => benchmark::run(command, bus, repeat, days),
+    }
 }
 
 fn run_comparison(words: &Words) -> Outcome {
