@@ -9,6 +9,7 @@ use Rattle.excluded.specs.Same.{sameState}
 use Rattle.excluded.specs.WrongOrders.{ownLineOnly, neighboursOnly, limitIgnored, chargesCounted, ratesInLimitOnly, tailsLeftOut, tailsInLimitOnly, fixedStart, previewTakesTicket, shownBeforeTaken, ticketSkipped}
 use Rattle.excluded.specs.WrongMoves.{startAtClockLeftOut, firstReportOnly, reportedTwice, startAtTargetReported, nobodyReported, slowClock, droppedEarly, droppedLate, droppedAtItsEnd, neverDropped, shownLate, shownBegun, shownEarly, endWithTail}
 use Rattle.excluded.specs.WrongPlans.{untested, rateLost, begunMoved}
+use Rattle.excluded.specs.WrongRestores.{begunForgotten, ticketsGivenAgain, clockLost}
 use Rattle.excluded.specs.FieldsThree.{Field, limit, balance, tickets, not-early, in-time, reported, not-reported, waits, charges, finished, no-other, unmoved, fields, place, Holds}
 use Rattle.excluded.specs.Breaks.{Entry, agreesBy, onlyOf}
 use Rattle.excluded.specs.TestsThree.{tested}
@@ -107,6 +108,11 @@ wrongEntries =
     ∷ only neverDropped one (single ∷ to 99 ∷ []) (finished ∷ [])
     ∷ only nobodyReported one (to 1 ∷ []) (no-other ∷ [])
     ∷ only shownEarly one (single ∷ from 1 10 ∷ to 9 ∷ to 11 ∷ []) (unmoved ∷ [])
+    -- the first charge of line 1 has begun and is forgotten: an enquiry does not find it, and the second one begins beside it
+    ∷ only begunForgotten one (single ∷ from 2 0 ∷ from 3 0 ∷ to 1 ∷ from 1 1 ∷ []) (limit ∷ charges ∷ [])
+    -- ticket 1 is dropped, ticket 2 waits for 10 and so does the next order
+    ∷ only ticketsGivenAgain one (single ∷ from 1 10 ∷ to 10 ∷ from 2 10 ∷ []) (tickets ∷ [])
+    ∷ only clockLost one (single ∷ to 1 ∷ to 2 ∷ []) (reported ∷ charges ∷ [])
     ∷ []
 
 -- an opening with its own N, c and r leads to this station

@@ -3,6 +3,7 @@ pub mod WrongRefusals
 pub mod WrongOrders
 pub mod WrongMoves
 pub mod WrongPlans
+pub mod WrongRestores
 pub mod Same
 pub mod Stations
 pub mod Breaks

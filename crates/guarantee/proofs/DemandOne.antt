@@ -121,7 +121,7 @@ granted-answer s (enquire ticket) v q =
 
 -- The demand
 
-valid-demand-one : (s : State) → ValidState s → (call : Call) → DemandOne step s call
+pub valid-demand-one : (s : State) → ValidState s → (call : Call) → DemandOne step s call
 valid-demand-one s v call =
     record {
       refused-by =
@@ -134,13 +134,13 @@ valid-demand-one s v call =
           (granted-answer s call v q);
     }
 
--- every station that an opening and calls lead to is valid
+-- every station that calls lead to from a valid one is valid
+pub after-valid : (calls : List Call) (h : Past) → ValidState (h .station) → ValidState (after step h calls .station)
+after-valid [] h v = v
+after-valid (x ∷ calls) h v = after-valid calls (extended h x (step (h .station) x)) (step-valid (h .station) x v)
+
 pub reached-valid : (x : Settings) (calls : List Call) → ValidState (reached x calls)
 reached-valid x calls = after-valid calls (beginning (opening x .state)) (opening-valid x)
-  where
-    after-valid : (calls : List Call) (h : Past) → ValidState (h .station) → ValidState (after step h calls .station)
-    after-valid [] h v = v
-    after-valid (x ∷ calls) h v = after-valid calls (extended h x (step (h .station) x)) (step-valid (h .station) x v)
 
 pub demand-one : (x : Settings) (calls : List Call) (call : Call) → DemandOne step (reached x calls) call
 demand-one x calls call = valid-demand-one (reached x calls) (reached-valid x calls) call

@@ -206,7 +206,7 @@ call-tested s call p rounds j same = go (firstOf (refusals s call)) refl
 
 -- The demand
 
-valid-demand-two : (s : State) → ValidState s → DemandTwo step s
+pub valid-demand-two : (s : State) → ValidState s → DemandTwo step s
 unfolding offering replanningLatest replanningLines
 valid-demand-two s v =
     record {

@@ -5,6 +5,7 @@ pub mod Reports
 pub mod Tickets
 pub mod Invariant
 pub mod Steps
+pub mod Beginnings
 pub mod DemandThree
 pub mod DemandOne
 pub mod Proposals

@@ -6,12 +6,12 @@ pub mod order;
 pub mod plan;
 
 pub struct Station {
-    limit: u32,
-    percent: u32,
-    bound: u32,
+    pub limit: u32,
+    pub percent: u32,
+    pub bound: u32,
     // r: how many minutes a point draws after its end.
-    tail: u32,
-    clock: u32,
-    next: u32,
-    charges: charges::Charges,
+    pub tail: u32,
+    pub clock: u32,
+    pub next: u32,
+    pub charges: charges::Charges,
 }

@@ -26,7 +26,7 @@ pub struct Opening {
 }
 
 // product / 100 "rounded to the nearest whole number, an exact half to the even one".
-fn nearest_hundreds(product: u32) -> u32
+pub fn nearest_hundreds(product: u32) -> u32
     ensures { λ r. ⌜ r ≡ nearestHundreds product ⌝ }
 {
     let whole = product / 100;

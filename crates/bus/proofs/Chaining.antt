@@ -1,0 +1,96 @@
+-- C calls one after another: what they return, tell and report is what the list of station calls answers, and the image that they
+-- leave is that of its station.
+use mathlib.Core.Path.{_≡_, refl, sym, ap, _∙_}
+use Prim.Native.Nat.{ℕ, zero, suc}
+use mathlib.Core.Bool.{Bool, true, false, cond, true≢false}
+use mathlib.Core.List.{List, [], _∷_, map}
+use Rattle.rules.specs.Basics.{Found, at, nothing, firstOf}
+use Rattle.rules.specs.Replan.{Proposal, Replanned, starts, none, latest, byLines}
+use Rattle.rules.specs.Judgement.{judged}
+use Rattle.rules.specs.Calls.{State, Settings, Result, answering, opening, Call, preview, commit, move, offer, replanLatest, replanLines, enquire, lent, refusals, granted, step, run, limitsOf, drawFor, startFor, previewedAt, decided, tested, previewing, committing, moving, offering, replanningLatest, replanningLines, enquiring}
+use Rattle.rules.specs.Valid.{ValidState}
+use Rattle.rules.proofs.Validity.{opening-valid, step-valid}
+use Rattle.layout.specs.Image.{imageOf}
+use Rattle.layout.specs.Reading.{RestoreResult}
+use Rattle.layout.proofs.Refusing.{saving-written}
+use Rattle.layout.proofs.RoundTrip.{restored-saved}
+use Rattle.bus.specs.Left.{told, leaving, Left, left, called, openedOver, Whole}
+use Rattle.bus.specs.Chains.{Made, chained, leftOf, leftOfEach}
+
+-- A refusal keeps the station
+
+abbrev Stays : State → Result → Type 0
+Stays s r = told (r .answer) .isRefused ≡ true → r .state ≡ s
+
+answering-stays : (k : ℕ) (s : State) (list : List ℕ) (r : Result) → Stays s r → Stays s (answering k s list r)
+answering-stays zero s list r h = h
+answering-stays (suc k) s list r h = λ e. refl
+
+previewed-stays : (s : State) (f : Found) → Stays s (previewedAt s f)
+previewed-stays s (at start) = λ e. refl
+previewed-stays s nothing = λ e. refl
+
+decided-stays : (s : State) (rounds : ℕ) (ss list : List ℕ) (cause : ℕ) → Stays s (decided s rounds ss list cause)
+decided-stays s rounds ss list zero = λ e. absurd (true≢false (sym e))
+decided-stays s rounds ss list (suc k) = λ e. refl
+
+tested-stays : (s : State) (rounds : ℕ) (p : Proposal) (list : List ℕ) → Stays s (tested s rounds p list)
+tested-stays s rounds (starts ss) list = decided-stays s rounds ss list (judged (limitsOf s) (s .clock) (s .charges) ss)
+tested-stays s rounds (none cause) list = λ e. refl
+
+granted-stays : (s : State) (c : Call) → Stays s (granted s c)
+unfolding previewing committing moving offering replanningLatest replanningLines enquiring
+granted-stays s (preview line p d rate) = previewed-stays s (startFor s (drawFor s line p rate))
+granted-stays s (commit line p d rate shown) = λ e. absurd (true≢false (sym e))
+granted-stays s (move target list) = λ e. absurd (true≢false (sym e))
+granted-stays s (offer ss) = tested-stays s 0 (starts ss) ss
+granted-stays s replanLatest = tested-stays s 0 (latest (limitsOf s) (s .clock) (s .charges)) []
+granted-stays s (replanLines allowance) =
+    let r : Replanned = byLines (limitsOf s) (s .clock) allowance (s .charges) in tested-stays s (r .rounds) (r .proposal) []
+granted-stays s (enquire ticket) = λ e. refl
+
+refused-stays : (s : State) (c : Call) → Stays s (step s c)
+refused-stays s c = answering-stays (firstOf (refusals s c)) s (lent c) (granted s c) (granted-stays s c)
+
+-- One call on a saved image, and many
+
+left-of : (s : State) (m : Made) (r : Result) → Stays s r → left (m .numbers) (imageOf s) r ≡ leftOf m r
+unfolding left
+left-of s m r h = go (told (r .answer) .isRefused) refl
+  where
+    go : (b : Bool) → told (r .answer) .isRefused ≡ b → left (m .numbers) (imageOf s) r ≡ leftOf m r
+    go true e = rw (e, h e)
+    go false e = rw e
+
+pub called-saved : (s : State) (m : Made) → ValidState s → called (m .numbers) (imageOf s) (m .call) ≡ leftOf m (step s (m .call))
+unfolding called
+called-saved s m v =
+    ap
+    (λ (x : RestoreResult). left (m .numbers) (imageOf s) (answering (x .refusal) (x .state) (lent (m .call)) (step (x .state) (m .call))))
+    (restored-saved s v)
+    ∙ left-of s m (step s (m .call)) (refused-stays s (m .call))
+
+pub chained-saved :
+    (s : State) (ms : List Made) → ValidState s
+    → chained (imageOf s) ms ≡ leftOfEach ms (run s (map (λ (m : Made). m .call) ms))
+chained-saved s [] v = refl
+chained-saved s (m ∷ ms) v =
+    let next : State = step s (m .call) .state in
+    ap (λ (l : Left). l ∷ chained (l .image) ms) (called-saved s m v)
+    ∙ ap (λ (ls : List Left). leftOf m (step s (m .call)) ∷ ls) (chained-saved next ms (step-valid s (m .call) v))
+
+-- From an opening
+
+pub opened-image :
+    (numbers image : List ℕ) (x : Settings) → Whole image → told (opening x .answer) .isRefused ≡ false
+    → openedOver numbers image x .image ≡ imageOf (opening x .state)
+unfolding openedOver left
+opened-image numbers image x h e = rw (saving-written (opening x .state) image h) (rw e)
+
+-- any list of C calls on the image of an opening, whatever the image was before
+pub chained-opened :
+    (numbers image : List ℕ) (x : Settings) (ms : List Made) → Whole image → told (opening x .answer) .isRefused ≡ false
+    → chained (openedOver numbers image x .image) ms ≡ leftOfEach ms (run (opening x .state) (map (λ (m : Made). m .call) ms))
+chained-opened numbers image x ms h e =
+    ap (λ (after : List ℕ). chained after ms) (opened-image numbers image x h e)
+    ∙ chained-saved (opening x .state) ms (opening-valid x)

@@ -1,0 +1,30 @@
+use mathlib.Core.Path.{ap}
+use Rattle.station.specs.Answers.{planAnswer}
+use Rattle.bus.proofs.Calling.{end-refused, end-saved, saved-whole}
+use borrow.Author.Needs.{needs}
+use Rattle.bus.proofs.plan.end_plan.Statement.{statement}
+use Rattle.bus.proofs.plan.end_plan.Tie as tie
+
+enum-known-answer : tie.Need-enum-known-answer
+enum-known-answer c = search needs
+
+save-requires : tie.Need-save-requires
+save-requires c κs = search needs
+
+enum-known-answer-2 : tie.Need-enum-known-answer-2
+enum-known-answer-2 c = search needs
+
+same-length : tie.Need-same-length
+same-length c = search needs
+
+returns : tie.Need-returns
+returns c =
+    end-saved (ap planAnswer (c .before .before .before .before .before .before .answer .given .1)) (search needs) (search needs) (search needs) (search (saved-whole (c .before .before .before .before .before .before .before .before .before .pre .1) (c .before .before .save .ensures)))
+
+returns-2 : tie.Need-returns-2
+returns-2 c = end-refused (ap planAnswer (c .before .answer2 .given .1)) (search needs) (search needs) (search needs)
+
+pub end-plan-spec : {M : Type 1} → statement M
+end-plan-spec =
+    tie.close
+    (tie.spec enum-known-answer save-requires enum-known-answer-2 same-length returns returns-2)

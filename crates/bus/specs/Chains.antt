@@ -1,0 +1,26 @@
+-- C calls one after another, each on the image that the last one left.
+use Prim.Native.Nat.{ℕ}
+use mathlib.Core.List.{List, [], _∷_}
+use Rattle.rules.specs.Calls.{Call, Result, written}
+use Rattle.layout.specs.Image.{imageOf}
+use Rattle.bus.specs.Left.{Left, told, leaving, called}
+
+-- a call with the list lent to it, and what stood behind its references before
+pub record Made : Type 0 where
+  pub numbers : List ℕ
+  pub call : Call
+
+-- "it holds an image, and each of its calls restores, acts and saves"
+abbrev pub chained : List ℕ → List Made → List Left
+chained image [] = []
+chained image (m ∷ ms) = let l : Left = called (m .numbers) image (m .call) in l ∷ chained (l .image) ms
+
+-- a result of the rules as C has it: its number, its numbers behind the references, the image of its station, and the list
+abbrev pub leftOf : Made → Result → Left
+leftOf m r =
+    leaving (told (r .answer) .number) (written (told (r .answer) .numbers) (m .numbers)) (imageOf (r .state)) (r .list)
+
+abbrev pub leftOfEach : List Made → List Result → List Left
+leftOfEach [] rs = []
+leftOfEach (m ∷ ms) [] = []
+leftOfEach (m ∷ ms) (r ∷ rs) = leftOf m r ∷ leftOfEach ms rs

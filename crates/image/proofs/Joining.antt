@@ -1,0 +1,86 @@
+-- Bytes joined to a number.
+use mathlib.Core.Path.{_≡_, ap, sym, _∙_}
+use Prim.Native.Nat.{ℕ, zero, suc, _+_, _-_, _*_, _≤_, _<_}
+use mathlib.Core.Bool.{Bool}
+use mathlib.Core.List.{List}
+use native.Mathlib.Omega.{arith}
+use lib.Dec.{eqb}
+use lib.ListN.{getD}
+use Rattle.layout.specs.Bytes.{numberAt}
+use Rattle.layout.specs.Arrangement.{numberOf, placeOf}
+use Rattle.layout.specs.Image.{checkOf}
+use Rattle.layout.specs.Reading.{inBlock, inRecord, headerAt, fieldAt, checked}
+use Rattle.layout.proofs.Numbers.{number-shifted}
+use Rattle.image.specs.Columns.{capacity}
+
+-- four bytes, as code joins them
+pub number-joined :
+    (xs : List ℕ) (a x y z w : ℕ)
+    → x ≡ getD xs a 0
+    → y ≡ getD xs (a + 1) 0
+    → z ≡ getD xs (a + 2) 0
+    → w ≡ getD xs (a + 3) 0
+    → x + 256 * y + 65536 * z + 16777216 * w ≡ headerAt xs a
+unfolding headerAt
+number-joined xs a x y z w p q r s =
+    let e : a + 1 ≡ suc a = omega arith in
+    let g : a + 2 ≡ suc (suc a) = omega arith in
+    let h : a + 3 ≡ suc (suc (suc a)) = omega arith in
+    omega (arith, ap (λ k. getD xs k 0) e, ap (λ k. getD xs k 0) g, ap (λ k. getD xs k 0) h)
+
+pub checked-told :
+    (xs : List ℕ) (b u v : ℕ) (t : Bool)
+    → u ≡ checkOf (inBlock xs b)
+    → v ≡ headerAt xs (512 * b + 508)
+    → eqb u v ≡ t
+    → checked xs b ≡ t
+unfolding checked headerAt
+checked-told xs b u v t p q e = rw (← p, number-shifted (λ i. getD xs i 0) (512 * b) 508 4, ← q, e)
+
+-- a byte of a record, read where its number lies
+pub place-told : (xs : List ℕ) (q j z p : ℕ) → z ≡ numberOf q j → p ≡ placeOf z → getD xs p 0 ≡ inRecord xs q j
+place-told xs q j z p d e = ap (λ k. getD xs k 0) (e ∙ ap placeOf d)
+
+-- bytes joined from the highest down: those of a number of w bytes at a, down to byte j
+pub record Joined (f : ℕ → ℕ) (a w j v : ℕ) : Type 0 where
+  pub low : j ≤ w
+  pub small : v < capacity (w - j)
+  pub joined : v ≡ numberAt f (a + j) (w - j)
+
+pub joined-none : (f : ℕ → ℕ) (a w : ℕ) → Joined f a w w 0
+joined-none f a w = let e : w - w ≡ 0 = omega arith in record { low = omega arith; small = rw e (omega arith); joined = rw e }
+
+pub joined-more :
+    {f : ℕ → ℕ} {a w j v : ℕ} → Joined f a w j v → (b : ℕ) → 0 < j → b < 256 → b ≡ f (a + (j - 1)) → Joined f a w (j - 1) (256 * v + b)
+joined-more {f} {a} {w} {j} {v} r b p l e =
+    let m : w - (j - 1) ≡ suc (w - j) = omega (arith, r .low) in
+    let s : a + j ≡ suc (a + (j - 1)) = omega arith in
+    record {
+      low = omega (arith, r .low);
+      small = rw m (omega (arith, r .small));
+      joined = rw (m, ← s) (omega (arith, r .joined));
+    }
+
+pub joined-all : {f : ℕ → ℕ} {a w j v : ℕ} → Joined f a w j v → j ≤ 0 → (v ≡ numberAt f a w) × (v < capacity w)
+joined-all {f} {a} {w} {j} {v} r h =
+    let m : w - j ≡ w = omega arith in
+    let s : a + j ≡ a = omega arith in
+    (r .joined ∙ rw (m, s), rw m at (r .small))
+
+pub field-joined :
+    (xs : List ℕ) (a w q : ℕ) {j v : ℕ}
+    → Joined (inRecord xs q) a w j v
+    → j ≤ 0
+    → (v ≡ fieldAt xs a w q) × (v < capacity w)
+unfolding fieldAt
+field-joined xs a w q r h = joined-all r h
+
+pub joined-fits : {f : ℕ → ℕ} {a w j v : ℕ} → Joined f a w j v → w ≤ 4 → 0 < j → v < 16777216
+joined-fits {f} {a} {w} {j} {v} r h p = fits (w - j) (omega (arith, r .low)) (r .small)
+  where
+    fits : (n : ℕ) → n ≤ 3 → v < capacity n → v < 16777216
+    fits zero h l = omega arith
+    fits (suc zero) h l = omega arith
+    fits (suc (suc zero)) h l = omega arith
+    fits (suc (suc (suc zero))) h l = omega arith
+    fits (suc (suc (suc (suc n)))) h l = absurd (omega arith)

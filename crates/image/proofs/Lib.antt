@@ -1,0 +1,6 @@
+pub mod Filling
+pub mod Packing
+pub mod Recording
+pub mod Joining
+pub mod Columning
+pub mod Answering

@@ -1,0 +1,24 @@
+-- What saving and restoring answer, write and give back.
+use Prim.Native.Nat.{ℕ}
+use mathlib.Core.Path.{_≡_}
+use mathlib.Core.List.{List}
+use Rattle.rules.specs.Calls.{State}
+use Rattle.station.specs.View.{view, Valid}
+use Rattle.layout.specs.Reading.{RestoreResult, restoring}
+use Rattle.layout.specs.Saving.{SaveResult, saving}
+use Rattle.image.specs.declared.restoring.Restored.{Restored}
+
+abbrev pub saved : ℕ → List ℕ → SaveResult
+saved refusal image = record { refusal = refusal; image = image }
+
+-- the answer and the whole of the lent list afterwards
+pub record Saves (s : State) (before after : List ℕ) (r : ℕ) : Type 0 where
+  pub result : saved r after ≡ saving s before
+
+abbrev pub restored : Restored → RestoreResult
+restored r = record { refusal = r .answer; state = view (r .station) }
+
+-- the answer and the station beside it, which is valid, so that calls may follow
+pub record Restores (image : List ℕ) (r : Restored) : Type 0 where
+  pub result : restored r ≡ restoring image
+  pub valid : Valid (r .station)

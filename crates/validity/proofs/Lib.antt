@@ -1,0 +1,3 @@
+pub mod Plans
+pub mod Settling
+pub mod Ranging

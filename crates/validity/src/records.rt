@@ -1,0 +1,72 @@
+// The charges of a station, record by record.
+use crate::ranges::charge_valid;
+use charges::PLACES;
+use station::Station;
+ghost use mathlib.Core.Path.{_≡_};
+ghost use Prim.Native.Nat.{_<_, _≤_};
+ghost use Rattle.layout.specs.Lists.{every};
+ghost use Rattle.layout.specs.Validity.{recordRight};
+ghost use Rattle.station.specs.View.{view};
+ghost use Rattle.validity.specs.Settled.{Settled, ticketOrNext, ticketRises};
+
+// The ticket of place q, or the next one behind the last.
+fn ticket_or_next<'a>(tickets: &'a [u32; PLACES], held: usize, next: u32, q: usize) -> u32
+    requires { ⌜ held ≤ 180 ⌝ }
+    ensures { λ r. ⌜ r ≡ ticketOrNext (now (tickets .entry)) held next q ⌝ }
+{
+    if q < held {
+        return tickets[q];
+    }
+    next
+}
+
+// "Tickets, the next one last, are 1 or more and rise."
+fn ticket_rises<'a>(tickets: &'a [u32; PLACES], held: usize, next: u32, q: usize) -> bool
+    requires { ⌜ (held ≤ 180) × (q < held) ⌝ }
+    ensures { λ r. ⌜ r ≡ ticketRises (now (tickets .entry)) held next q ⌝ }
+{
+    let ticket = ticket_or_next(tickets, held, next, q);
+    if ticket < 1 {
+        return false;
+    }
+    let after = ticket_or_next(tickets, held, next, q + 1);
+    ticket < after
+}
+
+// Whether each record is right: its ticket, its fields and its times.
+pub fn records_right(s: Station) -> bool
+    requires { ⌜ Settled s ⌝ }
+    ensures { λ r. ⌜ r ≡ every (recordRight (view s)) (s .charges .held) ⌝ }
+{
+    let held = s.charges;
+    let n = held.held;
+    for q in 0..n {
+        if !ticket_rises(&held.tickets, n, s.next, q) {
+            return false;
+        }
+        let line = held.lines[q];
+        let order_minute = held.order_minutes[q];
+        let time = held.times[q];
+        let active_time = held.active_times[q];
+        let due = held.dues[q];
+        let start = held.starts[q];
+        let rate = held.rates[q];
+        if !charge_valid(
+            s.limit,
+            s.bound,
+            s.tail,
+            s.clock,
+            s.next,
+            line,
+            order_minute,
+            time,
+            active_time,
+            due,
+            start,
+            rate,
+        ) {
+            return false;
+        }
+    }
+    true
+}
