@@ -12,6 +12,7 @@ use Rattle.layout.specs.Arrangement.{numberOf, placeOf}
 use Rattle.layout.specs.Image.{recordByte, numbered, content, weighed, checkOf, byteAt}
 use Rattle.layout.specs.Validity.{between, settingsRanged, boundRight, fieldsRanged, rateRight, timesRight, chargeRight, ticketRight, recordRight, isValid}
 use Rattle.layout.specs.Reading.{restoreRows, restoreRefusal, restoring}
+use Rattle.layout.specs.Blocks.{failing, sameBlock, differing}
 use Rattle.layout.specs.Saving.{saving}
 use Rattle.layout.specs.CasesOfImages.{small, casesOfImages, casesOfChecks, casesOfPlaces, casesOfRows, summed, before, swapped}
 use Rattle.layout.specs.CasesOfValidity.{casesOfRecords, casesOfValidity}
@@ -43,14 +44,19 @@ pub checks-hold : map bytesComputed casesOfChecks ≡ casesOfChecks
 unfolding recordByte numbered content weighed checkOf
 checks-hold = refl
 
+-- lists that differ in their first byte alone: of the nine blocks one differs
+pub one-differs : differing (7 ∷ []) (8 ∷ []) ≡ 1
+unfolding every failing sameBlock differing
+one-differs = refl
+
 abbrev rowsComputed : Bool × Bool × Bool × ℕ → Bool × Bool × Bool × ℕ
 rowsComputed x = (x .0, x .1, x .2, firstOf (restoreRows (x .0) (x .1) (x .2)))
 
 pub rows-hold : map rowsComputed casesOfRows ≡ casesOfRows
 rows-hold = refl
 
--- a list of two bytes, written and read: 20, and the list stays, or the fresh station of 1, 100 and r = 0 beside it
-pub short-refused : saving small (8 ∷ 9 ∷ []) ≡ record { refusal = 20; image = 8 ∷ 9 ∷ [] }
+-- lists of one and two bytes, written over and read: 20, and the list stays, or the fresh station of 1, 100 and r = 0 beside it
+pub short-refused : saving small (7 ∷ []) (8 ∷ 9 ∷ []) ≡ record { refusal = 20; blocks = 0; image = 8 ∷ 9 ∷ [] }
 unfolding saving
 short-refused = refl
 

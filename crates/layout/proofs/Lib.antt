@@ -14,3 +14,4 @@ pub mod ReadBack
 pub mod RoundTrip
 pub mod Examples
 pub mod Changing
+pub mod Comparing

@@ -1,7 +1,7 @@
 -- Refusals 20, 21 and 22, each in its place, and what an image has that meets none.
 use mathlib.Core.Path.{_≡_, refl, sym, _∙_}
 use Prim.Native.Nat.{ℕ}
-use mathlib.Core.Bool.{Bool, true, false}
+use mathlib.Core.Bool.{Bool, true, false, _&&_}
 use mathlib.Core.List.{List}
 use native.Mathlib.Omega.{arith}
 use lib.ListN.{length, getD}
@@ -10,12 +10,13 @@ use borrow.Author.Tests.{eqb-true, eq-eqb, ne-eqb}
 use Rattle.rules.specs.Basics.{firstOf}
 use Rattle.rules.specs.Calls.{settings, State, opening, fresh}
 use Rattle.rules.specs.Valid.{ValidState}
-use Rattle.rules.proofs.Ranges.{and-left, and-right}
+use Rattle.rules.proofs.Ranges.{and-left, and-right, fails}
 use Rattle.rules.proofs.Validity.{opening-valid}
 use Rattle.layout.specs.Lists.{every}
 use Rattle.layout.specs.Image.{imageOf}
 use Rattle.layout.specs.Validity.{isValid}
 use Rattle.layout.specs.Reading.{stateIn, sized, checked, samePlace, same, isOf, restoreRows, restoreRefusal, restoring}
+use Rattle.layout.specs.Blocks.{differing}
 use Rattle.layout.specs.Saving.{saving}
 use Rattle.layout.proofs.Listing.{every-at}
 use Rattle.layout.proofs.Imaging.{image-length}
@@ -29,13 +30,22 @@ same-equal xs ys p q e =
 
 -- Saving
 
-pub saving-written : (s : State) (list : List ℕ) → length list ≡ 4608 → saving s list ≡ record { refusal = 0; image = imageOf s }
-unfolding saving
-saving-written s list h = rw (eq-eqb (length list) 4608 h)
+module _ (s : State) (previous list : List ℕ) where
+  pub saving-written :
+      length previous ≡ 4608
+      → length list ≡ 4608
+      → saving s previous list ≡ record { refusal = 0; blocks = differing previous (imageOf s); image = imageOf s }
+  unfolding saving
+  saving-written h l = rw (eq-eqb (length previous) 4608 h, eq-eqb (length list) 4608 l)
 
-pub saving-refused : (s : State) (list : List ℕ) → (length list ≡ 4608 → ⊥) → saving s list ≡ record { refusal = 20; image = list }
-unfolding saving
-saving-refused s list h = rw (ne-eqb (length list) 4608 h)
+  -- either list of another size
+  pub saving-refused :
+      (length previous ≡ 4608 → length list ≡ 4608 → ⊥) → saving s previous list ≡ record { refusal = 20; blocks = 0; image = list }
+  unfolding saving
+  saving-refused n = rw (fails (sized previous && sized list) (λ e. n (size previous (and-left _ (sized list) e)) (size list (and-right (sized previous) _ e))))
+    where
+      size : (xs : List ℕ) → sized xs ≡ true → length xs ≡ 4608
+      size xs e = eqb-true (length xs) 4608 e
 
 module _ (xs : List ℕ) where
   -- Each refusal of restoring

@@ -36,11 +36,12 @@ pub restored-saved : (s : State) → ValidState s → restoring (imageOf s) ≡ 
 restored-saved s v = rw (image-accepted s v, state-back s v)
 
 pub saved-restored :
-    (s : State) (list : List ℕ)
+    (s : State) (previous list : List ℕ)
     → ValidState s
+    → length previous ≡ 4608
     → length list ≡ 4608
-    → restoring (saving s list .image) ≡ record { refusal = 0; state = s }
-saved-restored s list v h = rw (saving-written s list h) (restored-saved s v)
+    → restoring (saving s previous list .image) ≡ record { refusal = 0; state = s }
+saved-restored s previous list v h l = rw (saving-written s previous list h l) (restored-saved s v)
 
 -- Restored, then saved
 

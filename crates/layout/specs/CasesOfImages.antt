@@ -42,13 +42,15 @@ abbrev pub headerBytes : List (ℕ × ℕ)
 headerBytes =
     (0, 2) ∷ (1, 0) ∷ (4, 50) ∷ (8, 3) ∷ (12, 44) ∷ (13, 1) ∷ (14, 0) ∷ (16, 5) ∷ (17, 1) ∷ (20, 2) ∷ (24, 0) ∷ (507, 0) ∷ []
 
--- Block 1: the first record from place 512 on, the second from 532 on.
+-- Blocks 1 to 8: the lowest bytes of both tickets lie at 512 and 513, the next ones 200 places on, and so forth.
 abbrev pub recordBytes : List (ℕ × ℕ)
 recordBytes =
-    (512, 3) ∷ (513, 1) ∷ (516, 42) ∷ (517, 1) ∷ (520, 112) ∷ (521, 17) ∷ (522, 1) ∷ (523, 0) ∷ (524, 34) ∷ (525, 1)
-    ∷ (528, 44) ∷ (529, 1) ∷ (530, 1) ∷ (531, 1)
-    ∷ (532, 4) ∷ (536, 44) ∷ (540, 232) ∷ (541, 3) ∷ (544, 44) ∷ (548, 5) ∷ (549, 0) ∷ (550, 2) ∷ (551, 1) ∷ (552, 0)
-    ∷ (1019, 0) ∷ (1024, 0) ∷ (4603, 0) ∷ []
+    (512, 3) ∷ (513, 4) ∷ (514, 0) ∷ (712, 1) ∷ (713, 1) ∷ (912, 0) ∷ (1116, 0)
+    ∷ (1316, 42) ∷ (1317, 44) ∷ (1516, 1) ∷ (1517, 1) ∷ (1720, 0) ∷ (1920, 0)
+    ∷ (2124, 112) ∷ (2125, 232) ∷ (2324, 17) ∷ (2325, 3) ∷ (2524, 1) ∷ (2525, 0) ∷ (2728, 0)
+    ∷ (2928, 34) ∷ (2929, 44) ∷ (3132, 1) ∷ (3133, 1) ∷ (3332, 0) ∷ (3532, 0)
+    ∷ (3736, 44) ∷ (3737, 5) ∷ (3936, 1) ∷ (3937, 0) ∷ (4140, 1) ∷ (4141, 2) ∷ (4340, 1) ∷ (4341, 1) ∷ (4540, 0) ∷ (4603, 0)
+    ∷ []
 
 abbrev pub casesOfImages : List (State × List (ℕ × ℕ))
 casesOfImages =
@@ -57,19 +59,20 @@ casesOfImages =
     ∷ (fresh (settings 1 100 0), (0, 1) ∷ (4, 100) ∷ (8, 0) ∷ (12, 0) ∷ (16, 1) ∷ (20, 0) ∷ (512, 0) ∷ [])
     ∷ []
 
--- The check of block 0 is 2 + 5 × 50 + 9 × 3 + 13 × 44 + 14 + 17 × 5 + 18 + 21 × 2 = 1,010 = 242 + 3 × 256. That of block 1 is 2,671 for
--- the first record and 9,839 for the second, 12,510 = 222 + 48 × 256. A fresh station of 1 and 100 has 1 + 5 × 100 + 17 = 518.
+-- The check of block 0 is 2 + 5 × 50 + 9 × 3 + 13 × 44 + 14 + 17 × 5 + 18 + 21 × 2 = 1,010 = 242 + 3 × 256. "the checks use the rearranged
+-- bytes": block 1 has 3 + 2 × 4 + 201 + 202 = 414 = 158 + 256, block 2 has 293 × 42 + 294 × 44 + 493 + 494 = 26,229 = 117 + 102 × 256, block 8
+-- has 45 + 46 × 2 + 245 + 246 = 628 = 116 + 2 × 256. A fresh station of 1 and 100 has 1 + 5 × 100 + 17 = 518.
 abbrev pub casesOfChecks : List (State × List (ℕ × ℕ))
 casesOfChecks =
     (small, (508, 242) ∷ (509, 3) ∷ (510, 0) ∷ (511, 0) ∷ [])
-    ∷ (small, (1020, 222) ∷ (1021, 48) ∷ (1022, 0) ∷ (1023, 0) ∷ [])
+    ∷ (small, (1020, 158) ∷ (1021, 1) ∷ (1022, 0) ∷ (1023, 0) ∷ (1532, 117) ∷ (1533, 102) ∷ (4604, 116) ∷ (4605, 2) ∷ [])
     ∷ (fresh (settings 1 100 0), (508, 6) ∷ (509, 2) ∷ [])
     ∷ []
 
--- Where bytes of records lie: record, byte, place
+-- Where bytes of records lie: record, byte, place. Number 507 is the last of block 1, 3,999 is at place 443 of block 8.
 abbrev pub casesOfPlaces : List (ℕ × ℕ × ℕ)
 casesOfPlaces =
-    (0, 0, 512) ∷ (0, 19, 531) ∷ (1, 0, 532) ∷ (24, 19, 1011) ∷ (25, 0, 1024) ∷ (179, 19, 4195) ∷ (199, 19, 4595) ∷ []
+    (0, 0, 512) ∷ (1, 0, 513) ∷ (199, 0, 711) ∷ (0, 1, 712) ∷ (107, 2, 1019) ∷ (108, 2, 1024) ∷ (179, 19, 4519) ∷ (199, 19, 4539) ∷ []
 
 -- Two bytes swapped. A check without the place, their sum, does not find it: it is 16 for both. The check is 7 + 2 × 9, then 9 + 2 × 7.
 abbrev pub summed : (ℕ → ℕ) → ℕ → ℕ

@@ -90,7 +90,8 @@ casesOfEnds =
 abbrev pub casesOfRecords : List (State × Bool)
 casesOfRecords = casesOfFields ++ casesOfTickets ++ casesOfTimes ++ casesOfEnds
 
--- two on line 1 from minute 290 on, and one each on lines 2 and 3 from minute 299 on, for 8 and for so many minutes and r
+-- two on line 1 from minute 290 on, for 17 minutes, and one each on lines 2 and 3 from minute 299 on, for 8 minutes and for `time`; r comes
+-- to each
 abbrev pub fourHeld : ℕ → List Charge
 fourHeld time =
     charge 1 290 0 0 17 1 1 ∷ charge 2 290 0 0 17 1 1 ∷ charge 3 299 0 0 8 2 1 ∷ charge 4 299 0 0 time 3 1 ∷ []

@@ -4,6 +4,7 @@ pub mod Arrangement
 pub mod Image
 pub mod Validity
 pub mod Reading
+pub mod Blocks
 pub mod Saving
 pub mod CasesOfImages
 pub mod CasesOfValidity
