@@ -1,0 +1,16 @@
+pub mod Cases
+pub mod Listing
+pub mod Numbers
+pub mod Checks
+pub mod Laying
+pub mod Contents
+pub mod Imaging
+pub mod Rising
+pub mod Judging
+pub mod Testing
+pub mod Validity
+pub mod Refusing
+pub mod ReadBack
+pub mod RoundTrip
+pub mod ZeroBytes
+pub mod Changing

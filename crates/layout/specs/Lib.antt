@@ -1,0 +1,9 @@
+pub mod Lists
+pub mod Bytes
+pub mod Arrangement
+pub mod Image
+pub mod Validity
+pub mod Reading
+pub mod Saving
+pub mod CasesOfImages
+pub mod CasesOfValidity
