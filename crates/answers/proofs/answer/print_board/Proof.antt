@@ -26,7 +26,7 @@ same-length c = search needs
 
 returns : tie.Need-returns
 unfolding answerText
-returns c = 
+returns c =
     printed-as
     (printed-then (c .before .before .before .before .before .before .before .before .before .before .before .print-field .ensures .0)
     (printed-then (c .before .before .before .before .before .before .before .print-list .ensures .0) (c .before .before .print-text .ensures)))
