@@ -153,13 +153,14 @@ module _ {c : Charges} {asked entry list : List ℕ} {i j shown : ℕ} (can : Ca
 
     -- no charge from the place on has the ticket
     pub walked-answered :
-        {list′ : List ℕ} {j′ : ℕ}
+        {list′ : List ℕ} {j′ shown′ : ℕ}
         → ltb i (c .held) && leb (g i .ticket) ticket ≡ false
         → list′ ≡ set list j shown
         → j′ ≡ j + 1
-        → Walked c asked entry list′ i j′ notHeld
-    walked-answered {list′} {j′} e s n =
-        rw (n, s)
+        → shown′ ≡ notHeld
+        → Walked c asked entry list′ i j′ shown′
+    walked-answered {list′} {j′} {shown′} e s n m =
+        rw (n, s, m)
         (record {
           place = w .place;
           answered = omega arith;

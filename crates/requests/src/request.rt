@@ -40,6 +40,9 @@ pub enum Request {
     Error(Reason),
 }
 
+// The most numbers that are read: more than a request can hold.
+const MOST: usize = 2048;
+
 // How many numbers a call takes, at least and at most.
 enum Takes {
     Between { least: usize, most: usize },
@@ -63,14 +66,14 @@ fn taken(name: CallName) -> Takes
         CallName::Move => Takes::Between { least: 2, most: 2 },
         CallName::Offer => Takes::Between {
             least: 0,
-            most: 2048,
+            most: MOST,
         },
         CallName::Latest => Takes::Between { least: 0, most: 0 },
         CallName::Lines => Takes::Between { least: 1, most: 1 },
         CallName::Enquire => Takes::Between { least: 1, most: 1 },
         CallName::Board => Takes::Between {
             least: 1,
-            most: 2048,
+            most: MOST,
         },
         CallName::Unknown => Takes::NoCall,
     }

@@ -58,7 +58,7 @@ loop-less c = omega (arith, inside (c .before .before .before))
 loop-again : tie.Need-loop-again Inv-loop μ-loop
 loop-again c =
     let l = c .before .before .before .before .before .before .before .before .before in
-    walked-on (l .before .before .before .pre) (l .loop .inv) (omega arith) (sym (c .before .before .before .before .is-looked-at .ensures) ∙ c .before .before .before .if1 .taken) (c .shown-for .ensures) refl
+    walked-on (l .before .before .before .pre) (l .loop .inv) (omega arith) (sym (c .before .before .before .before .is-looked-at .ensures) ∙ c .before .before .before .if1 .taken) (c .shown-for .ensures) (omega arith)
 
 mul-answers : tie.Need-mul-answers Inv-loop μ-loop
 mul-answers c = omega arith
@@ -75,7 +75,7 @@ loop-less-2 c = omega arith
 loop-again-2 : tie.Need-loop-again-2 Inv-loop μ-loop
 loop-again-2 c =
     let l = c .before .before .before .before .before .before in
-    walked-answered (l .before .before .before .pre) (l .loop .inv) (omega arith) (sym (c .before .is-looked-at .ensures) ∙ c .if1 .left) refl refl
+    walked-answered (l .before .before .before .pre) (l .loop .inv) (omega arith) (sym (c .before .is-looked-at .ensures) ∙ c .if1 .left) refl (omega arith) (omega arith)
 
 same-length : tie.Need-same-length Inv-loop μ-loop
 same-length c = c .before .loop .inv .same-length
