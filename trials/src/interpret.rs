@@ -8,11 +8,14 @@ use std::io::{self, Read, Write};
 
 /// What every place of a lent list holds before a clock move.
 const UNTOUCHED: u32 = u32::MAX;
+/// And before a board: nothing that a board would have to write, so that a place that was
+/// left out shows.
+const BLANK: u32 = u32::MAX - 1;
 
 #[derive(Clone)]
 pub struct Interpreter<Y> {
     yard: Y,
-    /// Kept between calls so that no move has to ask for memory.
+    /// Kept between calls so that no call has to ask for memory.
     list: Vec<u32>,
 }
 
@@ -46,7 +49,8 @@ impl<Y: Yard> Interpreter<Y> {
         }
     }
 
-    fn try_call(&mut self, call: &Call, out: &mut Vec<u8>) -> Result<(), Refusal> {
+    /// Appends the answer to a call, or nothing beside a refusal.
+    pub fn try_call(&mut self, call: &Call, out: &mut Vec<u8>) -> Result<(), Refusal> {
         let yard = &mut self.yard;
         match call {
             Call::Open { limit, percent, tail } => {
@@ -57,8 +61,7 @@ impl<Y: Yard> Interpreter<Y> {
                 protocol::write_committed(out, yard.commit(*order, *shown)?);
             }
             Call::Move { target, places } => {
-                self.list.clear();
-                self.list.resize((*places).min(MOST_PLACES) as usize, UNTOUCHED);
+                lend(&mut self.list, *places, UNTOUCHED);
                 let moved = yard.move_clock(*target, &mut self.list)?;
                 protocol::write_moved(out, moved, &self.list);
             }
@@ -68,15 +71,30 @@ impl<Y: Yard> Interpreter<Y> {
                 protocol::write_planned(out, yard.replan_by_lines(*allowance)?);
             }
             Call::Enquire { ticket } => protocol::write_found(out, yard.enquire(*ticket)?),
+            Call::Board { places, tickets } => {
+                lend(&mut self.list, *places, BLANK);
+                let looked = yard.board(tickets, &mut self.list)?;
+                protocol::write_board(out, looked, &self.list[..tickets.len()]);
+            }
         }
         Ok(())
     }
 }
 
-/// The yard as a program. Answers go out after each piece of input read, so a
-/// caller who waits for an answer before the next call gets it.
-pub fn serve<Y: Yard>(yard: Y, mut input: impl Read, mut output: impl Write) -> io::Result<()> {
+/// The yard as a program.
+pub fn serve<Y: Yard>(yard: Y, input: impl Read, output: impl Write) -> io::Result<()> {
     let mut interpreter = Interpreter::new(yard);
+    serve_lines(|line, out| interpreter.answer(line, out), input, output)
+}
+
+/// Anything that answers lines as a program: it appends the answer to a line and says
+/// whether there was one. Answers go out after each piece of input read, so a caller who
+/// waits for an answer before the next call gets it.
+pub fn serve_lines(
+    mut answer: impl FnMut(&[u8], &mut Vec<u8>) -> bool,
+    mut input: impl Read,
+    mut output: impl Write,
+) -> io::Result<()> {
     let mut piece = vec![0; 1 << 16];
     let mut line = Vec::with_capacity(LONGEST_LINE + 1);
     let mut out = Vec::with_capacity(1 << 17);
@@ -85,22 +103,22 @@ pub fn serve<Y: Yard>(yard: Y, mut input: impl Read, mut output: impl Write) -> 
         if read == 0 {
             break;
         }
-        take_lines(&mut interpreter, &piece[..read], &mut line, &mut out);
+        take_lines(&mut answer, &piece[..read], &mut line, &mut out);
         output.write_all(&out)?;
         output.flush()?;
         out.clear();
     }
     // A last line without a line feed counts.
     if !line.is_empty() {
-        answer_line(&mut interpreter, &line, &mut out);
+        answer_line(&mut answer, &line, &mut out);
     }
     output.write_all(&out)?;
     output.flush()
 }
 
 /// Splits a piece of input at its line feeds; `line` keeps what is unfinished.
-fn take_lines<Y: Yard>(
-    interpreter: &mut Interpreter<Y>,
+fn take_lines(
+    answer: &mut impl FnMut(&[u8], &mut Vec<u8>) -> bool,
     piece: &[u8],
     line: &mut Vec<u8>,
     out: &mut Vec<u8>,
@@ -108,10 +126,10 @@ fn take_lines<Y: Yard>(
     let mut rest = piece;
     while let Some(feed) = rest.iter().position(|byte| *byte == b'\n') {
         if line.is_empty() && feed <= LONGEST_LINE {
-            answer_line(interpreter, &rest[..feed], out);
+            answer_line(answer, &rest[..feed], out);
         } else {
             keep(line, &rest[..feed]);
-            answer_line(interpreter, line, out);
+            answer_line(answer, line, out);
             line.clear();
         }
         rest = &rest[feed + 1..];
@@ -125,8 +143,18 @@ fn keep(line: &mut Vec<u8>, more: &[u8]) {
     line.extend_from_slice(&more[..more.len().min(room)]);
 }
 
-fn answer_line<Y: Yard>(interpreter: &mut Interpreter<Y>, line: &[u8], out: &mut Vec<u8>) {
-    if interpreter.answer(line, out) {
+fn answer_line(
+    answer: &mut impl FnMut(&[u8], &mut Vec<u8>) -> bool,
+    line: &[u8],
+    out: &mut Vec<u8>,
+) {
+    if answer(line, out) {
         out.push(b'\n');
     }
+}
+
+/// Makes the lent list as long as asked for, each place with the same number.
+fn lend(list: &mut Vec<u32>, places: u32, number: u32) {
+    list.clear();
+    list.resize(places.min(MOST_PLACES) as usize, number);
 }

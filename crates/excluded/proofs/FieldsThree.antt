@@ -13,7 +13,7 @@ module _ (gives : Gives) (s : State) (calls : List Call) where
   field-holds d balance = d .balance
   field-holds d tickets = d .tickets
   field-holds d not-early = each-in (λ o k. k .not-early) (past gives s calls .orders) (d .orders)
-  field-holds d in-time = each-in (λ o k. k .in-time) (past gives s calls .orders) (d .orders)
+  field-holds d in-time = d .in-time
   field-holds d reported = each-in (λ o k. k .reported) (past gives s calls .orders) (d .orders)
   field-holds d not-reported = each-in (λ o k. k .not-reported) (past gives s calls .orders) (d .orders)
   field-holds d waits = each-in (λ o k. k .waits) (past gives s calls .orders) (d .orders)
@@ -34,17 +34,16 @@ module _ (gives : Gives) (s : State) (calls : List Call) where
             (λ o k.
             record {
               not-early = k .0;
-              in-time = k .1 .0;
-              reported = k .1 .1 .0;
-              not-reported = k .1 .1 .1 .0;
-              waits = k .1 .1 .1 .1 .0;
-              charges = k .1 .1 .1 .1 .1 .0;
-              finished = k .1 .1 .1 .1 .1 .1;
+              reported = k .1 .0;
+              not-reported = k .1 .1 .0;
+              waits = k .1 .1 .1 .0;
+              charges = k .1 .1 .1 .1 .0;
+              finished = k .1 .1 .1 .1 .1;
             })
             os
             (each-both _ _ os (d not-early)
-            (each-both _ _ os (d in-time)
-            (each-both _ _ os (d reported) (each-both _ _ os (d not-reported) (each-both _ _ os (d waits) (each-both _ _ os (d charges) (d finished)))))));
+            (each-both _ _ os (d reported) (each-both _ _ os (d not-reported) (each-both _ _ os (d waits) (each-both _ _ os (d charges) (d finished))))));
+        in-time = d in-time;
         no-other = d no-other;
         unmoved = d unmoved;
       }

@@ -9,11 +9,13 @@ use Rattle.rules.specs.Search.{earliest}
 use Rattle.rules.specs.Replan.{placeAll, latest}
 use Rattle.rules.specs.Judgement.{judged}
 use Rattle.rules.specs.Entry.{lentList}
-use Rattle.rules.specs.Calls.{refused, waiting, charging, preview, commit, move, offer, replanLatest, opening, previewing, committing, moving, offering, replanningLatest, enquiring}
+use Rattle.rules.specs.Calls.{refused, waiting, charging, preview, commit, move, offer, replanLatest, board, opening, previewing, committing, moving, offering, replanningLatest, enquiring, boarding}
 use Rattle.guarantee.specs.DemandThree.{DemandThree}
 use Rattle.excluded.specs.WrongOrders.{ownLineOnly, neighboursOnly, limitIgnored, chargesCounted, ratesInLimitOnly, tailsLeftOut, tailsInLimitOnly, fixedStart, previewTakesTicket, shownBeforeTaken, ticketSkipped}
 use Rattle.excluded.specs.WrongMoves.{startAtClockLeftOut, firstReportOnly, reportedTwice, startAtTargetReported, nobodyReported, slowClock, droppedEarly, droppedLate, droppedAtItsEnd, neverDropped, shownLate, shownBegun, shownEarly, endWithTail}
+use Rattle.excluded.specs.WrongBoards.{boardTakesTicket}
 use Rattle.excluded.specs.WrongPlans.{untested, rateLost, begunMoved}
+use Rattle.excluded.specs.WrongRestores.{begunForgotten, ticketsGivenAgain, clockLost}
 use Rattle.excluded.specs.BreaksThree.{one, two, twoEven, four, oneTailed, twoTailed, from, fromRated, single, fourOrders}
 use Rattle.excluded.proofs.Refuting.{line-one, line-two, line-three}
 
@@ -69,6 +71,11 @@ preview-takes-ticket : DemandThree previewTakesTicket one (preview 1 10 60 1 ∷
 unfolding limited balanced sound earliest opening previewing committing enquiring
 preview-takes-ticket d = let h : _≡_ {A = ℕ} 2 1 = d .tickets .0 in omega arith
 
+-- `tickets`: the same, after a board
+board-takes-ticket : DemandThree boardTakesTicket one (board (1 ∷ []) (7 ∷ []) ∷ single ∷ []) → ⊥
+unfolding limited balanced sound earliest opening committing enquiring boarding
+board-takes-ticket d = let h : _≡_ {A = ℕ} 2 1 = d .tickets .0 in omega arith
+
 -- Each order's one charge
 
 -- `not-early`: ordered in minute 5, reported with start 4
@@ -84,7 +91,7 @@ shown-before-taken d = let h : 5 ≤ 0 = d .orders .0 .not-early in omega arith
 -- `in-time`: ticket 1 ends at 21, and the two orders of minute 0 last 20
 ends-later : DemandThree (untested 4) one (single ∷ commit 1 10 15 1 10 ∷ offer (11 ∷ 0 ∷ []) ∷ []) → ⊥
 unfolding limited balanced sound earliest judged opening committing enquiring
-ends-later d = let h : 21 ≤ 20 = d .orders .0 .in-time in omega arith
+ends-later d = let h : 21 ≤ 20 = d .in-time .0 in omega arith
 
 -- `reported`: start 0 was never reported
 start-at-clock-left-out : DemandThree startAtClockLeftOut one (single ∷ move 1 lentList ∷ []) → ⊥
@@ -193,3 +200,20 @@ shown-early d =
     let h : _≡_ {A = ℕ} 10 8
     = d .unmoved (single ∷ from 1 10 ∷ move 9 lentList ∷ []) (move 11 lentList ∷ []) refl .1 .0 (omega arith) in
     omega arith
+
+-- Restores
+
+-- `limit`: two charges of line 1 in minute 1
+begun-forgotten : DemandThree begunForgotten one (single ∷ from 2 0 ∷ from 3 0 ∷ move 1 lentList ∷ from 1 1 ∷ []) → ⊥
+unfolding limited balanced sound earliest opening committing moving enquiring
+begun-forgotten d = let h : 2 ≤ 1 = d .limit 1 1 line-one in omega arith
+
+-- `tickets`: 1, 2 and 2
+tickets-given-again : DemandThree ticketsGivenAgain one (single ∷ from 1 10 ∷ move 10 lentList ∷ from 2 10 ∷ []) → ⊥
+unfolding limited balanced sound earliest opening committing moving enquiring
+tickets-given-again d = let h : _≡_ {A = ℕ} 2 3 = d .tickets .1 .1 .0 in omega arith
+
+-- `reported`: ticket 1 once more
+clock-lost : DemandThree clockLost one (single ∷ move 1 lentList ∷ move 2 lentList ∷ []) → ⊥
+unfolding limited balanced sound earliest opening committing moving enquiring
+clock-lost d = let h : _≡_ {A = ℕ} 2 1 = d .orders .0 .reported (omega arith) in omega arith

@@ -16,18 +16,18 @@ pub data Field : Type 0 where
   balance : Field
   tickets : Field
   not-early : Field
-  in-time : Field
   reported : Field
   not-reported : Field
   waits : Field
   charges : Field
   finished : Field
+  in-time : Field
   no-other : Field
   unmoved : Field
 
 abbrev pub fields : List Field
 fields =
-    limit ∷ balance ∷ tickets ∷ not-early ∷ in-time ∷ reported ∷ not-reported ∷ waits ∷ charges ∷ finished ∷ no-other ∷ unmoved ∷ []
+    limit ∷ balance ∷ tickets ∷ not-early ∷ reported ∷ not-reported ∷ waits ∷ charges ∷ finished ∷ in-time ∷ no-other ∷ unmoved ∷ []
 
 -- the place of a field in that list
 abbrev pub place : Field → ℕ
@@ -35,12 +35,12 @@ place limit = 0
 place balance = 1
 place tickets = 2
 place not-early = 3
-place in-time = 4
-place reported = 5
-place not-reported = 6
-place waits = 7
-place charges = 8
-place finished = 9
+place reported = 4
+place not-reported = 5
+place waits = 6
+place charges = 7
+place finished = 8
+place in-time = 9
 place no-other = 10
 place unmoved = 11
 

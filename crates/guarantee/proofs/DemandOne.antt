@@ -10,7 +10,7 @@ use Rattle.rules.specs.Basics.{some, firstOf}
 use Rattle.rules.specs.Charge.{Charge, endOf, isBegun}
 use Rattle.rules.specs.Replan.{Proposal, starts, none, latest, Replanned, byLines}
 use Rattle.rules.specs.Judgement.{judged}
-use Rattle.rules.specs.Calls.{Settings, settings, State, limitsOf, Answer, refused, opened, planned, Result, answering, boundOf, fresh, openRefusals, opening, Call, preview, commit, move, offer, replanLatest, replanLines, enquire, lent, refusals, previewing, committing, moving, decided, tested, offering, replanningLatest, replanningLines, told, enquiring, granted, step}
+use Rattle.rules.specs.Calls.{Settings, settings, State, limitsOf, Answer, refused, opened, planned, Result, answering, boundOf, fresh, openRefusals, opening, Call, preview, commit, move, offer, replanLatest, replanLines, enquire, board, lent, refusals, previewing, committing, moving, decided, tested, offering, replanningLatest, replanningLines, told, enquiring, boarding, granted, step}
 use Rattle.rules.specs.Valid.{ValidState}
 use Rattle.rules.proofs.Tables.{Numbered, firstOf-none, none-firstOf}
 use Rattle.rules.proofs.Granted.{refusals-numbered, openRefusals-numbered, order-granted, enquire-granted}
@@ -70,6 +70,7 @@ answer-not-refused replanLatest a (i, b, c, n, e) = rw e
 answer-not-refused (replanLines allowance) a (i, b, c, n, e) = rw e
 answer-not-refused (enquire ticket) a (inl (s, w, e)) = rw e
 answer-not-refused (enquire ticket) a (inr (s, u, w, e)) = rw e
+answer-not-refused (board asked list) a (n, e) = rw e
 
 -- a tested plan is answered with a cause
 abbrev Planned : Answer → Type 0
@@ -106,7 +107,7 @@ told-held k t (c ∷ cs) e = go (eqb (c .ticket) t) refl (isBegun k c) refl e (t
     go false p b q u later = rw p (later u)
 
 granted-answer : (s : State) (c : Call) → ValidState s → NoneApplies (refusals s c) → AnswerTo c (granted s c .answer)
-unfolding previewing committing moving offering replanningLatest replanningLines enquiring
+unfolding previewing committing moving offering replanningLatest replanningLines enquiring boarding
 granted-answer s (preview line p d rate) v q =
     let f = order-found s line p d rate v (order-granted s line p d rate q) in (f .0, rw (f .1))
 granted-answer s (commit line p d rate shown) v q = (s .next, refl)
@@ -118,10 +119,11 @@ granted-answer s (replanLines allowance) v q =
     tested-planned s (r .rounds) (r .proposal) []
 granted-answer s (enquire ticket) v q =
     told-held (s .clock) ticket (s .charges) (enquire-granted s ticket q)
+granted-answer s (board asked list) v q = (_, refl)
 
 -- The demand
 
-valid-demand-one : (s : State) → ValidState s → (call : Call) → DemandOne step s call
+pub valid-demand-one : (s : State) → ValidState s → (call : Call) → DemandOne step s call
 valid-demand-one s v call =
     record {
       refused-by =
@@ -134,13 +136,13 @@ valid-demand-one s v call =
           (granted-answer s call v q);
     }
 
--- every station that an opening and calls lead to is valid
+-- every station that calls lead to from a valid one is valid
+pub after-valid : (calls : List Call) (h : Past) → ValidState (h .station) → ValidState (after step h calls .station)
+after-valid [] h v = v
+after-valid (x ∷ calls) h v = after-valid calls (extended h x (step (h .station) x)) (step-valid (h .station) x v)
+
 pub reached-valid : (x : Settings) (calls : List Call) → ValidState (reached x calls)
 reached-valid x calls = after-valid calls (beginning (opening x .state)) (opening-valid x)
-  where
-    after-valid : (calls : List Call) (h : Past) → ValidState (h .station) → ValidState (after step h calls .station)
-    after-valid [] h v = v
-    after-valid (x ∷ calls) h v = after-valid calls (extended h x (step (h .station) x)) (step-valid (h .station) x v)
 
 pub demand-one : (x : Settings) (calls : List Call) (call : Call) → DemandOne step (reached x calls) call
 demand-one x calls call = valid-demand-one (reached x calls) (reached-valid x calls) call

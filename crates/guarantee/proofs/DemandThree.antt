@@ -7,17 +7,21 @@ use native.Mathlib.Omega.{arith}
 use lib.Dec.{eqb}
 use borrow.Author.Tests.{ltb-false, lt-ltb, le-ltb, eq-eqb, ne-eqb}
 use Rattle.rules.specs.Basics.{Each, firstOf, some}
-use Rattle.rules.specs.Load.{count}
+use Rattle.rules.specs.Load.{count, lastUntil}
 use Rattle.rules.specs.Charge.{Charge, activeUntil, loadsOf, isBegun, unfinishedCharges}
-use Rattle.rules.specs.Calls.{Settings, settings, State, told, opened, answering, boundOf, fresh, openRefusals, opening, Call, step}
-use Rattle.guarantee.specs.Past.{Order, Past, beginning, past, timesReported, enquiry, startIn, startOf, loadOf, countIn, totalTime, lastMinute}
-use Rattle.guarantee.specs.DemandThree.{Kept, Unmoved, DemandThree}
+use Rattle.rules.specs.Calls.{Settings, settings, State, told, opened, answering, fresh, openRefusals, opening, Call, step}
+use Rattle.guarantee.specs.Past.{Order, Past, orderOf, ordersOf, beginning, past, timesReported, enquiry, startIn, startOf, loadOf, countIn, Numbered}
+use Rattle.guarantee.specs.DemandThree.{Kept, Unmoved, InTime, NoOther, NoneMoved, DemandThree, DemandThreeFrom}
+use Rattle.rules.specs.Valid.{ValidState}
 use Rattle.rules.proofs.Lists.{each-map}
-use Rattle.guarantee.proofs.Each.{each-two, each-image}
-use Rattle.guarantee.proofs.History.{Fit, orderOf, ordersOf}
+use Rattle.rules.proofs.Validity.{opening-valid}
+use Rattle.guarantee.proofs.Each.{each-two, each-both, each-image}
+use Rattle.guarantee.proofs.History.{Fit}
 use Rattle.guarantee.proofs.Reports.{Worth, sumReports, sumBegun}
 use Rattle.guarantee.proofs.Tickets.{isTicket, isPair, times-sum, not-reported-start, once-reported-start, sum-of-own, sum-ours, enquiry-told, Told, told-each}
+use Rattle.guarantee.proofs.Invariant.{Accepted, ceilingOf}
 use Rattle.guarantee.proofs.Steps.{Grown, more, on, Known, Reach, reach, after-append}
+use Rattle.guarantee.proofs.Beginnings.{station-known}
 
 -- what calls and answers say of one charge of the history
 record Said (h : Past) (held : List Charge) (c : Charge) : Type 0 where
@@ -91,12 +95,10 @@ module _ (s : State) (h : Past) (hs : List Charge) (known : Known s h hs) where
       (c : Charge)
       → Said h (unfinishedCharges (h .clock) hs) c
       → Fit (s .tail) (h .clock) c
-      → activeUntil c ≤ lastMinute 0 (h .orders) + totalTime (s .tail) (h .orders)
       → Kept step h (orderOf c)
-  keeps c e f g =
+  keeps c e f =
       record {
         not-early = rw (e .start) (f .not-early);
-        in-time = rw (e .start, known .tail) (omega (arith, f .active));
         reported = rw (e .start) (λ j. e .times ∙ rw (lt-ltb (c .start) (h .clock) j));
         not-reported = rw (e .start) (λ j. e .times ∙ rw (le-ltb (c .start) (h .clock) j));
         waits = rw (e .start) (λ j. enquiry-held (c .ticket) ∙ e .answers .waits j);
@@ -104,25 +106,30 @@ module _ (s : State) (h : Past) (hs : List Charge) (known : Known s h hs) where
         finished = rw (e .start, known .tail) (λ j. enquiry-held (c .ticket) ∙ e .answers .finished (omega (arith, f .active)));
       }
 
+  -- what is told of each order from its charge of the history
+  each-order :
+      (P : Charge → Type 0) (Q : Order → Type 0)
+      → ((c : Charge) → Said h (unfinishedCharges (h .clock) hs) c → P c → Q (orderOf c))
+      → Each P hs
+      → Each Q (h .orders)
+  each-order P Q f e =
+      subst (λ (os : List Order). Each Q os) (known .invariant .orders)
+      (each-image Q orderOf hs
+      (each-two (Said h (unfinishedCharges (h .clock) hs)) P (λ c. Q (orderOf c)) f hs said e))
+
   orders-kept : Each (Kept step h) (h .orders)
-  orders-kept =
-      subst (λ (os : List Order). Each (Kept step h) os) (known .invariant .orders)
-      (each-image (Kept step h) orderOf hs
-      (each-two
-      (Said h (unfinishedCharges (h .clock) hs))
-      (λ c. Fit (s .tail) (h .clock) c × (activeUntil c ≤ lastMinute 0 (h .orders) + totalTime (s .tail) (h .orders)))
-      (λ c. Kept step h (orderOf c))
-      (λ c e p. keeps c e (p .0) (p .1))
-      hs
-      said
-      (each-two
-      (Fit (s .tail) (h .clock))
-      (λ c. activeUntil c ≤ lastMinute 0 (h .orders) + totalTime (s .tail) (h .orders))
-      (λ c. Fit (s .tail) (h .clock) c × (activeUntil c ≤ lastMinute 0 (h .orders) + totalTime (s .tail) (h .orders)))
-      (λ c p q. (p, q))
-      hs
+  orders-kept = each-order (Fit (s .tail) (h .clock)) (Kept step h) keeps (known .invariant .fit)
+
+  -- where nothing was held at the beginning
+  orders-in-time : lastUntil (loadsOf (s .charges)) ≡ 0 → Each (InTime step h) (h .orders)
+  orders-in-time none =
+      each-order
+      (λ c. Fit (s .tail) (h .clock) c × (activeUntil c ≤ ceilingOf s (h .orders)))
+      (InTime step h)
+      (λ c e p. rw (e .start, known .tail) (omega (arith, none, p .0 .active, p .1)))
+      (each-both (Fit (s .tail) (h .clock)) (λ c. activeUntil c ≤ ceilingOf s (h .orders)) hs
       (known .invariant .fit)
-      (known .invariant .in-time))))
+      (known .invariant .in-time))
 
   count-said :
       (cs : List Charge) (l t : ℕ)
@@ -137,10 +144,7 @@ module _ (s : State) (h : Past) (hs : List Charge) (known : Known s h hs) where
       subst (λ (os : List Order). count (map (loadOf step h) os) l t ≡ count (loadsOf hs) l t) (known .invariant .orders)
       (count-said hs l t (known .invariant .fit) said)
 
-  only-ours :
-      (t : ℕ)
-      → 1 ≤ timesReported (h .reports) t
-      → some (λ (o : Order). eqb (o .ticket) t) (h .orders) ≡ true
+  only-ours : NoOther h
   only-ours t j =
       let q : sumReports (isTicket t) (h .reports) ≡ sumBegun (isTicket t) (h .clock) hs
       = known .invariant .reports (isTicket t) in
@@ -181,75 +185,103 @@ unmoved-orders s here there cs ds p q r =
     (said s here cs p)
     (said s there ds q)))
 
--- From the opening
+-- From any valid station
 
--- a station that no call has been made to
-fresh-known : (x : Settings) → Known (fresh x) (beginning (fresh x)) []
-fresh-known x =
-    record {
-      tail = refl;
-      station = refl;
-      invariant =
-          record {
-            numbered = tt;
-            last = omega arith;
-            orders = refl;
-            rising = tt;
-            given = tt;
-            fit = tt;
-            in-time = tt;
-            always = λ t. record { limit = λ l j. omega arith; balance = λ l m j i. omega arith };
-            reports = λ f. refl;
-          };
-    }
+-- what is known after calls to a valid station
+module _ (s : State) (calls : List Call) (v : ValidState s) where
+  reached : Reach s (beginning s) (s .charges) (past step s calls)
+  reached = reach s calls (beginning s) (s .charges) (station-known s v)
 
-opening-known : (x : Settings) → Known (opening x .state) (beginning (opening x .state)) []
-unfolding opening
-opening-known x = go (firstOf (openRefusals x))
-  where
-    given : ℕ → State
-    given i =
-        answering i (fresh (settings 1 100 0)) [] (record { answer = opened (fresh x .bound); state = fresh x; list = [] }) .state
-
-    go : (i : ℕ) → Known (given i) (beginning (given i)) []
-    go zero = fresh-known x
-    go (suc i) = fresh-known (settings 1 100 0)
-
--- what is known after calls to a station on which nothing was known
-module _ (s : State) (calls : List Call) (known : Known s (beginning s) []) where
-  reached : Reach s (beginning s) [] (past step s calls)
-  reached = reach s calls (beginning s) [] known
-
-  unmoved-part :
-      (part rest : List Call) → calls ≡ part ++ rest → Each (Unmoved step (past step s part) (past step s calls)) (past step s part .orders)
+  unmoved-part : NoneMoved step s calls
   unmoved-part part rest e =
-      let p : Reach s (beginning s) [] (past step s part) = reach s part (beginning s) [] known in
+      let p : Reach s (beginning s) (s .charges) (past step s part) = reach s part (beginning s) (s .charges) (station-known s v) in
       let q = reach s rest (past step s part) (p .now) (p .known) in
       subst (λ (z : List Call). Each (Unmoved step (past step s part) (past step s z)) (past step s part .orders)) (sym e)
       (subst (λ (g : Past). Each (Unmoved step (past step s part) g) (past step s part .orders))
       (sym (after-append part rest (beginning s)))
       (unmoved-orders s (past step s part) _ (p .now) (q .now) (p .known) (q .known) (q .grown)))
 
-  all-kept : DemandThree step s calls
-  all-kept =
+  -- for every valid station and every list of calls
+  pub demand-three-from : DemandThreeFrom step s calls
+  demand-three-from =
       record {
         limit =
-            λ l t j.
+            λ l t j from.
             rw (count-history s (past step s calls) (reached .now) (reached .known) l t)
-            (reached .known .invariant .always t .limit l j);
+            (reached .known .invariant .always t (omega (arith, from)) .limit l j);
         balance =
-            λ l m t j i.
+            λ l m t j i from.
             rw (
               count-history s (past step s calls) (reached .now) (reached .known) l t,
               count-history s (past step s calls) (reached .now) (reached .known) m t,
             )
-            (reached .known .invariant .always t .balance l m j i);
-        tickets = reached .known .invariant .numbered;
+            (reached .known .invariant .always t (omega (arith, from)) .balance l m j i);
+        tickets =
+            let a : Accepted s (reached .known .next) (past step s calls .orders) = reached .known .invariant .accepted in
+            (a .new, a .is, a .numbered);
         orders = orders-kept s (past step s calls) (reached .now) (reached .known);
         no-other = only-ours s (past step s calls) (reached .now) (reached .known);
         unmoved = unmoved-part;
       }
 
+  pub clock-later : s .clock ≤ past step s calls .clock
+  clock-later = reached .later
+
+-- what it holds has at the beginning the starts that it has them with
+pub beginning-starts :
+    (s : State) → ValidState s → Each (λ c. startOf step (beginning s) (orderOf c) ≡ c .start) (s .charges)
+beginning-starts s v =
+    each-map
+    (Said (beginning s) (unfinishedCharges (s .clock) (s .charges)))
+    (λ c. startOf step (beginning s) (orderOf c) ≡ c .start)
+    (λ c e. e .start)
+    (s .charges)
+    (said s (beginning s) (s .charges) (station-known s v))
+
+-- From an opening
+
+-- a station that holds nothing, at clock 0 and with next ticket 1
+record Unused (s : State) : Type 0 where
+  clock : s .clock ≡ 0
+  next : s .next ≡ 1
+  charges : s .charges ≡ []
+
+opening-unused : (x : Settings) → Unused (opening x .state)
+unfolding opening
+opening-unused x = go (firstOf (openRefusals x))
+  where
+    go :
+        (i : ℕ)
+        → Unused
+        (answering i (fresh (settings 1 100 0)) [] (record { answer = opened (fresh x .bound); state = fresh x; list = [] }) .state)
+    go zero = record { clock = refl; next = refl; charges = refl }
+    go (suc i) = record { clock = refl; next = refl; charges = refl }
+
+all-accepted :
+    (cs : List Charge) (n : ℕ) (os new : List Order)
+    → cs ≡ []
+    → n ≡ 1
+    → os ≡ ordersOf cs ++ new
+    → Numbered n new
+    → Numbered 1 os
+all-accepted cs n os new none one is h =
+    let same : os ≡ new = is ∙ rw none in rw same (subst (λ i. Numbered i new) one h)
+
+unused-three : (s : State) (calls : List Call) → ValidState s → Unused s → DemandThree step s calls
+unused-three s calls v u =
+    let d : DemandThreeFrom step s calls = demand-three-from s calls v in
+    record {
+      limit = λ l t j. d .limit l t j (omega (arith, u .clock));
+      balance = λ l m t j i. d .balance l m t j i (omega (arith, u .clock));
+      tickets =
+          all-accepted (s .charges) (s .next) (past step s calls .orders) (d .tickets .0) (u .charges) (u .next) (d .tickets .1) (d .tickets .2);
+      orders = d .orders;
+      in-time =
+          orders-in-time s (past step s calls) (reached s calls v .now) (reached s calls v .known) (rw (u .charges));
+      no-other = d .no-other;
+      unmoved = d .unmoved;
+    }
+
 -- for every opening, refused ones too, and every list of calls
 pub demand-three : (x : Settings) (calls : List Call) → DemandThree step (opening x .state) calls
-demand-three x calls = all-kept (opening x .state) calls (opening-known x)
+demand-three x calls = unused-three (opening x .state) calls (opening-valid x) (opening-unused x)

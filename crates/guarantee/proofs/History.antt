@@ -2,25 +2,18 @@
 use mathlib.Core.Path.{_≡_, refl}
 use Prim.Native.Nat.{ℕ, _+_, _≤_, _<_}
 use mathlib.Core.Bool.{Bool, true, false, cond, not}
-use mathlib.Core.List.{List, [], _∷_, map}
+use mathlib.Core.List.{List, [], _∷_}
 use native.Mathlib.Omega.{arith}
 use borrow.Author.Tests.{ltb-false, leb-true, leb-false, lt-leb}
 use Rattle.rules.specs.Basics.{Each, keep}
-use Rattle.rules.specs.Load.{count}
+use Rattle.rules.specs.Load.{count, lastUntil}
 use Rattle.rules.specs.Charge.{Charge, starting, endOf, activeUntil, loadOf, loadsOf, isBegun, isFinished, unfinishedCharges, lastEnd}
 use Rattle.rules.specs.Judgement.{restarted}
 use Rattle.rules.proofs.Lists.{each-map, each-keep}
 use Rattle.rules.proofs.Counts.{draws-before}
 use Rattle.rules.proofs.Ends.{lastEnd-each}
 use Rattle.rules.proofs.Restarts.{Restarted, empty, same, other}
-use Rattle.guarantee.specs.Past.{Order}
-
--- the order that a charge stands for
-abbrev pub orderOf : Charge → Order
-orderOf c = record { ticket = c .ticket; line = c .line; minute = c .orderMinute; time = c .time; rate = c .rate }
-
-abbrev pub ordersOf : List Charge → List Order
-ordersOf cs = map orderOf cs
+use Rattle.guarantee.specs.Past.{ordersOf}
 
 -- what holds of each charge of the history at clock k; r is that of the station
 pub record Fit (r k : ℕ) (c : Charge) : Type 0 where
@@ -72,6 +65,10 @@ unfinished-lastEnd k b (c ∷ cs) h = go (isFinished k c) refl h (unfinished-las
         → (k < activeUntil c → endOf c ≤ b) × Each (λ c. k < activeUntil c → endOf c ≤ b) cs
     go true p u ih = let q : activeUntil c ≤ k = leb-true (activeUntil c) k p in ((λ j. absurd (omega arith)), ih u)
     go false p u ih = ((λ j. omega arith), ih (omega arith))
+
+pub each-until : (b : ℕ) (cs : List Charge) → lastUntil (loadsOf cs) ≤ b → Each (λ c. activeUntil c ≤ b) cs
+each-until b [] h = tt
+each-until b (c ∷ cs) h = (omega arith, each-until b cs (omega arith))
 
 -- New starts for waiting charges
 

@@ -3,16 +3,16 @@ use mathlib.Core.Logic.{_⊎_, inl, inr}
 use mathlib.Core.Path.{_≡_, refl, sym, ap, _∙_}
 use Prim.Native.Nat.{ℕ, suc, _+_, _-_, _≤_, _<_}
 use mathlib.Core.Bool.{true, not}
-use mathlib.Core.List.{List, [], _∷_, _++_}
+use mathlib.Core.List.{List, [], _∷_, _++_, append-assoc}
 use native.Mathlib.Omega.{arith}
 use lib.ListN.{length, length-append}
 use borrow.Author.Tests.{le-ltb}
 use Rattle.rules.specs.Basics.{Each, keep}
-use Rattle.rules.specs.Load.{Limits, counts, lastUntil, sound}
+use Rattle.rules.specs.Load.{counts, lastUntil, sound}
 use Rattle.rules.specs.Charge.{drawOf, Charge, endOf, activeUntil, loadOf, loadsOf, isFinished, unfinishedCharges, lastEnd}
 use Rattle.rules.specs.Search.{added}
 use Rattle.rules.specs.Judgement.{restarted}
-use Rattle.rules.specs.Calls.{isPassed, startBefore, reported, pairs}
+use Rattle.rules.specs.Calls.{State, limitsOf, isPassed, startBefore, reported, pairs}
 use Rattle.rules.specs.Valid.{Rising}
 use Rattle.rules.proofs.Ranges.{below-or-not}
 use Rattle.rules.proofs.Lists.{map-append, each-map, each-append, keep-each}
@@ -21,25 +21,37 @@ use Rattle.rules.proofs.Judgements.{Meets}
 use Rattle.rules.proofs.Tickets.{rising-append}
 use Rattle.rules.proofs.Ends.{until-each, count-unfinished}
 use Rattle.rules.proofs.Restarts.{restarted-rising, Restarted, restarted-is, restarted-each}
-use Rattle.guarantee.specs.Past.{Order, Report, firstPairs, Numbered, totalTime, lastMinute}
+use Rattle.guarantee.specs.Past.{Order, Report, firstPairs, orderOf, ordersOf, Numbered, totalTime, lastMinute}
 use Rattle.guarantee.proofs.Each.{each-two}
-use Rattle.guarantee.proofs.History.{orderOf, ordersOf, Fit, lastEnd-keep, unfinished-lastEnd, restarted-unfinished, restarted-orders, restarted-count}
+use Rattle.guarantee.proofs.History.{Fit, lastEnd-keep, unfinished-lastEnd, restarted-unfinished, restarted-orders, restarted-count}
 use Rattle.guarantee.proofs.Reports.{Worth, sumReports, sumBegun, sumReports-append, sumBegun-append, sum-sorted, sum-pairs, sum-passed, sum-restarted}
 
--- y: limit and bound; r: the tail; k: the clock; os: the accepted orders; hs: the history; rs: the reports
-pub record Invariant (y : Limits) (r k : ℕ) (os : List Order) (hs : List Charge) (rs : List Report) : Type 0 where
-  -- the accepted orders
-  pub numbered : Numbered 1 os
+-- the orders: those of the charges that station b held when the list of calls began, then those accepted since; n is the next ticket
+pub record Accepted (b : State) (n : ℕ) (os : List Order) : Type 0 where
+  pub new : List Order
+  pub is : os ≡ ordersOf (b .charges) ++ new
+  pub numbered : Numbered (b .next) new
+  pub next : n ≡ b .next + length new
+
+-- a minute by which every charge of the history is over: more than demand 3 asks, a charge draws up to r minutes after its end, and
+-- the next one starts behind that
+abbrev pub ceilingOf : State → List Order → ℕ
+ceilingOf b os = lastUntil (loadsOf (b .charges)) + (lastMinute 0 os + totalTime (b .tail) os)
+
+-- b: the station that the list of calls began with; k: the clock; n: the next ticket; os: the orders; hs: the history; rs: the
+-- reports
+pub record Invariant (b : State) (k n : ℕ) (os : List Order) (hs : List Charge) (rs : List Report) : Type 0 where
+  pub accepted : Accepted b n os
   pub last : lastMinute 0 os ≤ k
   -- the history has a charge for each, and no other
   pub orders : ordersOf hs ≡ os
   pub rising : Rising 1 hs
-  pub given : Each (λ c. c .ticket ≤ length os) hs
-  pub fit : Each (Fit r k) hs
-  -- more than demand 3 asks: a charge draws up to r minutes after its end, and the next one starts behind that
-  pub in-time : Each (λ c. activeUntil c ≤ lastMinute 0 os + totalTime r os) hs
-  -- every minute, gone or to come
-  pub always : (t : ℕ) → Sound y (counts (loadsOf hs) t)
+  pub next-low : 1 ≤ n
+  pub given : Each (λ c. c .ticket < n) hs
+  pub fit : Each (Fit (b .tail) k) hs
+  pub in-time : Each (λ c. activeUntil c ≤ ceilingOf b os) hs
+  -- every minute from the beginning on, gone or to come
+  pub always : (t : ℕ) → b .clock ≤ t → Sound (limitsOf b) (counts (loadsOf hs) t)
   pub reports : (f : Worth) → sumReports f rs ≡ sumBegun f k hs
 
 -- One order more
@@ -56,34 +68,47 @@ totalTime-append : (r : ℕ) (os ps : List Order) → totalTime r (os ++ ps) ≡
 totalTime-append r [] ps = omega arith
 totalTime-append r (o ∷ os) ps = rw (totalTime-append r os ps) (omega arith)
 
+accepted-append :
+    (b : State) (n : ℕ) (os : List Order) (o : Order)
+    → Accepted b n os
+    → o .ticket ≡ n
+    → Accepted b (suc n) (os ++ (o ∷ []))
+accepted-append b n os o a e =
+    record {
+      new = a .new ++ (o ∷ []);
+      is = ap (λ (l : List Order). l ++ (o ∷ [])) (a .is) ∙ append-assoc (ordersOf (b .charges)) (a .new) (o ∷ []);
+      numbered = numbered-append (b .next) (a .new) o (a .numbered) (e ∙ a .next);
+      next = rw (length-append (a .new) (o ∷ [])) (omega (arith, a .next));
+    }
+
 lastMinute-append : (m : ℕ) (os : List Order) (o : Order) → lastMinute m (os ++ (o ∷ [])) ≡ o .minute
 lastMinute-append m [] o = refl
 lastMinute-append m (x ∷ os) o = lastMinute-append (x .minute) os o
 
-module _ (y : Limits) (r k : ℕ) (os : List Order) (hs : List Charge) (rs : List Report) (inv : Invariant y r k os hs rs) where
+module _ (b : State) (k n : ℕ) (os : List Order) (hs : List Charge) (rs : List Report) (inv : Invariant b k n os hs rs) where
   -- An order
 
   module _
       (c : Charge)
-      (ticket : c .ticket ≡ suc (length os))
+      (ticket : c .ticket ≡ n)
       (minute : c .orderMinute ≡ k)
       (lasts : 1 ≤ c .time)
-      (active : c .activeTime ≡ c .time + r)
+      (active : c .activeTime ≡ c .time + b .tail)
       (low : k ≤ c .start)
       (high : c .start < k + suc (lastUntil (loadsOf (unfinishedCharges k hs)) - k))
-      (ok : sound y k (added (loadsOf (unfinishedCharges k hs)) (drawOf c) (c .start)) ≡ true)
+      (ok : sound (limitsOf b) k (added (loadsOf (unfinishedCharges k hs)) (drawOf c) (c .start)) ≡ true)
     where
-      order-always : (t : ℕ) → Sound y (counts (loadsOf (hs ++ (c ∷ []))) t)
-      order-always t = rw (map-append loadOf hs (c ∷ [])) (go (below-or-not t k))
+      order-always : (t : ℕ) → b .clock ≤ t → Sound (limitsOf b) (counts (loadsOf (hs ++ (c ∷ []))) t)
+      order-always t from = rw (map-append loadOf hs (c ∷ [])) (go (below-or-not t k))
         where
-          go : (t < k) ⊎ (k ≤ t) → Sound y (counts (loadsOf hs ++ (loadOf c ∷ [])) t)
+          go : (t < k) ⊎ (k ≤ t) → Sound (limitsOf b) (counts (loadsOf hs ++ (loadOf c ∷ [])) t)
           go (inl h) =
-              sound-same y (counts (loadsOf hs) t) (counts (loadsOf hs ++ (loadOf c ∷ [])) t)
+              sound-same (limitsOf b) (counts (loadsOf hs) t) (counts (loadsOf hs ++ (loadOf c ∷ [])) t)
               (λ l j.
               rw (count-append (loadsOf hs) (loadOf c ∷ []) l t, draws-before (loadOf c) l t (omega arith)) (omega arith))
-              (inv .always t)
+              (inv .always t from)
           go (inr h) =
-              sound-same y
+              sound-same (limitsOf b)
               (counts (loadsOf (unfinishedCharges k hs) ++ (loadOf c ∷ [])) t)
               (counts (loadsOf hs ++ (loadOf c ∷ [])) t)
               (λ l j.
@@ -92,46 +117,45 @@ module _ (y : Limits) (r k : ℕ) (os : List Order) (hs : List Charge) (rs : Lis
                 count-append (loadsOf (unfinishedCharges k hs)) (loadOf c ∷ []) l t,
                 count-unfinished k hs l t h,
               ))
-              (sound-from y k (added (loadsOf (unfinishedCharges k hs)) (drawOf c) (c .start)) ok t h)
+              (sound-from (limitsOf b) k (added (loadsOf (unfinishedCharges k hs)) (drawOf c) (c .start)) ok t h)
 
-      order-last : lastMinute 0 (os ++ (orderOf c ∷ [])) ≡ k
-      order-last = lastMinute-append 0 os (orderOf c) ∙ minute
+      order-ceiling : ceilingOf b (os ++ (orderOf c ∷ [])) ≡ lastUntil (loadsOf (b .charges)) + (k + (totalTime (b .tail) os + c .activeTime))
+      order-ceiling =
+          rw (lastMinute-append 0 os (orderOf c), totalTime-append (b .tail) os (orderOf c ∷ []), minute) (omega (arith, active))
 
-      order-total : totalTime r (os ++ (orderOf c ∷ [])) ≡ totalTime r os + c .activeTime
-      order-total = rw (totalTime-append r os (orderOf c ∷ [])) (omega (arith, active))
-
-      order-in-time : Each (λ x. activeUntil x ≤ k + (totalTime r os + c .activeTime)) (hs ++ (c ∷ []))
+      order-in-time : Each (λ x. activeUntil x ≤ ceilingOf b (os ++ (orderOf c ∷ []))) (hs ++ (c ∷ []))
       order-in-time =
-          let e : lastUntil (loadsOf (unfinishedCharges k hs)) ≤ lastMinute 0 os + totalTime r os
-          = until-each (lastMinute 0 os + totalTime r os) (unfinishedCharges k hs)
-          (keep-each (λ x. activeUntil x ≤ lastMinute 0 os + totalTime r os) (λ x. not (isFinished k x)) hs (inv .in-time)) in
-          each-append (λ x. activeUntil x ≤ k + (totalTime r os + c .activeTime)) hs (c ∷ [])
+          let e : lastUntil (loadsOf (unfinishedCharges k hs)) ≤ ceilingOf b os
+          = until-each (ceilingOf b os) (unfinishedCharges k hs)
+          (keep-each (λ x. activeUntil x ≤ ceilingOf b os) (λ x. not (isFinished k x)) hs (inv .in-time)) in
+          rw order-ceiling
+          (each-append (λ x. activeUntil x ≤ lastUntil (loadsOf (b .charges)) + (k + (totalTime (b .tail) os + c .activeTime))) hs (c ∷ [])
           (each-map
-          (λ x. activeUntil x ≤ lastMinute 0 os + totalTime r os)
-          (λ x. activeUntil x ≤ k + (totalTime r os + c .activeTime))
+          (λ x. activeUntil x ≤ ceilingOf b os)
+          (λ x. activeUntil x ≤ lastUntil (loadsOf (b .charges)) + (k + (totalTime (b .tail) os + c .activeTime)))
           (λ x h. omega (arith, inv .last))
           hs
           (inv .in-time))
-          (omega (arith, inv .last), tt)
+          (omega (arith, inv .last), tt))
 
-      pub after-order : Invariant y r k (os ++ (orderOf c ∷ [])) (hs ++ (c ∷ [])) rs
+      pub after-order : Invariant b k (suc n) (os ++ (orderOf c ∷ [])) (hs ++ (c ∷ [])) rs
       after-order =
           record {
-            numbered = numbered-append 1 os (orderOf c) (inv .numbered) (omega arith);
-            last = rw order-last (omega arith);
+            accepted = accepted-append b n os (orderOf c) (inv .accepted) ticket;
+            last = rw (lastMinute-append 0 os (orderOf c)) (omega arith);
             orders = map-append orderOf hs (c ∷ []) ∙ ap (λ (l : List Order). l ++ (orderOf c ∷ [])) (inv .orders);
             rising =
-                rising-append 1 hs c (inv .rising) (omega arith)
-                (each-map (λ x. x .ticket ≤ length os) (λ x. x .ticket < c .ticket) (λ x h. omega arith) hs (inv .given));
+                rising-append 1 hs c (inv .rising) (omega (arith, inv .next-low))
+                (each-map (λ x. x .ticket < n) (λ x. x .ticket < c .ticket) (λ x h. omega arith) hs (inv .given));
+            next-low = omega arith;
             given =
-                rw (length-append os (orderOf c ∷ []))
-                (each-append (λ x. x .ticket ≤ length os + 1) hs (c ∷ [])
-                (each-map (λ x. x .ticket ≤ length os) (λ x. x .ticket ≤ length os + 1) (λ x h. omega arith) hs (inv .given))
-                (omega arith, tt));
+                each-append (λ x. x .ticket < suc n) hs (c ∷ [])
+                (each-map (λ x. x .ticket < n) (λ x. x .ticket < suc n) (λ x h. omega arith) hs (inv .given))
+                (omega arith, tt);
             fit =
-                each-append (Fit r k) hs (c ∷ []) (inv .fit)
+                each-append (Fit (b .tail) k) hs (c ∷ []) (inv .fit)
                 (record { lasts = lasts; active = active; known = omega arith; not-early = omega arith }, tt);
-            in-time = rw (order-last, order-total) order-in-time;
+            in-time = order-in-time;
             always = order-always;
             reports =
                 λ f. inv .reports f ∙ rw (sumBegun-append f k hs (c ∷ []), le-ltb (c .start) k low) (omega arith);
@@ -142,19 +166,20 @@ module _ (y : Limits) (r k : ℕ) (os : List Order) (hs : List Charge) (rs : Lis
   pub after-move :
       (m : ℕ) (rest : List ℕ)
       → k ≤ m
-      → Invariant y r m os hs
+      → Invariant b m n os hs
       (rs
       ++ firstPairs (length (reported k m (unfinishedCharges k hs)))
       (pairs (reported k m (unfinishedCharges k hs)) ++ rest))
   after-move m rest h =
       record {
-        numbered = inv .numbered;
+        accepted = inv .accepted;
         last = omega (arith, inv .last);
         orders = inv .orders;
         rising = inv .rising;
+        next-low = inv .next-low;
         given = inv .given;
         fit =
-            each-map (Fit r k) (Fit r m)
+            each-map (Fit (b .tail) k) (Fit (b .tail) m)
             (λ x f. record { lasts = f .lasts; active = f .active; known = omega arith; not-early = f .not-early })
             hs
             (inv .fit);
@@ -168,31 +193,31 @@ module _ (y : Limits) (r k : ℕ) (os : List Order) (hs : List Charge) (rs : Lis
               sum-sorted f startBefore (keep (isPassed k m) (unfinishedCharges k hs)),
               inv .reports f,
             )
-            (sum-passed f r k m hs h (inv .fit));
+            (sum-passed f (b .tail) k m hs h (inv .fit));
       }
 
   -- A plan that is taken
 
   module _
       (ss : List ℕ)
-      (ok : Meets y k (unfinishedCharges k hs) ss (restarted k (unfinishedCharges k hs) ss))
+      (ok : Meets (limitsOf b) k (unfinishedCharges k hs) ss (restarted k (unfinishedCharges k hs) ss))
     where
       pub plan-restarted : Restarted k hs (restarted k hs ss)
       plan-restarted = restarted-is k hs ss (ok .none-early)
 
       pub plan-held : restarted k (unfinishedCharges k hs) ss ≡ unfinishedCharges k (restarted k hs ss)
-      plan-held = restarted-unfinished r k hs ss (inv .fit) (ok .none-early)
+      plan-held = restarted-unfinished (b .tail) k hs ss (inv .fit) (ok .none-early)
 
-      plan-always : (t : ℕ) → Sound y (counts (loadsOf (restarted k hs ss)) t)
-      plan-always t = go (below-or-not t k)
+      plan-always : (t : ℕ) → b .clock ≤ t → Sound (limitsOf b) (counts (loadsOf (restarted k hs ss)) t)
+      plan-always t from = go (below-or-not t k)
         where
-          go : (t < k) ⊎ (k ≤ t) → Sound y (counts (loadsOf (restarted k hs ss)) t)
+          go : (t < k) ⊎ (k ≤ t) → Sound (limitsOf b) (counts (loadsOf (restarted k hs ss)) t)
           go (inl h) =
-              sound-same y (counts (loadsOf hs) t) (counts (loadsOf (restarted k hs ss)) t)
+              sound-same (limitsOf b) (counts (loadsOf hs) t) (counts (loadsOf (restarted k hs ss)) t)
               (λ l j. restarted-count plan-restarted l t h)
-              (inv .always t)
+              (inv .always t from)
           go (inr h) =
-              sound-same y
+              sound-same (limitsOf b)
               (counts (loadsOf (restarted k (unfinishedCharges k hs) ss)) t)
               (counts (loadsOf (restarted k hs ss)) t)
               (λ l j. rw plan-held (sym (count-unfinished k (restarted k hs ss) l t h)))
@@ -200,58 +225,59 @@ module _ (y : Limits) (r k : ℕ) (os : List Order) (hs : List Charge) (rs : Lis
 
       -- The ends of unfinished charges are bounded by the last end, and "Cause 4 compares s + p": since every charge draws r
       -- minutes longer, they draw no longer than the held ones did. Finished charges did not change.
-      plan-in-time : (b : ℕ) → Each (λ c. activeUntil c ≤ b) hs → Each (λ c. activeUntil c ≤ b) (restarted k hs ss)
-      plan-in-time b e =
+      plan-in-time : (end : ℕ) → Each (λ c. activeUntil c ≤ end) hs → Each (λ c. activeUntil c ≤ end) (restarted k hs ss)
+      plan-in-time end e =
           each-two
-          (λ c. Lasts c × (activeUntil c ≤ k → activeUntil c ≤ b))
-          (λ c. k < activeUntil c → endOf c ≤ b - r)
-          (λ c. activeUntil c ≤ b)
+          (λ c. Lasts c × (activeUntil c ≤ k → activeUntil c ≤ end))
+          (λ c. k < activeUntil c → endOf c ≤ end - b .tail)
+          (λ c. activeUntil c ≤ end)
           (λ c p q. go c (below-or-not k (activeUntil c)) (p .0) (p .1) q)
           (restarted k hs ss)
           (restarted-each
-          (λ c. Lasts c × (activeUntil c ≤ k → activeUntil c ≤ b))
+          (λ c. Lasts c × (activeUntil c ≤ k → activeUntil c ≤ end))
           (λ c s h p. (p .0, λ q. absurd (omega (arith, p .0))))
           plan-restarted
-          (each-two (Fit r k) (λ c. activeUntil c ≤ b) (λ c. Lasts c × (activeUntil c ≤ k → activeUntil c ≤ b))
+          (each-two (Fit (b .tail) k) (λ c. activeUntil c ≤ end) (λ c. Lasts c × (activeUntil c ≤ k → activeUntil c ≤ end))
           (λ c f h. ((f .lasts, f .active), λ q. h))
           hs
           (inv .fit)
           e))
-          (unfinished-lastEnd k (b - r) (restarted k hs ss)
-          (rw (← plan-held) (omega (arith, ok .not-later, lastEnd-keep (λ c. not (isFinished k c)) (b - r) hs ends))))
+          (unfinished-lastEnd k (end - b .tail) (restarted k hs ss)
+          (rw (← plan-held) (omega (arith, ok .not-later, lastEnd-keep (λ c. not (isFinished k c)) (end - b .tail) hs ends))))
         where
           Lasts : Charge → Type 0
-          Lasts c = (1 ≤ c .time) × (c .activeTime ≡ c .time + r)
+          Lasts c = (1 ≤ c .time) × (c .activeTime ≡ c .time + b .tail)
 
-          ends : Each (λ c. endOf c ≤ b - r) hs
+          ends : Each (λ c. endOf c ≤ end - b .tail) hs
           ends =
-              each-two (Fit r k) (λ c. activeUntil c ≤ b) (λ c. endOf c ≤ b - r) (λ c f h. omega (arith, f .active)) hs
+              each-two (Fit (b .tail) k) (λ c. activeUntil c ≤ end) (λ c. endOf c ≤ end - b .tail) (λ c f h. omega (arith, f .active)) hs
               (inv .fit) e
 
           go :
               (c : Charge)
               → (k < activeUntil c) ⊎ (activeUntil c ≤ k)
               → Lasts c
-              → (activeUntil c ≤ k → activeUntil c ≤ b)
-              → (k < activeUntil c → endOf c ≤ b - r)
-              → activeUntil c ≤ b
+              → (activeUntil c ≤ k → activeUntil c ≤ end)
+              → (k < activeUntil c → endOf c ≤ end - b .tail)
+              → activeUntil c ≤ end
           go c (inl h) f p q = omega (arith, f .0, f .1, q h)
           go c (inr h) f p q = p h
 
-      pub after-plan : Invariant y r k os (restarted k hs ss) rs
+      pub after-plan : Invariant b k n os (restarted k hs ss) rs
       after-plan =
           record {
-            numbered = inv .numbered;
+            accepted = inv .accepted;
             last = inv .last;
             orders = restarted-orders plan-restarted ∙ inv .orders;
             rising = restarted-rising 1 plan-restarted (inv .rising);
-            given = restarted-each (λ c. c .ticket ≤ length os) (λ c s h g. g) plan-restarted (inv .given);
+            next-low = inv .next-low;
+            given = restarted-each (λ c. c .ticket < n) (λ c s h g. g) plan-restarted (inv .given);
             fit =
-                restarted-each (Fit r k)
+                restarted-each (Fit (b .tail) k)
                 (λ c s h f. record { lasts = f .lasts; active = f .active; known = f .known; not-early = omega (arith, f .known) })
                 plan-restarted
                 (inv .fit);
-            in-time = plan-in-time (lastMinute 0 os + totalTime r os) (inv .in-time);
+            in-time = plan-in-time (ceilingOf b os) (inv .in-time);
             always = plan-always;
             reports = λ f. inv .reports f ∙ sym (sum-restarted f plan-restarted);
           }

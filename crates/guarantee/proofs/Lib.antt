@@ -5,9 +5,11 @@ pub mod Reports
 pub mod Tickets
 pub mod Invariant
 pub mod Steps
+pub mod Beginnings
 pub mod DemandThree
 pub mod DemandOne
 pub mod Proposals
 pub mod Orders
+pub mod Boards
 pub mod DemandTwo
 pub mod Demands

@@ -5,8 +5,6 @@ use mathlib.Core.Bool.{not}
 use mathlib.Core.List.{List, [], _∷_, _++_, append-nil}
 use native.Mathlib.Omega.{arith}
 use native.Mathlib.Nat.{le-trans}
-use native.Mathlib.Numerals.{add-one}
-use lib.ListN.{length, length-append}
 use borrow.Author.Tests.{lt-leb}
 use Rattle.rules.specs.Basics.{Found, at, nothing, firstOf}
 use Rattle.rules.specs.Load.{lastUntil, sound}
@@ -14,7 +12,7 @@ use Rattle.rules.specs.Charge.{Charge, starting, loadsOf, isFinished, unfinishe
 use Rattle.rules.specs.Search.{added}
 use Rattle.rules.specs.Replan.{Proposal, starts, none, latest, byLines}
 use Rattle.rules.specs.Judgement.{restarted, judged}
-use Rattle.rules.specs.Calls.{State, limitsOf, Answer, refused, Result, answering, Call, preview, commit, move, offer, replanLatest, replanLines, enquire, lent, newCharge, drawFor, startFor, refusals, previewedAt, previewing, committing, moving, decided, tested, offering, replanningLatest, replanningLines, enquiring, granted, step}
+use Rattle.rules.specs.Calls.{State, limitsOf, Answer, refused, Result, answering, Call, preview, commit, move, offer, replanLatest, replanLines, enquire, board, lent, newCharge, drawFor, startFor, refusals, previewedAt, previewing, committing, moving, decided, tested, offering, replanningLatest, replanningLines, enquiring, boarding, granted, step}
 use Rattle.rules.proofs.Ranges.{IsFirst}
 use Rattle.rules.proofs.Lists.{keep-append}
 use Rattle.rules.proofs.Searches.{earliest-first}
@@ -22,20 +20,20 @@ use Rattle.rules.proofs.Tables.{NoneHolds}
 use Rattle.rules.proofs.Granted.{refusals-none, order-granted, commit-granted, move-granted}
 use Rattle.rules.proofs.Judgements.{judged-meets}
 use Rattle.rules.proofs.Restarts.{Restarted, empty, same, other}
-use Rattle.guarantee.specs.Past.{Order, Report, nothingNew, learnt, Past, extended, after}
-use Rattle.guarantee.proofs.History.{orderOf, unfinished-later}
+use Rattle.guarantee.specs.Past.{Order, Report, nothingNew, learnt, Past, orderOf, extended, after}
+use Rattle.guarantee.proofs.History.{unfinished-later}
 use Rattle.guarantee.proofs.Invariant.{Invariant, after-order, after-move, after-plan, plan-restarted, plan-held}
 
--- the station that is left: s is the one that the opening gave, k the clock, os the accepted orders, hs the history
-abbrev pub stationOf : State → ℕ → List Order → List Charge → State
-stationOf s k os hs =
+-- the station that is left: s is the one that the list of calls began with, k the clock, n the next ticket, hs the history
+abbrev pub stationOf : State → ℕ → ℕ → List Charge → State
+stationOf s k n hs =
     record {
       limit = s .limit;
       percent = s .percent;
       bound = s .bound;
       tail = s .tail;
       clock = k;
-      next = suc (length os);
+      next = n;
       charges = unfinishedCharges k hs;
     }
 
@@ -73,15 +71,17 @@ grown-trans h (on p q a) (on p' q' b) =
 -- One call
 
 -- what a call with its result leaves
-pub record Next (s : State) (k : ℕ) (os : List Order) (hs : List Charge) (rs : List Report) (c : Call) (r : Result) : Type 0 where
+pub record Next (s : State) (k n : ℕ) (os : List Order) (hs : List Charge) (rs : List Report) (c : Call) (r : Result) : Type 0 where
   pub now : List Charge
+  pub next : ℕ
   pub later : k ≤ learnt k c (r .answer) (r .list) .clock
   pub station :
       r .state
-      ≡ stationOf s (learnt k c (r .answer) (r .list) .clock) (os ++ learnt k c (r .answer) (r .list) .orders) now
+      ≡ stationOf s (learnt k c (r .answer) (r .list) .clock) next now
   pub invariant :
-      Invariant (limitsOf s) (s .tail)
+      Invariant s
       (learnt k c (r .answer) (r .list) .clock)
+      next
       (os ++ learnt k c (r .answer) (r .list) .orders)
       now
       (rs ++ learnt k c (r .answer) (r .list) .reports)
@@ -96,24 +96,26 @@ refused-learnt k j (offer ss) list = refl
 refused-learnt k j replanLatest list = refl
 refused-learnt k j (replanLines allowance) list = refl
 refused-learnt k j (enquire ticket) list = refl
+refused-learnt k j (board asked l) list = refl
 
 module _
-    (s : State) (k : ℕ) (os : List Order) (hs : List Charge) (rs : List Report)
-    (inv : Invariant (limitsOf s) (s .tail) k os hs rs)
+    (s : State) (k n : ℕ) (os : List Order) (hs : List Charge) (rs : List Report)
+    (inv : Invariant s k n os hs rs)
   where
     -- other starts, and nothing else
     becomes :
         (c : Call) (r : Result) (ds : List Charge)
         → learnt k c (r .answer) (r .list) ≡ nothingNew k
-        → r .state ≡ stationOf s k os ds
-        → Invariant (limitsOf s) (s .tail) k os ds rs
+        → r .state ≡ stationOf s k n ds
+        → Invariant s k n os ds rs
         → Grown k hs ds
-        → Next s k os hs rs c r
+        → Next s k n os hs rs c r
     becomes c r ds e y i g =
         record {
           now = ds;
+          next = n;
           later = rw e (omega arith);
-          station = rw (e, append-nil os) y;
+          station = rw e y;
           invariant = rw (e, append-nil os, append-nil rs) i;
           grown = g;
         }
@@ -121,81 +123,81 @@ module _
     stays :
         (c : Call) (r : Result)
         → learnt k c (r .answer) (r .list) ≡ nothingNew k
-        → r .state ≡ stationOf s k os hs
-        → Next s k os hs rs c r
+        → r .state ≡ stationOf s k n hs
+        → Next s k n os hs rs c r
     stays c r e y = becomes c r hs e y inv (grown-refl k hs)
 
     tested-next :
         (c : Call) (rounds : ℕ) (p : Proposal) (list : List ℕ)
         → ((a : Answer) → learnt k c a list ≡ nothingNew k)
-        → Next s k os hs rs c (tested (stationOf s k os hs) rounds p list)
+        → Next s k n os hs rs c (tested (stationOf s k n hs) rounds p list)
     tested-next c rounds (starts ss) list e = go (judged (limitsOf s) k (unfinishedCharges k hs) ss) refl
       where
         go :
             (j : ℕ)
             → judged (limitsOf s) k (unfinishedCharges k hs) ss ≡ j
-            → Next s k os hs rs c (decided (stationOf s k os hs) rounds ss list j)
+            → Next s k n os hs rs c (decided (stationOf s k n hs) rounds ss list j)
         go zero q =
             let ok = judged-meets (limitsOf s) k (unfinishedCharges k hs) ss q in
             becomes c _ (restarted k hs ss) (e _)
-            (rw (plan-held (limitsOf s) (s .tail) k os hs rs inv ss ok))
-            (after-plan (limitsOf s) (s .tail) k os hs rs inv ss ok)
-            (grown-restarted (plan-restarted (limitsOf s) (s .tail) k os hs rs inv ss ok))
+            (rw (plan-held s k n os hs rs inv ss ok))
+            (after-plan s k n os hs rs inv ss ok)
+            (grown-restarted (plan-restarted s k n os hs rs inv ss ok))
         go (suc j) q = stays c _ (e _) refl
     tested-next c rounds (none cause) list e = stays c _ (e _) refl
 
     preview-next :
-        (line p d rate : ℕ) (f : Found) → Next s k os hs rs (preview line p d rate) (previewedAt (stationOf s k os hs) f)
+        (line p d rate : ℕ) (f : Found) → Next s k n os hs rs (preview line p d rate) (previewedAt (stationOf s k n hs) f)
     preview-next line p d rate (at start) = stays (preview line p d rate) _ refl refl
     preview-next line p d rate nothing = stays (preview line p d rate) _ refl refl
 
     commit-next :
         (line p d rate start : ℕ)
         → 1 ≤ p
-        → startFor (stationOf s k os hs) (drawFor s line p rate) ≡ at start
-        → Next s k os hs rs (commit line p d rate start) (committing (stationOf s k os hs) line p d rate start)
+        → startFor (stationOf s k n hs) (drawFor s line p rate) ≡ at start
+        → Next s k n os hs rs (commit line p d rate start) (committing (stationOf s k n hs) line p d rate start)
     unfolding committing
     commit-next line p d rate start lasts e =
-        let new : Charge = newCharge (stationOf s k os hs) line p d rate start in
+        let new : Charge = newCharge (stationOf s k n hs) line p d rate start in
         let r : IsFirst (λ u. sound (limitsOf s) k (added (loadsOf (unfinishedCharges k hs)) (drawFor s line p rate) u))
         (suc (lastUntil (loadsOf (unfinishedCharges k hs)) - k)) k start
         = earliest-first (limitsOf s) k (loadsOf (unfinishedCharges k hs)) (drawFor s line p rate) start e in
         record {
           now = hs ++ (new ∷ []);
+          next = suc n;
           later = omega arith;
           station =
               rw (
                 keep-append (λ c. not (isFinished k c)) hs (new ∷ []),
                 lt-leb (start + (p + s .tail)) k (omega (arith, r .low)),
-                length-append os (orderOf new ∷ []),
-                add-one,
               );
           invariant =
               rw (append-nil rs)
-              (after-order (limitsOf s) (s .tail) k os hs rs inv new refl refl lasts refl (r .low) (r .high) (r .here));
+              (after-order s k n os hs rs inv new refl refl lasts refl (r .low) (r .high) (r .here));
           grown = grown-append k hs (new ∷ []);
         }
 
     -- a call that is not refused
     granted-next :
         (c : Call)
-        → NoneHolds (refusals (stationOf s k os hs) c)
-        → Next s k os hs rs c (granted (stationOf s k os hs) c)
-    unfolding previewing moving offering replanningLatest replanningLines enquiring
+        → NoneHolds (refusals (stationOf s k n hs) c)
+        → Next s k n os hs rs c (granted (stationOf s k n hs) c)
+    unfolding previewing moving offering replanningLatest replanningLines enquiring boarding
     granted-next (preview line p d rate) q =
-        preview-next line p d rate (startFor (stationOf s k os hs) (drawFor (stationOf s k os hs) line p rate))
+        preview-next line p d rate (startFor (stationOf s k n hs) (drawFor (stationOf s k n hs) line p rate))
     granted-next (commit line p d rate shown) q =
-        let g = commit-granted (stationOf s k os hs) line p d rate shown q in
-        commit-next line p d rate shown (order-granted (stationOf s k os hs) line p d rate (g .0) .time-low) (g .1)
+        let g = commit-granted (stationOf s k n hs) line p d rate shown q in
+        commit-next line p d rate shown (order-granted (stationOf s k n hs) line p d rate (g .0) .time-low) (g .1)
     granted-next (move target list) q =
-        let h : k ≤ target = move-granted (stationOf s k os hs) target list q .not-back in
+        let h : k ≤ target = move-granted (stationOf s k n hs) target list q .not-back in
         record {
           now = hs;
+          next = n;
           later = h;
-          station = rw (append-nil os, unfinished-later k target hs h);
+          station = rw (unfinished-later k target hs h);
           invariant =
               rw (append-nil os)
-              (after-move (limitsOf s) (s .tail) k os hs rs inv target _ h);
+              (after-move s k n os hs rs inv target _ h);
           grown = grown-refl k hs;
         }
     granted-next (offer ss) q = tested-next (offer ss) 0 (starts ss) ss (λ a. refl)
@@ -208,17 +210,18 @@ module _
         []
         (λ a. refl)
     granted-next (enquire ticket) q = stays (enquire ticket) _ refl refl
+    granted-next (board asked list) q = stays (board asked list) _ refl refl
 
-    step-next : (c : Call) → Next s k os hs rs c (step (stationOf s k os hs) c)
+    step-next : (c : Call) → Next s k n os hs rs c (step (stationOf s k n hs) c)
     step-next c =
-        go (firstOf (refusals (stationOf s k os hs) c))
-        (λ e. granted-next c (refusals-none (stationOf s k os hs) c e))
+        go (firstOf (refusals (stationOf s k n hs) c))
+        (λ e. granted-next c (refusals-none (stationOf s k n hs) c e))
       where
         go :
             (j : ℕ)
-            → (j ≡ 0 → Next s k os hs rs c (granted (stationOf s k os hs) c))
-            → Next s k os hs rs c
-            (answering j (stationOf s k os hs) (lent c) (granted (stationOf s k os hs) c))
+            → (j ≡ 0 → Next s k n os hs rs c (granted (stationOf s k n hs) c))
+            → Next s k n os hs rs c
+            (answering j (stationOf s k n hs) (lent c) (granted (stationOf s k n hs) c))
         go zero f = f refl
         go (suc j) f = stays c _ (refused-learnt k (suc j) c (lent c)) refl
 
@@ -227,8 +230,10 @@ module _
 -- what is known after some calls, and the history behind it
 pub record Known (s : State) (h : Past) (hs : List Charge) : Type 0 where
   pub tail : h .tail ≡ s .tail
-  pub station : h .station ≡ stationOf s (h .clock) (h .orders) hs
-  pub invariant : Invariant (limitsOf s) (s .tail) (h .clock) (h .orders) hs (h .reports)
+  -- the next ticket
+  pub next : ℕ
+  pub station : h .station ≡ stationOf s (h .clock) next hs
+  pub invariant : Invariant s (h .clock) next (h .orders) hs (h .reports)
 
 -- from one past to a later one
 pub record Reach (s : State) (h : Past) (hs : List Charge) (g : Past) : Type 0 where
@@ -242,11 +247,11 @@ reach-one :
     → Known s h hs
     → Reach s h hs (extended h c (step (h .station) c))
 reach-one s h hs c known =
-    let x : Next s (h .clock) (h .orders) hs (h .reports) c (step (h .station) c)
-    = rw (known .station) (step-next s (h .clock) (h .orders) hs (h .reports) (known .invariant) c) in
+    let x : Next s (h .clock) (known .next) (h .orders) hs (h .reports) c (step (h .station) c)
+    = rw (known .station) (step-next s (h .clock) (known .next) (h .orders) hs (h .reports) (known .invariant) c) in
     record {
       now = x .now;
-      known = record { tail = known .tail; station = x .station; invariant = x .invariant };
+      known = record { tail = known .tail; next = x .next; station = x .station; invariant = x .invariant };
       later = x .later;
       grown = x .grown;
     }

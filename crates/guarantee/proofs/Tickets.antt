@@ -12,9 +12,9 @@ use Rattle.rules.specs.Calls.{State, told, refused, waiting, charging, enquire,
 use Rattle.rules.specs.Valid.{Rising}
 use Rattle.rules.proofs.Ranges.{or-left, or-right}
 use Rattle.rules.proofs.Tickets.{rising-from}
-use Rattle.guarantee.specs.Past.{Order, Report, timesReported, reportedStart}
+use Rattle.guarantee.specs.Past.{Order, Report, ordersOf, timesReported, reportedStart}
 use Rattle.guarantee.proofs.Each.{each-two}
-use Rattle.guarantee.proofs.History.{Fit, ordersOf}
+use Rattle.guarantee.proofs.History.{Fit}
 use Rattle.guarantee.proofs.Reports.{Worth, sumReports, sumBegun}
 
 -- Rising tickets

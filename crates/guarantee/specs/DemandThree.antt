@@ -1,4 +1,4 @@
--- Demand 3 as one claim about the list of calls (docs/RULES.md, section 6).
+-- Demand 3 as one claim about the list of calls (docs/RULES.md, section 6): from an opening, and from any other station.
 use mathlib.Core.Path.{_≡_}
 use Prim.Native.Nat.{ℕ, _+_, _≤_, _<_}
 use mathlib.Core.Bool.{true}
@@ -7,15 +7,12 @@ use lib.Dec.{eqb}
 use Rattle.rules.specs.Basics.{Each, some}
 use Rattle.rules.specs.Load.{IsLine}
 use Rattle.rules.specs.Calls.{State, refused, waiting, charging, Call}
-use Rattle.guarantee.specs.Past.{Gives, Order, Past, past, timesReported, enquiry, startOf, endOf, activeUntil, countIn, Numbered, totalTime, lastMinute}
+use Rattle.guarantee.specs.Past.{Gives, Order, Past, past, timesReported, enquiry, startOf, endOf, activeUntil, countIn, ordersOf, Numbered, totalTime, lastMinute}
 
--- What is claimed of one accepted order.
+-- What is claimed of one accepted order, wherever the list began.
 pub record Kept (gives : Gives) (h : Past) (o : Order) : Type 0 where
   -- "not before its order minute"
   pub not-early : o .minute ≤ startOf gives h o
-  -- "No charge ends later than the last minute in which an order was accepted plus the charging times of all accepted orders",
-  -- with r for each of these
-  pub in-time : endOf gives h o ≤ lastMinute 0 (h .orders) + totalTime (h .tail) (h .orders)
   -- "An order whose start is below the clock has been reported once."
   pub reported : startOf gives h o < h .clock → timesReported (h .reports) (o .ticket) ≡ 1
   -- "Any other order has never been reported,"
@@ -34,7 +31,24 @@ pub record Kept (gives : Gives) (h : Past) (o : Order) : Type 0 where
 abbrev pub Unmoved : Gives → Past → Past → Order → Type 0
 Unmoved gives here there o = startOf gives here o < here .clock → startOf gives there o ≡ startOf gives here o
 
--- The whole claim, for a station, the list of calls made from it, and what a call gives.
+-- "No charge ends later than the last minute in which an order was accepted plus the charging times of all accepted orders",
+-- with r for each of these
+abbrev pub InTime : Gives → Past → Order → Type 0
+InTime gives h o = endOf gives h o ≤ lastMinute 0 (h .orders) + totalTime (h .tail) (h .orders)
+
+-- "No ticket but theirs has been reported."
+abbrev pub NoOther : Past → Type 0
+NoOther h = (t : ℕ) → 1 ≤ timesReported (h .reports) t → some (λ (o : Order). eqb (o .ticket) t) (h .orders) ≡ true
+
+-- "No start before the clock has ever changed." Claimed of every list this follows from `reported` after each first
+-- part, since reports are only added; of one list it says more.
+abbrev pub NoneMoved : Gives → State → List Call → Type 0
+NoneMoved gives s calls =
+    (part rest : List Call)
+    → calls ≡ part ++ rest
+    → Each (Unmoved gives (past gives s part) (past gives s calls)) (past gives s part .orders)
+
+-- The whole claim, for the station that an opening gave, the list of calls made from it, and what a call gives.
 pub record DemandThree (gives : Gives) (s : State) (calls : List Call) : Type 0 where
   -- "in every minute, gone or to come under the plan held, no line has more than its limit charging", of the weighted counts and
   -- with the tails counted
@@ -48,14 +62,28 @@ pub record DemandThree (gives : Gives) (s : State) (calls : List Call) : Type 0 
   -- "Each accepted order has exactly one charge": "tickets are 1, 2, 3 and so on in the order of acceptance"
   pub tickets : Numbered 1 (past gives s calls .orders)
   pub orders : Each (Kept gives (past gives s calls)) (past gives s calls .orders)
-  -- "No ticket but theirs has been reported."
-  pub no-other :
-      (t : ℕ)
-      → 1 ≤ timesReported (past gives s calls .reports) t
-      → some (λ (o : Order). eqb (o .ticket) t) (past gives s calls .orders) ≡ true
-  -- "No start before the clock has ever changed." Claimed of every list this follows from `reported` after each first
-  -- part, since reports are only added; of one list it says more.
-  pub unmoved :
-      (part rest : List Call)
-      → calls ≡ part ++ rest
-      → Each (Unmoved gives (past gives s part) (past gives s calls)) (past gives s part .orders)
+  pub in-time : Each (InTime gives (past gives s calls)) (past gives s calls .orders)
+  pub no-other : NoOther (past gives s calls)
+  pub unmoved : NoneMoved gives s calls
+
+-- "from its clock on"
+abbrev pub Since : State → ℕ → Type 0
+Since s t = s .clock ≤ t
+
+-- The claim for any other valid station that a list of calls begins with: "for an image from elsewhere, limit and balance hold
+-- from its clock on, with the charges it holds counted too, their lines, times and rates, and the starts of those begun, as it
+-- has them" (`beginning`). What went before is not known, so no ceiling on ends is claimed.
+pub record DemandThreeFrom (gives : Gives) (s : State) (calls : List Call) : Type 0 where
+  pub limit : (l t : ℕ) → IsLine l → Since s t → countIn gives (past gives s calls) l t ≤ s .limit
+  pub balance :
+      (l m t : ℕ)
+      → IsLine l
+      → IsLine m
+      → Since s t
+      → countIn gives (past gives s calls) l t ≤ countIn gives (past gives s calls) m t + s .bound
+  -- the orders accepted by the calls get the tickets from its next one on
+  pub tickets :
+      (new : List Order) × (past gives s calls .orders ≡ ordersOf (s .charges) ++ new) × Numbered (s .next) new
+  pub orders : Each (Kept gives (past gives s calls)) (past gives s calls .orders)
+  pub no-other : NoOther (past gives s calls)
+  pub unmoved : NoneMoved gives s calls

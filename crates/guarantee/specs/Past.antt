@@ -6,7 +6,8 @@ use mathlib.Core.Bool.{Bool, true, false, cond}
 use mathlib.Core.List.{List, [], _∷_, _++_, map}
 use lib.Dec.{eqb}
 use Rattle.rules.specs.Load.{draw, Load, loadFrom, count}
-use Rattle.rules.specs.Calls.{State, Answer, refused, opened, previewed, committed, moved, planned, waiting, charging, Result, Call, preview, commit, move, offer, replanLatest, replanLines, enquire}
+use Rattle.rules.specs.Charge.{Charge, begunCharges}
+use Rattle.rules.specs.Calls.{State, Answer, refused, opened, previewed, committed, moved, planned, waiting, charging, looked, Result, Call, preview, commit, move, offer, replanLatest, replanLines, enquire, board}
 
 -- An accepted order: its ticket is that of the answer. "Its order minute is the clock at that moment; its line and p are
 -- those passed in", and so is its rate.
@@ -45,6 +46,7 @@ said (moved n m) = says false [] n 0
 said (planned c b a n) = says false [] 0 0
 said (waiting s rate) = says false [] 0 s
 said (charging s e rate) = says false [] 0 s
+said (looked n) = says false [] 0 0
 
 abbrev pub isRefused : Answer → Bool
 isRefused a = said a .refuses
@@ -92,6 +94,7 @@ learnt clock (offer ss) a list = nothingNew clock
 learnt clock replanLatest a list = nothingNew clock
 learnt clock (replanLines allowance) a list = nothingNew clock
 learnt clock (enquire ticket) a list = nothingNew clock
+learnt clock (board asked lent) a list = nothingNew clock
 
 -- What is known after a list of calls
 
@@ -99,7 +102,8 @@ learnt clock (enquire ticket) a list = nothingNew clock
 abbrev pub Gives : Type 0
 Gives = State → Call → Result
 
--- r as it was opened with, the clock, all accepted orders and all reports, in the order of the calls;
+-- r as it was opened with, the clock, all accepted orders and all reports, in the order of the calls, behind what the station
+-- held at the beginning;
 -- the station left serves for the next call and for enquiries only
 pub record Past : Type 0 where
   pub tail : ℕ
@@ -108,9 +112,28 @@ pub record Past : Type 0 where
   pub reports : List Report
   pub station : State
 
--- "0 before one"
+-- the order that a charge stands for, and the pair that reports it
+abbrev pub orderOf : Charge → Order
+orderOf c = record { ticket = c .ticket; line = c .line; minute = c .orderMinute; time = c .time; rate = c .rate }
+
+abbrev pub ordersOf : List Charge → List Order
+ordersOf cs = map orderOf cs
+
+abbrev pub reportOf : Charge → Report
+reportOf c = record { ticket = c .ticket; start = c .start }
+
+-- An opening gives clock "0 before one" and no charges, so that nothing is known before the first call. A list of calls may begin
+-- with another station, "with the charges it holds counted too, their lines, times and rates, and the starts of those begun,
+-- as it has them".
 abbrev pub beginning : State → Past
-beginning s = record { tail = s .tail; clock = 0; orders = []; reports = []; station = s }
+beginning s =
+    record {
+      tail = s .tail;
+      clock = s .clock;
+      orders = ordersOf (s .charges);
+      reports = map reportOf (begunCharges (s .clock) (s .charges));
+      station = s;
+    }
 
 abbrev pub extended : Past → Call → Result → Past
 extended h c r =

@@ -19,8 +19,7 @@ use Rattle.profile.specs.declared.Profile.{Profile}
 use Rattle.profile.specs.Shows.{LoadAdded, CanAdd}
 use Rattle.profile.proofs.Shown.{last-added, added-shows}
 use Rattle.planner.specs.Ready.{begunOf}
-use Rattle.planner.specs.Placed.{PlanShown}
-use Rattle.planner.specs.Lines.{Missing}
+use Rattle.planner.specs.Placed.{Missing, PlanShown}
 use Rattle.planner.proofs.Placing.{start-last, start-other}
 use Rattle.planner.proofs.Profiles.{shown-can-add}
 use Rattle.planner.proofs.Queueing.{places-apart}

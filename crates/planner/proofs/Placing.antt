@@ -11,7 +11,7 @@ use Rattle.rules.specs.Load.{active, count}
 use Rattle.rules.specs.Charge.{Charge, starting, loadOf, loadsOf}
 use Rattle.rules.specs.Replan.{all, stuck, placeAll, startIn, placedActive}
 use Rattle.profile.specs.Shows.{Rated}
-use Rattle.planner.specs.Lines.{Missing}
+use Rattle.planner.specs.Placed.{Missing}
 
 -- One charge more
 

@@ -19,8 +19,7 @@ use Rattle.profile.specs.declared.Profile.{Profile}
 use Rattle.profile.specs.Shows.{Shows, LoadAdded, CanAdd}
 use Rattle.search.specs.Starts.{CanStart}
 use Rattle.planner.specs.Ready.{begunOf}
-use Rattle.planner.specs.Placed.{PlanShown, AllPlaced}
-use Rattle.planner.specs.Lines.{Missing}
+use Rattle.planner.specs.Placed.{Missing, PlanShown, AllPlaced}
 use Rattle.planner.proofs.Placing.{place-none, place-on, place-stuck}
 use Rattle.planner.proofs.Profiles.{shown-can-start}
 use Rattle.planner.proofs.Queueing.{chargeIn, queueFrom, Queue, places-apart}

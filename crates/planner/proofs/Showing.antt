@@ -9,7 +9,7 @@ use borrow.Author.Tests.{lt-ltb, le-ltb}
 use Rattle.rules.specs.Basics.{Each, tabulate, keep}
 use Rattle.rules.specs.Load.{IsRate, lastUntil}
 use Rattle.rules.specs.Charge.{Charge, activeUntil, loadOf, loadsOf, lastEnd, isBegun, begunCharges, waitingCharges}
-use Rattle.rules.proofs.Lists.{map-append, length-tabulate, each-tabulate, keep-each}
+use Rattle.rules.proofs.Lists.{map-append, length-tabulate, each-tabulate}
 use Rattle.charges.specs.declared.Charges.{Charges}
 use Rattle.charges.specs.Arrays.{chargeAt, chargesOf}
 use Rattle.charges.specs.Held.{Listed}
@@ -17,7 +17,7 @@ use Rattle.charges.proofs.Walking.{keep-hit, keep-miss, keep-length}
 use Rattle.profile.specs.declared.Profile.{Profile}
 use Rattle.profile.specs.Shows.{Shows, LoadAdded, CanAdd}
 use Rattle.profile.proofs.Shown.{added-shows}
-use Rattle.rules.proofs.Ends.{until-each}
+use Rattle.rules.proofs.Ends.{until-each, until-kept}
 use Rattle.planner.specs.Ready.{EndsFit, Rated}
 use Rattle.planner.proofs.Causes.{last-below}
 use Rattle.planner.proofs.Profiles.{shown-can-add}
@@ -54,14 +54,16 @@ last-end-most {c} h =
     omega (arith, s .start-most, s .time-most))
 
 -- and nothing is drawn behind them, but for one charging time and its tail
-pub begun-end-most : {c : Charges} → Listed c → (clock : ℕ) → lastUntil (loadsOf (begunCharges clock (chargesOf c))) ≤ 100001445
-begun-end-most {c} h clock =
-    until-each 100001445 (begunCharges clock (chargesOf c))
-    (keep-each (λ x. activeUntil x ≤ 100001445) (isBegun clock) (chargesOf c)
+pub held-end-most : {c : Charges} → Listed c → lastUntil (loadsOf (chargesOf c)) ≤ 100001445
+held-end-most {c} h =
+    until-each 100001445 (chargesOf c)
     (each-tabulate (λ x. activeUntil x ≤ 100001445) (chargeAt c) (c .held) 0
     (λ i p q.
     let s = h .small i (omega arith) in
-    omega (arith, s .start-most, s .active-most))))
+    omega (arith, s .start-most, s .active-most)))
+
+pub begun-end-most : {c : Charges} → Listed c → (clock : ℕ) → lastUntil (loadsOf (begunCharges clock (chargesOf c))) ≤ 100001445
+begun-end-most {c} h clock = omega (arith, held-end-most h, until-kept (isBegun clock) (chargesOf c))
 
 -- every end is a number of 32 bits
 pub listed-ends : {c : Charges} → Listed c → EndsFit c

@@ -3,6 +3,7 @@ use mathlib.Core.Path.{_≡_}
 use Prim.Native.Nat.{ℕ, _*_, max, _+_, _≤_}
 use mathlib.Core.List.{List, _++_}
 use lib.ListN.{length}
+use Rattle.rules.specs.Basics.{Each}
 use Rattle.rules.specs.Load.{lastUntil}
 use Rattle.rules.specs.Charge.{Charge, loadsOf}
 use Rattle.rules.specs.Replan.{Placed, all}
@@ -11,6 +12,10 @@ use Rattle.profile.specs.declared.Profile.{Profile}
 use Rattle.profile.specs.Shows.{Shows}
 use Rattle.planner.specs.Starts.{Stored}
 use Rattle.planner.specs.Ready.{begunOf}
+
+-- no charge with this ticket is placed
+abbrev pub Missing : ℕ → List Charge → Type 0
+Missing t placed = Each (λ x. x .ticket ≡ t → ⊥) placed
 
 -- the plan of the begun charges and those placed so far
 pub record PlanShown (clock : ℕ) (c : Charges) (placed : List Charge) (p : Profile) (byPlace : List ℕ) : Type 0 where

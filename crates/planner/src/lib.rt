@@ -1,10 +1,7 @@
-// Both replans and the test of a plan.
+// The profile of the begun charges, replan by latest start and the test of a plan.
 pub mod begun;
 pub mod judge;
 pub mod latest;
-pub mod lines;
-pub mod next;
-pub mod rounds;
 
 use charges::Charges;
 use charges::PLACES;
@@ -20,7 +17,7 @@ pub struct Proposed {
 
 impl Proposed {
     // No starts.
-    fn none(cause: u32) -> Proposed
+    pub fn none(cause: u32) -> Proposed
         ensures { λ r. ⌜ (r .cause ≡ cause) × Filled 0 (r .starts) ⌝ }
     {
         let starts = [0; PLACES];
@@ -29,7 +26,7 @@ impl Proposed {
 }
 
 // The starts of the waiting charges, in ticket order, from those that stand at the charges' places.
-fn waiting_starts(charges: Charges, clock: u32, by_place: [u32; PLACES]) -> [u32; PLACES]
+pub fn waiting_starts(charges: Charges, clock: u32, by_place: [u32; PLACES]) -> [u32; PLACES]
     requires { ⌜ Columns charges ⌝ }
     ensures { λ r. ⌜ WaitingStarts clock charges «by_place» r ⌝ }
 {

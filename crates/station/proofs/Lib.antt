@@ -1,10 +1,9 @@
 pub mod Refusing
 pub mod Listing
-pub mod Windows
 pub mod Opened
 pub mod Enquiring
+pub mod OnTheBoard
 pub mod Ordered
 pub mod Planned
-pub mod Applying
 pub mod Moved
 pub mod Determined

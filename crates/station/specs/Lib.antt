@@ -1,4 +1,2 @@
 pub mod View
-pub mod Windows
 pub mod Answers
-pub mod Applied

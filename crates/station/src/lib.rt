@@ -1,11 +1,10 @@
 // A charging station by value, and its calls.
-pub mod calls;
+pub mod board;
 pub mod clock;
 pub mod enquiry;
 pub mod open;
 pub mod order;
 pub mod plan;
-mod window;
 
 pub struct Station {
     pub limit: u32,

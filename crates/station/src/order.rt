@@ -1,21 +1,14 @@
 // An order, which is previewed and committed: the smallest start with which the held plan and the new charge are sound together.
 use crate::Station;
-use crate::window::add_started;
-use profile::Profile;
+use orders::start::earliest_start;
 use search::candidate::Draw;
 use search::candidate::Limits;
-use search::candidate::first_fitting;
 ghost use mathlib.Core.Path.{_≡_};
 ghost use mathlib.Core.List.{[]};
-ghost use Rattle.rules.specs.Basics.{at as found, firstOf};
-ghost use Rattle.rules.specs.Calls.{startFor, orderRefusals, preview as previewCall, commit as commitCall, step};
-ghost use Rattle.search.specs.Candidates.{drawOf};
+ghost use Rattle.rules.specs.Basics.{firstOf};
+ghost use Rattle.rules.specs.Calls.{orderRefusals, preview as previewCall, commit as commitCall, step};
 ghost use Rattle.station.specs.View.{view, Valid};
-ghost use Rattle.station.specs.Windows.{Fits};
 ghost use Rattle.station.specs.Answers.{Gives, previewAnswer, commitAnswer};
-
-// So many minutes more than twice as far as the last one a window reaches.
-const WIDER: u32 = 240;
 
 pub enum PreviewAnswer {
     Previewed(u32),
@@ -79,36 +72,6 @@ impl Station {
         0
     }
 
-    // The smallest start with which the held plan and what is drawn are sound together. The first window ends with a charge
-    // that starts at the clock. Where it shows no start, the charges that begin in the next one are added, which reaches more
-    // than twice as far.
-    fn earliest_start(self, draw: Draw) -> u32
-        requires { ⌜ Valid self × Fits self draw ⌝ }
-        ensures { λ r. ⌜ startFor (view self) (drawOf draw) ≡ found r ⌝ }
-    {
-        let clock = self.clock;
-        let limits = Limits {
-            limit: self.limit,
-            bound: self.bound,
-        };
-        let empty = Profile::new(clock);
-        let mut steps = empty.steps;
-        let mut at = empty.at;
-        let mut counts = empty.counts;
-        let mut start = clock;
-        let mut low = 0;
-        let mut until = clock + draw.time;
-        loop {
-            steps = add_started(&mut at, &mut counts, steps, self.charges, low, until);
-            start = first_fitting(&at, &counts, steps, limits, draw, start, until);
-            if start + draw.time <= until {
-                return start;
-            }
-            low = until;
-            until = start + draw.time + (until - clock) + WIDER;
-        }
-    }
-
     // The one search of both calls: the first refusal of an order, or its start.
     fn start_for(self, line: u32, time: u32, due: u32, rate: u32) -> PreviewAnswer
         requires { ⌜ Valid self ⌝ }
@@ -119,12 +82,16 @@ impl Station {
             return PreviewAnswer::Refused(refusal);
         }
         let active_time = time + self.tail;
+        let limits = Limits {
+            limit: self.limit,
+            bound: self.bound,
+        };
         let draw = Draw {
             line,
             time: active_time,
             rate,
         };
-        PreviewAnswer::Previewed(self.earliest_start(draw))
+        PreviewAnswer::Previewed(earliest_start(self.charges, self.clock, limits, draw))
     }
 
     // The station stays as it is.

@@ -1,9 +1,9 @@
 // Offers and both replans: a list of starts, and the test that all three end with.
 use crate::Station;
+use lines::rounds::by_lines;
 use planner::Proposed;
 use planner::judge::judged;
 use planner::latest::latest;
-use planner::rounds::by_lines;
 ghost use mathlib.Core.Path.{_≡_};
 ghost use mathlib.Core.List.{[]};
 ghost use Prim.Native.Nat.{_≤_};

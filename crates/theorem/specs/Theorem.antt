@@ -1,7 +1,7 @@
 -- The theorem about the program that is run. Read this file first: it says of which calls the rest is true.
 --
 -- A station is opened by `Station::open` (crates/station/src/open.rt) with any limit and percentage. Then calls are made through
--- `Station::apply` (crates/station/src/calls.rt), any calls with any numbers and any lists, each on the station that the
+-- `apply` (crates/calls/src/lib.rt), any calls with any numbers and any lists, each on the station that the
 -- last one handed back. `MeetsOpen` and `MeetsApply` below are the contracts of the two: src/lib.rt calls them, and the
 -- checker has proved there that what they give meets these. Nothing else is asked of the code.
 use mathlib.Core.Path.{_≡_}
@@ -16,31 +16,31 @@ use Rattle.guarantee.specs.DemandTwo.{DemandTwo}
 use Rattle.guarantee.specs.DemandThree.{DemandThree}
 use Rattle.station.specs.declared.Station.{Station}
 use Rattle.station.specs.declared.open.OpenAnswer.{OpenAnswer}
-use Rattle.station.specs.declared.calls.Call.{Call}
-use Rattle.station.specs.declared.calls.Answer.{Answer}
-use Rattle.station.specs.declared.calls.Applied.{Applied}
+use Rattle.calls.specs.declared.Call.{Call}
+use Rattle.calls.specs.declared.Answer.{Answer}
+use Rattle.calls.specs.declared.Applied.{Applied}
 use Rattle.station.specs.View.{view, Valid}
 use Rattle.station.specs.Answers.{giving, Gives, openAnswer}
-use Rattle.station.specs.Applied.{callOf, listAfter, answerOf, Applies}
+use Rattle.calls.specs.Applied.{callOf, listAfter, answerOf, Applies}
 
 -- One call made through `apply`: what was passed in, and what came back.
 pub record Made : Type 0 where
   pub call : Call
-  -- the list that an offer reads
-  pub starts : List ℕ
-  -- the report list before the call and after it
-  pub report : List ℕ
-  pub reported : List ℕ
+  -- the list that an offer or a board reads
+  pub numbers : List ℕ
+  -- the list that a clock move or a board writes, before the call and after it
+  pub list : List ℕ
+  pub written : List ℕ
   pub answer : Answer
   pub station : Station
 
 abbrev pub made : Call → List ℕ → List ℕ → List ℕ → Applied → Made
-made call starts report reported r =
+made call numbers list written r =
     record {
       call = call;
-      starts = starts;
-      report = report;
-      reported = reported;
+      numbers = numbers;
+      list = list;
+      written = written;
       answer = r .answer;
       station = r .station;
     }
@@ -52,7 +52,7 @@ MeetsOpen x answer first = Gives (opening x) (openAnswer answer) first []
 -- The contract of `apply`: it asks a valid station.
 abbrev pub MeetsApply : Station → Made → Type 0
 MeetsApply s m =
-    Valid s → Applies (view s) (m .call) (m .starts) (m .report) (m .reported) (m .answer) (m .station)
+    Valid s → Applies (view s) (m .call) (m .numbers) (m .list) (m .written) (m .answer) (m .station)
 
 -- "Each call gets the station that the last one left, and nobody else writes it meanwhile."
 abbrev pub Chain : Station → List Made → Type 0
@@ -61,10 +61,10 @@ Chain s (m ∷ ms) = MeetsApply s m × Chain (m .station) ms
 
 -- a call in the words of the rules, with the list lent to it, and what it gave
 abbrev pub callMade : Made → rules.Call
-callMade m = callOf (m .call) (m .starts) (m .report)
+callMade m = callOf (m .call) (m .numbers) (m .list)
 
 abbrev pub given : Made → Result
-given m = giving (answerOf (m .answer)) (m .station) (listAfter (m .call) (m .starts) (m .reported))
+given m = giving (answerOf (m .answer)) (m .station) (listAfter (m .call) (m .numbers) (m .written))
 
 -- the station that the calls left
 abbrev pub left : Station → List Made → Station

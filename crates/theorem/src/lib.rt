@@ -1,7 +1,7 @@
 // The calls of which the theorem in specs/Theorem.antt speaks: the checker holds it here to the contracts of `open` and `apply`.
+use calls::Applied;
+use calls::Call;
 use station::Station;
-use station::calls::Applied;
-use station::calls::Call;
 use station::open::Opening;
 use station::open::Settings;
 ghost use Rattle.station.specs.View.{Valid};
@@ -14,9 +14,9 @@ pub fn open(settings: Settings) -> Opening
     Station::open(settings)
 }
 
-pub fn apply(station: Station, call: Call, starts: &[u32], report: &mut [u32]) -> Applied
+pub fn apply(station: Station, call: Call, numbers: &[u32], list: &mut [u32]) -> Applied
     requires { ⌜ Valid station ⌝ }
-    ensures { λ r. ⌜ MeetsApply station (made call (now (starts .entry)) (now (report .entry)) (now (report .exit)) r) ⌝ }
+    ensures { λ r. ⌜ MeetsApply station (made call (now (numbers .entry)) (now (list .entry)) (now (list .exit)) r) ⌝ }
 {
-    station.apply(call, starts, report)
+    calls::apply(station, call, numbers, list)
 }

@@ -63,8 +63,10 @@ impl Measured {
     /// So many turns that the program is busy for long enough.
     fn turns(&self, pair: &Pair) -> Result<usize, String> {
         let mut turns = 1;
+        // What makes the station once is not what is measured.
+        let first = if self.anew { 0.0 } else { pair.once(&self.first)? };
         for _ in 0..3 {
-            let seconds = pair.once(&self.scripts(turns)[0])?.max(1e-4);
+            let seconds = (pair.once(&self.scripts(turns)[0])? - first).max(1e-4);
             turns = (turns as f64 * LONG_ENOUGH / seconds).ceil() as usize;
             turns = turns.clamp(1, MOST_TURNS);
         }
@@ -73,6 +75,11 @@ impl Measured {
 
     pub fn cost(&self, pair: &Pair) -> Result<Cost, String> {
         pair.answers(&self.scripts(1)[0])?;
+        self.times(pair)
+    }
+
+    /// The same of programs whose answers need not be alike.
+    pub fn times(&self, pair: &Pair) -> Result<Cost, String> {
         let turns = self.turns(pair)?;
         let [with, without] = self.scripts(turns);
         let calls = (turns * self.calls) as f64;
@@ -132,6 +139,23 @@ pub fn worst_commit(held: usize) -> Measured {
     Measured::last_commits(states::dense(held - last).0, states::behind_dense(last as u32))
 }
 
+/// An opening, whatever stood there before.
+pub fn opening() -> Measured {
+    Measured::repeatable(states::lasting(1), states::opening())
+}
+
+/// A move that goes nowhere.
+pub fn typical_move(held: usize) -> Measured {
+    let call = Call::Move { target: 0, places: 360 };
+    Measured::repeatable(states::lasting(held), write_call(&call).into_bytes())
+}
+
+/// For the middle one of the charges held.
+pub fn typical_enquiry(held: usize) -> Measured {
+    let call = Call::Enquire { ticket: held as u32 / 2 };
+    Measured::repeatable(states::lasting(held), write_call(&call).into_bytes())
+}
+
 /// Unlike a commit it can be asked for again on the same full plan.
 pub fn worst_preview(held: usize) -> Measured {
     Measured::repeatable(states::dense(held - 1).0, states::preview_behind_dense())
@@ -144,6 +168,13 @@ pub fn typical_preview(held: usize) -> Measured {
 /// A preview that finds room at once, before all charges held but the first.
 pub fn preview_before_all(held: usize) -> Measured {
     Measured::repeatable(states::behind(held - 1), states::preview_at_once())
+}
+
+/// A board of so many tickets at a full station, spread evenly over those held.
+pub fn board(asked: usize) -> Measured {
+    let tickets = (1..=asked).map(|place| (180 * place / asked) as u32).collect();
+    let call = Call::Board { places: asked as u32, tickets };
+    Measured::repeatable(states::peak(180), write_call(&call).into_bytes())
 }
 
 pub fn worst_latest() -> Measured {
@@ -211,6 +242,18 @@ mod tests {
                 assert_eq!(last(measured), Some("start 0".to_string()));
             }
             assert_eq!(last(worst_preview(held)), Some("start 2880".to_string()));
+        }
+    }
+
+    /// The last ticket is the last one held, so each board walks over all charges.
+    #[test]
+    fn boards_of_held_tickets() {
+        for asked in [1, 20, 180] {
+            let answers = answers_of(Station::fresh(1, 100, 0), &board(asked).scripts(2)[0]);
+            let last = show(&answers[answers.len() - 1]);
+            assert!(last.starts_with("board 180 "), "{last}");
+            assert!(!last.contains("4294967295"), "{last}");
+            assert_eq!(last.split(' ').count(), 2 + asked);
         }
     }
 

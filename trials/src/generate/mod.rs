@@ -3,6 +3,7 @@
 //! follow each other in one run of a program.
 
 mod author;
+mod boards;
 pub mod cars;
 mod commits;
 mod due;
@@ -29,7 +30,8 @@ mod unopened;
 mod weights;
 
 use crate::random::Random;
-use crate::script::Script;
+use crate::reference::Station;
+use crate::script::{Line, Script};
 use author::Author;
 
 /// A kind of script: its name, its share among the shares of all kinds, and who
@@ -40,7 +42,7 @@ pub struct Kind {
     write: fn(&mut Author),
 }
 
-pub const KINDS: [Kind; 21] = [
+pub const KINDS: [Kind; 22] = [
     Kind { name: "edges", share: 15, write: edges::write },
     Kind { name: "mixed", share: 24, write: mixed::write },
     Kind { name: "offers", share: 15, write: offers::write },
@@ -58,6 +60,7 @@ pub const KINDS: [Kind; 21] = [
     Kind { name: "weights", share: 5, write: weights::write },
     Kind { name: "searches", share: 8, write: searches::write },
     Kind { name: "tails", share: 15, write: tails::write },
+    Kind { name: "boards", share: 8, write: boards::write },
     // These are long and come once in a thousand, at turns of their own.
     Kind { name: "tickets", share: 0, write: tickets::write },
     Kind { name: "spent", share: 0, write: spent::write },
@@ -84,6 +87,16 @@ pub fn script(seed: u64, number: u64) -> Script {
 /// A script of one kind.
 pub fn script_of_kind(name: &str, seed: u64, number: u64) -> Option<Script> {
     Some(write(named(name)?, number, Random::of_script(seed, number)))
+}
+
+/// So many calls of all sorts from a station on, without an opening.
+pub fn continuing(station: Station, random: &mut Random, calls: u64) -> Vec<Line> {
+    let mut author = Author::from_station(station, Random::new(random.draw()));
+    let longest = random.pick(&[3, 12, 60, 400]);
+    for _ in 0..calls {
+        mixed::one_call(&mut author, longest);
+    }
+    author.lines_so_far()
 }
 
 fn named(name: &str) -> Option<&'static Kind> {

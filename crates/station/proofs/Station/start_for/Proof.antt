@@ -4,6 +4,7 @@ use Rattle.rules.specs.Basics.{at}
 use Rattle.rules.specs.Calls.{preview, drawFor, startFor}
 use Rattle.rules.proofs.Granted.{refusals-none}
 use Rattle.station.specs.View.{view}
+use Rattle.station.proofs.Listing.{valid-listed}
 use Rattle.station.proofs.Ordered.{Orderable, orderable, shown-refused, shown-found}
 use borrow.Author.Needs.{needs}
 use Rattle.station.proofs.Station.start_for.Statement.{statement}
@@ -34,16 +35,18 @@ add-active-time c = omega (arith, granted (c .before) .active-most)
 
 earliest-start-requires : tie.Need-earliest-start-requires
 earliest-start-requires c κs =
-    let g = granted (c .before) in (
-      c .before .before .before .pre,
-      record {
-        some = omega (arith, g .some);
-        time-most = omega (arith, g .time-most, g .active-most);
-        is-rate = g .is-rate;
-        within-limit = g .within-limit;
-        within-bound = g .within-bound;
-      },
-    )
+    let s = c .before .before .before in
+    let g = granted (c .before) in
+    record {
+      listed = valid-listed (s .args .self) (s .pre);
+      clock-most = s .pre .state .clock-high;
+      sound-on = s .pre .state .sound-on;
+      some = omega (arith, g .some);
+      time-most = omega (arith, g .time-most, g .active-most);
+      is-rate = g .is-rate;
+      within-limit = g .within-limit;
+      within-bound = g .within-bound;
+    }
 
 returns-2 : tie.Need-returns-2
 returns-2 c =

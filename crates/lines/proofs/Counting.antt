@@ -1,0 +1,120 @@
+-- The rounds of replan by lines: what one more does, and the loop over them.
+use mathlib.Core.Path.{_≡_, refl, _∙_}
+use Prim.Native.Nat.{ℕ, zero, suc, _+_, _-_, _≤_, _<_}
+use native.Mathlib.Omega.{arith}
+use native.Mathlib.Numerals.{add-one}
+use Rattle.rules.specs.Search.{Caps}
+use Rattle.rules.specs.Load.{limits}
+use Rattle.rules.specs.Replan.{Proposal, none, Outcome, ends, lowers, lowered, round, Replanned, roundsFrom, byLines}
+use Rattle.rules.proofs.Rounds.{lowered-at-least}
+use Rattle.charges.specs.declared.Charges.{Charges}
+use Rattle.charges.specs.Arrays.{chargeAt, chargesOf, Filled}
+use Rattle.search.specs.declared.caps.LineCaps.{LineCaps}
+use Rattle.search.specs.Caps.{CapsShown, LoweredAt}
+use Rattle.lines.specs.declared.rounds.Outcome.the-variants.{Ends, Lowers}
+use Rattle.planner.specs.declared.Proposed.{Proposed}
+use Rattle.lines.specs.declared.rounds.Round.{Round}
+use Rattle.planner.specs.Starts.{waitingCount}
+use Rattle.planner.specs.Ready.{Ready}
+use Rattle.lines.specs.Lines.{Capped}
+use Rattle.planner.specs.Answers.{proposalOf}
+use Rattle.lines.specs.Rounds.{Plays, Replans}
+
+abbrev pub replanned : Proposal → ℕ → Replanned
+replanned p made = record { proposal = p; rounds = made }
+
+module _ (play : Caps → Outcome) (made : ℕ) (cap : Caps) where
+  rounds-end :
+      (left : ℕ) (p : Proposal) → play cap ≡ ends p → roundsFrom play left made cap ≡ replanned p made
+  unfolding roundsFrom
+  rounds-end zero p e = rw (e, roundsFrom)
+  rounds-end (suc left) p e = rw (e, roundsFrom)
+
+  rounds-over : (i t v : ℕ) → play cap ≡ lowers i t v → roundsFrom play 0 made cap ≡ replanned (none 2) made
+  unfolding roundsFrom
+  rounds-over i t v e = rw (e, roundsFrom)
+
+  rounds-on :
+      (left i t v : ℕ)
+      → play cap ≡ lowers i t v
+      → roundsFrom play (suc left) made cap ≡ roundsFrom play left (suc made) (lowered cap i t v)
+  unfolding roundsFrom
+  rounds-on left i t v e = rw (e, roundsFrom)
+
+-- What is left of the rounds, from the caps as they stand, is the whole
+
+pub record Rounds (limit bound clock allowance : ℕ) (c : Charges) (caps : LineCaps) (made : ℕ) : Type 0 where
+  pub cap : Caps
+  pub shown : CapsShown caps cap
+  pub enough : (i : ℕ) → i < c .held → (l t : ℕ) → chargeAt c i .rate ≤ cap l t
+  pub whole :
+      byLines (limits limit bound) clock allowance (chargesOf c)
+      ≡ roundsFrom (round (limits limit bound) clock (chargesOf c)) (allowance - made) made cap
+
+pub rounds-capped :
+    {limit bound clock allowance : ℕ} {c : Charges} {caps : LineCaps} {made : ℕ}
+    → Rounds limit bound clock allowance c caps made
+    → Capped c caps
+rounds-capped v = record { cap = v .cap; shown = v .shown; enough = v .enough }
+
+pub rounds-start :
+    {limit bound clock : ℕ} {c : Charges} {caps : LineCaps} (allowance : ℕ)
+    → Ready clock limit bound c
+    → CapsShown caps (λ l t. limit)
+    → Rounds limit bound clock allowance c caps 1
+unfolding byLines
+rounds-start allowance r s = record { cap = _; shown = s; enough = λ i h l t. r .within-limit i h; whole = refl }
+
+module _ {limit bound clock allowance : ℕ} {c : Charges} {caps : LineCaps} {made : ℕ} (v : Rounds limit bound clock allowance c caps made)
+    {r : Round} (h : Plays limit bound clock c caps r) where
+  pub rounds-done :
+      r .outcome ≡ Ends
+      → Replans clock c (byLines (limits limit bound) clock allowance (chargesOf c))
+      (record { proposed = r .proposed; rounds = made })
+  rounds-done e =
+      record {
+        same =
+            v .whole
+            ∙ rounds-end (round (limits limit bound) clock (chargesOf c)) made (v .cap) (allowance - made)
+            (proposalOf (waitingCount clock c) (r .proposed))
+            (h .same (v .cap) (v .shown) ∙ rw e);
+        filled = h .filled;
+      }
+
+  module _ {i t x : ℕ} (e : r .outcome ≡ Lowers i t x) where
+    pub lowers-fit : (t < 4294967295) × (bound ≤ x)
+    lowers-fit = rw e at (h .fits)
+
+    pub rounds-spent :
+        {p : Proposed}
+        → allowance ≤ made
+        → p .cause ≡ 2
+        → Filled 0 (p .starts)
+        → Replans clock c (byLines (limits limit bound) clock allowance (chargesOf c)) (record { proposed = p; rounds = made })
+    rounds-spent {p} l k zeros =
+        let none-left : allowance - made ≡ 0 = omega arith in
+        record {
+          same =
+              v .whole
+              ∙ rw (none-left, k)
+              (rounds-over (round (limits limit bound) clock (chargesOf c)) made (v .cap) i t x
+              (h .same (v .cap) (v .shown) ∙ rw e));
+          filled = rw k zeros;
+        }
+
+    pub rounds-next :
+        {next : LineCaps} → Ready clock limit bound c → made < allowance → LoweredAt caps next i t x → Rounds limit bound clock allowance c next (made + 1)
+    rounds-next {next} ready l low =
+        let more : allowance - made ≡ suc (allowance - (made + 1)) = omega arith in
+        record {
+          cap = lowered (v .cap) i t x;
+          shown = low (v .cap) (v .shown);
+          enough =
+              λ j h.
+              lowered-at-least (chargeAt c j .rate) (v .cap) i t x (omega (arith, lowers-fit .1, ready .within-bound j h)) (v .enough j h);
+          whole =
+              v .whole
+              ∙ rw (more, add-one made)
+              (rounds-on (round (limits limit bound) clock (chargesOf c)) made (v .cap) (allowance - suc made) i t x
+              (h .same (v .cap) (v .shown) ∙ rw e));
+        }

@@ -1,0 +1,15 @@
+pub mod Extremes
+pub mod Nexts
+pub mod Rearranging
+pub mod Counting
+pub mod Lefts
+pub mod Takings
+pub mod Many
+pub mod LinePlans
+pub mod LineNumbers
+pub mod Beginning
+pub mod Following
+pub mod Continuing
+pub mod Ending
+pub mod Asking
+pub mod Playing

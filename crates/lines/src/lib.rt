@@ -1,0 +1,4 @@
+// Replan by lines.
+pub mod next;
+pub mod place;
+pub mod rounds;

@@ -1,0 +1,102 @@
+-- A window of a search for a start: the charges that begin before its end draw below it what all held ones do.
+use mathlib.Core.Path.{_≡_, refl, _∙_}
+use Prim.Native.Nat.{ℕ, _≤_, _<_}
+use mathlib.Core.List.{List, [], _++_}
+use native.Mathlib.Omega.{arith}
+use lib.ListN.{length, length-append}
+use borrow.Author.Tests.{le-ltb}
+use Rattle.rules.specs.Load.{Load, IsLine, count, lastUntil}
+use Rattle.rules.specs.Charge.{loadsOf, isBegun, begunCharges}
+use Rattle.rules.specs.Calls.{isPassed}
+use Rattle.rules.proofs.Lists.{length-tabulate, keep-none}
+use Rattle.rules.proofs.Counts.{count-append}
+use Rattle.rules.proofs.Ends.{until-kept}
+use Rattle.charges.specs.declared.Charges.{Charges}
+use Rattle.charges.specs.Arrays.{chargeAt, chargesOf}
+use Rattle.charges.specs.Held.{Listed}
+use Rattle.charges.proofs.Walking.{keep-length}
+use Rattle.profile.specs.declared.Profile.{Profile}
+use Rattle.profile.specs.Shows.{levelOf, Shows}
+use Rattle.planner.proofs.Showing.{length-loads-of, listed-ends, listed-rates}
+use Rattle.orders.specs.Windows.{started, CanAddStarted, StartedAdded}
+use Rattle.orders.proofs.Parts.{count-in-two, length-in-two, count-begun, last-append}
+
+-- p shows, in some order, the held charges that begin before `until`
+pub record Window (held : Charges) (clock until : ℕ) (p : Profile) : Type 0 where
+  pub loads : List Load
+  pub shows : Shows p clock loads
+  pub few : length loads ≡ length (begunCharges until (chargesOf held))
+  pub last : lastUntil loads ≤ lastUntil (loadsOf (chargesOf held))
+  pub alike : (l t : ℕ) → count loads l t ≡ count (loadsOf (begunCharges until (chargesOf held))) l t
+
+pub window-none : (held : Charges) (clock : ℕ) (p : Profile) → Shows p clock [] → Window held clock 0 p
+window-none held clock p h =
+    record {
+      loads = [];
+      shows = h;
+      few = rw none refl;
+      last = omega arith;
+      alike = λ l t. rw none refl;
+    }
+  where
+    none : begunCharges 0 (chargesOf held) ≡ []
+    none = keep-none (isBegun 0) (λ c. le-ltb (c .start) 0 (omega arith)) (chargesOf held)
+
+-- what `add_started` asks
+pub window-room : {held : Charges} {clock : ℕ} {p : Profile} {low high : ℕ} → Listed held → Window held clock low p → low ≤ high → CanAddStarted p held low high
+window-room {held} {clock} {p} {low} {high} v w h =
+    record {
+      held = v .columns .few;
+      ends = listed-ends v;
+      rated = listed-rates v;
+      room =
+          record {
+            clock = clock;
+            loads = w .loads;
+            shows = w .shows;
+            few =
+                omega (
+                  arith,
+                  w .few,
+                  length-in-two low high h (chargesOf held),
+                  keep-length (isBegun high) (chargesOf held),
+                  length-tabulate (chargeAt held) (held .held) 0,
+                  v .columns .few,
+                );
+          };
+    }
+
+pub window-on : {held : Charges} {clock : ℕ} {p q : Profile} {low high : ℕ} → Window held clock low p → low ≤ high → StartedAdded p q held low high → Window held clock high q
+window-on {held} {clock} {p} {q} {low} {high} w h a =
+    record {
+      loads = w .loads ++ loadsOf (started low high (chargesOf held));
+      shows = a clock (w .loads) (w .shows);
+      few =
+          omega (
+            arith,
+            w .few,
+            length-append (w .loads) (loadsOf (started low high (chargesOf held))),
+            length-loads-of (started low high (chargesOf held)),
+            length-in-two low high h (chargesOf held),
+          );
+      last =
+          omega (
+            arith,
+            w .last,
+            last-append (w .loads) (loadsOf (started low high (chargesOf held))),
+            until-kept (isPassed low high) (chargesOf held),
+          );
+      alike = λ l t.
+          omega (
+            arith,
+            w .alike l t,
+            count-append (w .loads) (loadsOf (started low high (chargesOf held))) l t,
+            count-in-two l t low high h (chargesOf held),
+          );
+    }
+
+-- below its end its levels are the counts of all held charges
+pub window-counts :
+    {held : Charges} {clock until : ℕ} {p : Profile} → Window held clock until p → (l t : ℕ) → IsLine l → clock ≤ t → t < until → levelOf p l t ≡ count (loadsOf (chargesOf held)) l t
+window-counts {held} {clock} {until} w l t i a b =
+    w .shows .counted l i t a ∙ w .alike l t ∙ count-begun until l t b (chargesOf held)

@@ -1,0 +1,6 @@
+pub mod Cases
+pub mod CasesElsewhere
+pub mod Elsewhere
+pub mod Together
+pub mod Restarts
+pub mod OnTheBus
