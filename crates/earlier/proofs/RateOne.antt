@@ -9,7 +9,7 @@ use Rattle.rules.specs.Basics.{Each, Found, at, nothing, firstOf}
 use Rattle.rules.specs.Charge.{loadsOf, isFinished}
 use Rattle.rules.specs.Replan.{Proposal, starts, none, latest, Replanned, byLines}
 use Rattle.rules.specs.Judgement.{judged}
-use Rattle.rules.specs.Calls.{State, limitsOf, Result, answering, Call, preview, commit, move, offer, replanLatest, replanLines, enquire, refusals, drawFor, startFor, previewedAt, previewing, committing, moving, decided, tested, offering, replanningLatest, replanningLines, enquiring, step, run}
+use Rattle.rules.specs.Calls.{State, limitsOf, Result, answering, Call, preview, commit, move, offer, replanLatest, replanLines, enquire, board, refusals, drawFor, startFor, previewedAt, previewing, committing, moving, decided, tested, offering, replanningLatest, replanningLines, enquiring, boarding, step, run}
 use Rattle.rules.specs.Valid.{ValidState}
 use Rattle.earlier.specs.Unrated.{testedBefore, startForBefore, stepBefore, runBefore, AtRateOne, StatesOne}
 use Rattle.rules.proofs.Lists.{each-append, keep-each}
@@ -47,6 +47,7 @@ module _ (s : State) (v : ValidState s) (one : AtRateOne (s .charges)) where
       (byLines (limitsOf s) (s .clock) allowance (s .charges) .proposal) []
       ∙ ap (λ (r : Replanned). testedBefore s (r .rounds) (r .proposal) []) (lines-is (limitsOf s) (s .clock) (s .charges) one allowance))
   step-is (enquire ticket) h = refl
+  step-is (board asked list) h = refl
 
 -- Rates stay 1
 
@@ -68,7 +69,7 @@ tested-one s rounds (starts ss) list e = go (judged (limitsOf s) (s .clock) (s .
 tested-one s rounds (none cause) list e = e
 
 step-one : (s : State) (c : Call) → StatesOne c → AtRateOne (s .charges) → AtRateOne (step s c .state .charges)
-unfolding previewing committing moving offering replanningLatest replanningLines enquiring
+unfolding previewing committing moving offering replanningLatest replanningLines enquiring boarding
 step-one s (preview line p d rate) h e =
     answering-one (firstOf (refusals s (preview line p d rate))) s [] _ e (go (startFor s (drawFor s line p rate)))
   where
@@ -89,6 +90,7 @@ step-one s (replanLines allowance) h e =
     (tested-one s (byLines (limitsOf s) (s .clock) allowance (s .charges) .rounds)
     (byLines (limitsOf s) (s .clock) allowance (s .charges) .proposal) [] e)
 step-one s (enquire ticket) h e = answering-one (firstOf (refusals s (enquire ticket))) s [] _ e e
+step-one s (board asked list) h e = answering-one (firstOf (refusals s (board asked list))) s list _ e e
 
 -- Lists of calls
 

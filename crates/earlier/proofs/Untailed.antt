@@ -9,7 +9,7 @@ use Rattle.rules.specs.Basics.{Each, Found, at, nothing, firstOf}
 use Rattle.rules.specs.Charge.{Charge, loadOf, loadsOf, isFinished, unfinishedCharges}
 use Rattle.rules.specs.Replan.{Proposal, starts, none, latest, byLines}
 use Rattle.rules.specs.Judgement.{judged}
-use Rattle.rules.specs.Calls.{State, limitsOf, holding, settings, Result, answering, opened, fresh, openRefusals, opening, Call, preview, commit, move, offer, replanLatest, replanLines, enquire, refusals, drawFor, startFor, previewedAt, previewing, committing, moving, decided, tested, offering, replanningLatest, replanningLines, enquiring, step, run}
+use Rattle.rules.specs.Calls.{State, limitsOf, holding, settings, Result, answering, opened, fresh, openRefusals, opening, Call, preview, commit, move, offer, replanLatest, replanLines, enquire, board, refusals, drawFor, startFor, previewedAt, previewing, committing, moving, decided, tested, offering, replanningLatest, replanningLines, enquiring, boarding, step, run}
 use Rattle.rules.proofs.Lists.{each-append, keep-each}
 use Rattle.rules.proofs.Restarts.{each-restarted}
 use Rattle.earlier.specs.Untailed.{loadBefore, loadsBefore, unfinishedBefore, activeFor, stationBefore, startForBefore, stepBefore, runBefore, openingBefore, WithoutTails}
@@ -57,6 +57,7 @@ module _ (s : State) (w : WithoutTails s) where
   step-is replanLatest = rw station-is
   step-is (replanLines allowance) = rw station-is
   step-is (enquire ticket) = refl
+  step-is (board asked list) = refl
 
 -- Stations stay without tails
 
@@ -77,7 +78,7 @@ tested-stays s rounds (starts ss) list w = go (judged (limitsOf s) (s .clock) (s
 tested-stays s rounds (none cause) list w = w
 
 step-stays : (s : State) (c : Call) → WithoutTails s → WithoutTails (step s c .state)
-unfolding previewing committing moving offering replanningLatest replanningLines enquiring
+unfolding previewing committing moving offering replanningLatest replanningLines enquiring boarding
 step-stays s (preview line p d rate) w =
     answering-stays (firstOf (refusals s (preview line p d rate))) s [] _ w (go (startFor s (drawFor s line p rate)))
   where
@@ -98,6 +99,7 @@ step-stays s (replanLines allowance) w =
     (tested-stays s (byLines (limitsOf s) (s .clock) allowance (s .charges) .rounds)
     (byLines (limitsOf s) (s .clock) allowance (s .charges) .proposal) [] w)
 step-stays s (enquire ticket) w = answering-stays (firstOf (refusals s (enquire ticket))) s [] _ w w
+step-stays s (board asked list) w = answering-stays (firstOf (refusals s (board asked list))) s list _ w w
 
 -- Lists of calls
 

@@ -1,5 +1,6 @@
 -- The rules before N4, written out where they read a count: "The count of a line in a minute is the number of its active
--- charges", and no order states a rate. All else is the rules' own, the priority of N5 too. (docs/RULES.md, section 1)
+-- charges", and no order states a rate. All else is the rules' own, the priority of N5 and calls that came later too.
+-- (docs/RULES.md, section 1)
 use mathlib.Core.Path.{_≡_}
 use Prim.Native.Nat.{ℕ, suc, _+_, _-_}
 use mathlib.Core.Bool.{Bool, cond, not, _&&_, _||_}
@@ -13,7 +14,7 @@ use Rattle.rules.specs.Search.{added, Caps}
 use Rattle.rules.specs.Priority.{Fitting}
 use Rattle.rules.specs.Replan.{byLatestStart, Proposal, starts, none, Placed, all, stuck, placeAll, startsIn, proposed, placeLines, largestLine, smallestLine, placedActive, Outcome, ends, lowers, Replanned, roundsFrom}
 use Rattle.rules.specs.Judgement.{restarted}
-use Rattle.rules.specs.Calls.{places, State, limitsOf, Result, answering, Call, preview, commit, move, offer, replanLatest, replanLines, enquire, lent, drawFor, isStart, refusals, previewedAt, committing, moving, kept, decided, enquiring}
+use Rattle.rules.specs.Calls.{places, State, limitsOf, Result, answering, Call, preview, commit, move, offer, replanLatest, replanLines, enquire, board, lent, drawFor, isStart, refusals, previewedAt, committing, moving, kept, decided, enquiring, boarding}
 
 -- Counts
 
@@ -106,6 +107,7 @@ refusalsBefore s (offer ss) = refusals s (offer ss)
 refusalsBefore s replanLatest = refusals s replanLatest
 refusalsBefore s (replanLines allowance) = refusals s (replanLines allowance)
 refusalsBefore s (enquire ticket) = refusals s (enquire ticket)
+refusalsBefore s (board asked list) = refusals s (board asked list)
 
 abbrev pub grantedBefore : State → Call → Result
 grantedBefore s (preview line p d rate) = previewedAt s (startForBefore s line p rate)
@@ -117,6 +119,7 @@ grantedBefore s (replanLines allowance) =
     let r : Replanned = byLinesBefore (limitsOf s) (s .clock) allowance (s .charges) in
     testedBefore s (r .rounds) (r .proposal) []
 grantedBefore s (enquire ticket) = enquiring s ticket
+grantedBefore s (board asked list) = boarding s asked list
 
 abbrev pub stepBefore : State → Call → Result
 stepBefore s c = answering (firstOf (refusalsBefore s c)) s (lent c) (grantedBefore s c)
@@ -140,3 +143,4 @@ StatesOne (offer ss) = Unit {0}
 StatesOne replanLatest = Unit {0}
 StatesOne (replanLines allowance) = Unit {0}
 StatesOne (enquire ticket) = Unit {0}
+StatesOne (board asked list) = Unit {0}

@@ -1,5 +1,6 @@
 -- The rules before N7, written out where they say when a charge is active and when it is finished: "It is active in minutes s to
--- s + p − 1", "A charge whose end is at or below the clock is finished", and no opening takes r. All else is the rules' own.
+-- s + p − 1", "A charge whose end is at or below the clock is finished", and no opening takes r. All else is the rules' own,
+-- calls that came later too.
 -- (docs/RULES.md, section 1)
 use mathlib.Core.Path.{_≡_}
 use Prim.Native.Nat.{ℕ, _-_}
@@ -11,7 +12,7 @@ use Rattle.rules.specs.Basics.{Found, firstOf, keep, Each}
 use Rattle.rules.specs.Load.{Load, draw, loadFrom}
 use Rattle.rules.specs.Charge.{Charge, endOf}
 use Rattle.rules.specs.Search.{earliest}
-use Rattle.rules.specs.Calls.{State, limitsOf, holding, settings, committed, moved, opened, Result, answering, boundOf, fresh, Call, preview, commit, move, offer, replanLatest, replanLines, enquire, lent, isStart, orderRefusals, refusals, previewedAt, taking, reported, pairs, written, offering, replanningLatest, replanningLines, enquiring}
+use Rattle.rules.specs.Calls.{State, limitsOf, holding, settings, committed, moved, opened, Result, answering, boundOf, fresh, Call, preview, commit, move, offer, replanLatest, replanLines, enquire, board, lent, isStart, orderRefusals, refusals, previewedAt, taking, reported, pairs, written, offering, replanningLatest, replanningLines, enquiring, boarding}
 
 -- Charges
 
@@ -73,6 +74,7 @@ refusalsBefore s (offer ss) = refusals s (offer ss)
 refusalsBefore s replanLatest = refusals s replanLatest
 refusalsBefore s (replanLines allowance) = refusals s (replanLines allowance)
 refusalsBefore s (enquire ticket) = refusals s (enquire ticket)
+refusalsBefore s (board asked list) = refusals s (board asked list)
 
 -- "Then finished charges are dropped."
 abbrev pub movingBefore : State → ℕ → List ℕ → Result
@@ -94,6 +96,7 @@ grantedBefore s (offer ss) = offering (stationBefore s) ss
 grantedBefore s replanLatest = replanningLatest (stationBefore s)
 grantedBefore s (replanLines allowance) = replanningLines (stationBefore s) allowance
 grantedBefore s (enquire ticket) = enquiring s ticket
+grantedBefore s (board asked list) = boarding s asked list
 
 abbrev pub stepBefore : State → Call → Result
 stepBefore s c = answering (firstOf (refusalsBefore s c)) s (lent c) (grantedBefore s c)

@@ -11,14 +11,17 @@ pub mod TestsOne
 pub mod TestsStarts
 pub mod RefutedTwoOrders
 pub mod RefutedTwoPlans
+pub mod RefutedTwoBoards
 pub mod TestsTwoPreviews
 pub mod TestsTwoCommits
 pub mod TestsBetter
 pub mod TestsTwoPlans
+pub mod TestsTwoBoards
 pub mod FieldsThree
 pub mod TestsThree
 pub mod BreaksOne
 pub mod BreaksTwoPreviews
 pub mod BreaksTwoCommits
 pub mod BreaksTwoPlans
+pub mod BreaksTwoBoards
 pub mod BreaksThree

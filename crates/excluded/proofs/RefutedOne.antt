@@ -8,12 +8,12 @@ use lib.ListN.{length}
 use Rattle.rules.specs.Load.{limited, balanced, sound}
 use Rattle.rules.specs.Search.{earliest}
 use Rattle.rules.specs.Entry.{lentList}
-use Rattle.rules.specs.Calls.{settings, State, refused, opened, previewed, committed, waiting, preview, commit, move, refusals, opening, previewing, committing}
+use Rattle.rules.specs.Calls.{settings, State, refused, opened, previewed, committed, waiting, preview, commit, move, board, looked, refusals, opening, previewing, committing, boarding}
 use Rattle.rules.proofs.Granted.{refusals-none}
 use Rattle.guarantee.specs.Past.{Gives}
 use Rattle.guarantee.specs.DemandOne.{DemandOne, DemandOneOpening}
 use Rattle.excluded.specs.WrongOrders.{shownAsWaiting, anySoundStart, shownIgnored}
-use Rattle.excluded.specs.WrongRefusals.{lineAccepted, lastRow, lowestNumber, rateAboveBound, shownFirst, otherNumber, alwaysFull, hurryRefused, standstillRefused, ticketUsedUp, listCleared, ticketNotSaid, openedAsAsked, openingWrites, limitSaid, percentLost, zeroBound, smallProductRefused, roundedDown, longTailOpened, tailLookedAtFirst, refusedTailKept, tailLost}
+use Rattle.excluded.specs.WrongRefusals.{lineAccepted, lastRow, lowestNumber, anyOrderAsked, rateAboveBound, shownFirst, otherNumber, alwaysFull, hurryRefused, standstillRefused, ticketUsedUp, listCleared, ticketNotSaid, openedAsAsked, openingWrites, limitSaid, percentLost, zeroBound, smallProductRefused, roundedDown, longTailOpened, tailLookedAtFirst, refusedTailKept, tailLost}
 use Rattle.excluded.specs.Stations.{station, stationTwo}
 use Rattle.guarantee.proofs.Tables.{firstOf-is, is-firstOf}
 
@@ -40,6 +40,21 @@ lowest-number d =
     let h : refused 6 ≡ refused 17
     = d .refused-by .number 17 .1 (firstOf-is 16 (refusals station (preview 1 10 2000001 3)) refl) in
     let z : _≡_ {A = ℕ} 6 17 = cc in
+    omega arith
+
+-- `number`: 24 in the place of 23
+last-row-asked : DemandOne lastRow station (board (2 ∷ 1 ∷ []) []) → ⊥
+last-row-asked d =
+    let h : refused 24 ≡ refused 23 = d .refused-by .number 23 .1 (inl (refl, refl)) in
+    let z : _≡_ {A = ℕ} 24 23 = cc in
+    omega arith
+
+-- `number`: equal tickets do not rise
+any-order-asked : DemandOne anyOrderAsked station (board (2 ∷ 2 ∷ []) (7 ∷ 7 ∷ [])) → ⊥
+unfolding boarding
+any-order-asked d =
+    let h : looked 0 ≡ refused 23 = d .refused-by .number 23 .1 (inl (refl, refl)) in
+    let z : _≡_ {A = ℕ} 0 1 = cc in
     omega arith
 
 -- `number`: a rate of 2 is above D, and no start is found for it

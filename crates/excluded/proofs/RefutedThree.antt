@@ -9,10 +9,11 @@ use Rattle.rules.specs.Search.{earliest}
 use Rattle.rules.specs.Replan.{placeAll, latest}
 use Rattle.rules.specs.Judgement.{judged}
 use Rattle.rules.specs.Entry.{lentList}
-use Rattle.rules.specs.Calls.{refused, waiting, charging, preview, commit, move, offer, replanLatest, opening, previewing, committing, moving, offering, replanningLatest, enquiring}
+use Rattle.rules.specs.Calls.{refused, waiting, charging, preview, commit, move, offer, replanLatest, board, opening, previewing, committing, moving, offering, replanningLatest, enquiring, boarding}
 use Rattle.guarantee.specs.DemandThree.{DemandThree}
 use Rattle.excluded.specs.WrongOrders.{ownLineOnly, neighboursOnly, limitIgnored, chargesCounted, ratesInLimitOnly, tailsLeftOut, tailsInLimitOnly, fixedStart, previewTakesTicket, shownBeforeTaken, ticketSkipped}
 use Rattle.excluded.specs.WrongMoves.{startAtClockLeftOut, firstReportOnly, reportedTwice, startAtTargetReported, nobodyReported, slowClock, droppedEarly, droppedLate, droppedAtItsEnd, neverDropped, shownLate, shownBegun, shownEarly, endWithTail}
+use Rattle.excluded.specs.WrongBoards.{boardTakesTicket}
 use Rattle.excluded.specs.WrongPlans.{untested, rateLost, begunMoved}
 use Rattle.excluded.specs.WrongRestores.{begunForgotten, ticketsGivenAgain, clockLost}
 use Rattle.excluded.specs.BreaksThree.{one, two, twoEven, four, oneTailed, twoTailed, from, fromRated, single, fourOrders}
@@ -69,6 +70,11 @@ ticket-skipped d = let h : _≡_ {A = ℕ} 3 2 = d .tickets .1 .0 in omega arith
 preview-takes-ticket : DemandThree previewTakesTicket one (preview 1 10 60 1 ∷ single ∷ []) → ⊥
 unfolding limited balanced sound earliest opening previewing committing enquiring
 preview-takes-ticket d = let h : _≡_ {A = ℕ} 2 1 = d .tickets .0 in omega arith
+
+-- `tickets`: the same, after a board
+board-takes-ticket : DemandThree boardTakesTicket one (board (1 ∷ []) (7 ∷ []) ∷ single ∷ []) → ⊥
+unfolding limited balanced sound earliest opening committing enquiring boarding
+board-takes-ticket d = let h : _≡_ {A = ℕ} 2 1 = d .tickets .0 in omega arith
 
 -- Each order's one charge
 

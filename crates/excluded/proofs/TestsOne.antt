@@ -5,7 +5,7 @@ use Prim.Native.Nat.{ℕ}
 use mathlib.Core.Bool.{Bool, true, false, cond}
 use mathlib.Core.List.{List, [], _∷_}
 use native.Mathlib.Omega.{arith}
-use Rattle.rules.specs.Calls.{Answer, refused, opened, previewed, committed, moved, planned, waiting, charging, fresh, Call, preview, commit, move, offer, replanLatest, replanLines, enquire}
+use Rattle.rules.specs.Calls.{Answer, refused, opened, previewed, committed, moved, planned, waiting, charging, looked, fresh, Call, preview, commit, move, offer, replanLatest, replanLines, enquire, board}
 use Rattle.guarantee.specs.Past.{isRefused}
 use Rattle.guarantee.specs.DemandOne.{FirstIs, AnswerTo}
 use Rattle.excluded.specs.Same.{sameList, sameAnswer, numberIn}
@@ -24,6 +24,7 @@ refusal-is (moved n m) k e = let z : _≡_ {A = ℕ} 0 1 = cc in absurd (omega a
 refusal-is (planned c b a n) k e = let z : _≡_ {A = ℕ} 0 1 = cc in absurd (omega arith)
 refusal-is (waiting s w) k e = let z : _≡_ {A = ℕ} 0 1 = cc in absurd (omega arith)
 refusal-is (charging s f w) k e = let z : _≡_ {A = ℕ} 0 1 = cc in absurd (omega arith)
+refusal-is (looked n) k e = let z : _≡_ {A = ℕ} 0 1 = cc in absurd (omega arith)
 
 first-is : (rows : List (Bool × ℕ)) (k : ℕ) → FirstIs rows k ↔ (firstIn rows ≡ k ∷ [])
 first-is [] k = ((λ e. absurd e), (λ e. let z : _≡_ {A = ℕ} 0 1 = cc in absurd (omega arith)))
@@ -131,6 +132,12 @@ module _ (a : Answer) where
           → sameAnswer a (charging (numberIn 1 a) (numberIn 2 a) (numberIn 3 a)) ≡ true
       back (s, f, r, e) = rw e (same-answer (charging s f r) (charging s f r) .1 refl)
 
+  looked-tests : Tests (sameAnswer a (looked (numberIn 1 a))) ((n : ℕ) × (a ≡ looked n))
+  looked-tests = ((λ e. (_, same-answer a (looked (numberIn 1 a)) .0 e)), back)
+    where
+      back : (n : ℕ) × (a ≡ looked n) → sameAnswer a (looked (numberIn 1 a)) ≡ true
+      back (n, e) = rw e (same-answer (looked n) (looked n) .1 refl)
+
   answers-tests : (c : Call) → Tests (answersTo c a) (AnswerTo c a)
   answers-tests (preview line p d rate) = previewed-tests
   answers-tests (commit line p d rate shown) = committed-tests shown
@@ -139,6 +146,7 @@ module _ (a : Answer) where
   answers-tests replanLatest = planned-tests
   answers-tests (replanLines allowance) = planned-tests
   answers-tests (enquire ticket) = either-tests waiting-tests charging-tests
+  answers-tests (board asked list) = looked-tests
 
 own-tests : (r : Trial) → Tests (ownAnswer r) (OwnAnswer r)
 own-tests (calledOn gives s c) = answers-tests (gives s c .answer) c

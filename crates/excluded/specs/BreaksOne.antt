@@ -2,9 +2,9 @@
 use mathlib.Core.Bool.{Bool}
 use mathlib.Core.List.{List, [], _∷_, _++_, map}
 use Rattle.rules.specs.Entry.{lentList}
-use Rattle.rules.specs.Calls.{settings, preview, commit, move, opening, step}
+use Rattle.rules.specs.Calls.{settings, preview, commit, move, board, opening, step}
 use Rattle.excluded.specs.WrongOrders.{shownAsWaiting, anySoundStart, shownIgnored}
-use Rattle.excluded.specs.WrongRefusals.{lineAccepted, lastRow, lowestNumber, rateAboveBound, shownFirst, otherNumber, alwaysFull, hurryRefused, standstillRefused, ticketUsedUp, listCleared, ticketNotSaid, openedAsAsked, openingWrites, limitSaid, percentLost, zeroBound, smallProductRefused, roundedDown, longTailOpened, tailLookedAtFirst, refusedTailKept, tailLost}
+use Rattle.excluded.specs.WrongRefusals.{lineAccepted, lastRow, lowestNumber, anyOrderAsked, rateAboveBound, shownFirst, otherNumber, alwaysFull, hurryRefused, standstillRefused, ticketUsedUp, listCleared, ticketNotSaid, openedAsAsked, openingWrites, limitSaid, percentLost, zeroBound, smallProductRefused, roundedDown, longTailOpened, tailLookedAtFirst, refusedTailKept, tailLost}
 use Rattle.excluded.specs.Stations.{station, stationTwo}
 use Rattle.excluded.specs.Breaks.{Entry, agreesBy, onlyOf}
 use Rattle.excluded.specs.FieldsOne.{Field, number, same-station, same-list, answered, fields, place, Trial, calledOn, openedBy, tested}
@@ -25,6 +25,9 @@ wrongCalls =
     -- N is 2 and D is 1: the rate is above D alone, and no start is found for it
     ∷ only (calledOn rateAboveBound stationTwo (preview 1 10 60 2)) (number ∷ [])
     ∷ only (calledOn lowestNumber station (preview 1 10 2000001 3)) (number ∷ [])
+    -- the tickets do not rise, and the answer list is too short: 23 goes before 24
+    ∷ only (calledOn lastRow station (board (2 ∷ 1 ∷ []) [])) (number ∷ [])
+    ∷ only (calledOn anyOrderAsked station (board (2 ∷ 2 ∷ []) (7 ∷ 7 ∷ []))) (number ∷ [])
     -- 3 is a sound start, and 0 the earliest
     ∷ only (calledOn anySoundStart station (commit 1 10 60 1 3)) (number ∷ [])
     ∷ only (calledOn shownIgnored station (commit 1 10 60 1 3)) (number ∷ [])
@@ -36,6 +39,7 @@ wrongCalls =
     ∷ only (calledOn standstillRefused station (move 0 lentList)) (number ∷ answered ∷ [])
     ∷ only (calledOn ticketUsedUp station (commit 4 10 60 1 0)) (same-station ∷ [])
     ∷ only (calledOn listCleared station (move 0 (7 ∷ []))) (same-list ∷ [])
+    ∷ only (calledOn listCleared station (board (1 ∷ 2 ∷ []) (7 ∷ []))) (same-list ∷ [])
     ∷ only (calledOn shownAsWaiting station (preview 1 10 60 1)) (answered ∷ [])
     ∷ only (calledOn ticketNotSaid station (commit 1 10 60 1 0)) (answered ∷ [])
     ∷ []

@@ -3,11 +3,12 @@ use Prim.Native.Nat.{ℕ}
 use mathlib.Core.Bool.{Bool}
 use mathlib.Core.List.{List, [], _∷_, _++_, map}
 use Rattle.rules.specs.Entry.{lentList}
-use Rattle.rules.specs.Calls.{settings, State, Call, preview, commit, move, offer, replanLatest, opening, step}
+use Rattle.rules.specs.Calls.{settings, State, Call, preview, commit, move, offer, replanLatest, board, opening, step}
 use Rattle.guarantee.specs.Past.{Gives}
 use Rattle.excluded.specs.Same.{sameState}
 use Rattle.excluded.specs.WrongOrders.{ownLineOnly, neighboursOnly, limitIgnored, chargesCounted, ratesInLimitOnly, tailsLeftOut, tailsInLimitOnly, fixedStart, previewTakesTicket, shownBeforeTaken, ticketSkipped}
 use Rattle.excluded.specs.WrongMoves.{startAtClockLeftOut, firstReportOnly, reportedTwice, startAtTargetReported, nobodyReported, slowClock, droppedEarly, droppedLate, droppedAtItsEnd, neverDropped, shownLate, shownBegun, shownEarly, endWithTail}
+use Rattle.excluded.specs.WrongBoards.{boardTakesTicket}
 use Rattle.excluded.specs.WrongPlans.{untested, rateLost, begunMoved}
 use Rattle.excluded.specs.WrongRestores.{begunForgotten, ticketsGivenAgain, clockLost}
 use Rattle.excluded.specs.FieldsThree.{Field, limit, balance, tickets, not-early, in-time, reported, not-reported, waits, charges, finished, no-other, unmoved, fields, place, Holds}
@@ -88,6 +89,7 @@ wrongEntries =
     ∷ only tailsInLimitOnly twoTailed (single ∷ from 1 10 ∷ []) (balance ∷ [])
     ∷ only ticketSkipped one (single ∷ from 1 10 ∷ []) (tickets ∷ [])
     ∷ only previewTakesTicket one (preview 1 10 60 1 ∷ single ∷ []) (tickets ∷ [])
+    ∷ only boardTakesTicket one (board (1 ∷ []) (7 ∷ []) ∷ single ∷ []) (tickets ∷ [])
     ∷ only slowClock one (to 5 ∷ from 1 4 ∷ to 6 ∷ []) (not-early ∷ [])
     -- ordered in minute 5 with the start 0, which no move passes any more
     ∷ only shownBeforeTaken one (preview 1 10 60 1 ∷ to 5 ∷ single ∷ []) (not-early ∷ reported ∷ [])

@@ -4,6 +4,7 @@ pub mod WrongOrders
 pub mod WrongMoves
 pub mod WrongPlans
 pub mod WrongRestores
+pub mod WrongBoards
 pub mod Same
 pub mod Stations
 pub mod Breaks
@@ -19,4 +20,6 @@ pub mod BreaksTwoCommits
 pub mod FieldsBetter
 pub mod FieldsTwoPlans
 pub mod BreaksTwoPlans
+pub mod FieldsTwoBoards
+pub mod BreaksTwoBoards
 pub mod BreaksThree

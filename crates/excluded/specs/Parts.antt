@@ -6,7 +6,7 @@ use lib.Dec.{eqb}
 use Rattle.rules.specs.Basics.{Found, firstOf, keep}
 use Rattle.rules.specs.Load.{Draw}
 use Rattle.rules.specs.Charge.{Charge, starting}
-use Rattle.rules.specs.Calls.{State, holding, Answer, refused, Result, answering, Call, preview, commit, move, offer, replanLatest, replanLines, enquire, lent, drawFor, isStart, refusals, previewedAt, previewing, committing, moving, offering, replanningLatest, replanningLines, enquiring}
+use Rattle.rules.specs.Calls.{State, holding, Answer, refused, Result, answering, Call, preview, commit, move, offer, replanLatest, replanLines, enquire, board, lent, drawFor, isStart, refusals, previewedAt, previewing, committing, moving, offering, replanningLatest, replanningLines, enquiring, boarding}
 use Rattle.guarantee.specs.Past.{Gives}
 
 -- the refusals, and what comes of each kind of call that is not refused
@@ -19,6 +19,7 @@ pub record Parts : Type 0 where
   pub replans-latest : State → Result
   pub replans-lines : State → ℕ → Result
   pub enquiries : State → ℕ → Result
+  pub boards : State → List ℕ → List ℕ → Result
 
 abbrev grantedBy : Parts → State → Call → Result
 grantedBy p s (preview line time d rate) = p .previews s line time d rate
@@ -28,6 +29,7 @@ grantedBy p s (offer ss) = p .offers s ss
 grantedBy p s replanLatest = p .replans-latest s
 grantedBy p s (replanLines allowance) = p .replans-lines s allowance
 grantedBy p s (enquire ticket) = p .enquiries s ticket
+grantedBy p s (board asked list) = p .boards s asked list
 
 -- the station with these parts
 abbrev made : Parts → Gives
@@ -42,8 +44,9 @@ abbrev parts :
     → (State → Result)
     → (State → ℕ → Result)
     → (State → ℕ → Result)
+    → (State → List ℕ → List ℕ → Result)
     → Parts
-parts refuses previews commits moves offers latest lines enquiries =
+parts refuses previews commits moves offers latest lines enquiries boards =
     record {
       refuses = refuses;
       previews = previews;
@@ -53,33 +56,37 @@ parts refuses previews commits moves offers latest lines enquiries =
       replans-latest = latest;
       replans-lines = lines;
       enquiries = enquiries;
+      boards = boards;
     }
 
 -- One part changed
 
 abbrev pub withRefusals : (State → Call → List (Bool × ℕ)) → Gives
-withRefusals r = made (parts r previewing committing moving offering replanningLatest replanningLines enquiring)
+withRefusals r = made (parts r previewing committing moving offering replanningLatest replanningLines enquiring boarding)
 
 abbrev pub withPreviews : (State → ℕ → ℕ → ℕ → ℕ → Result) → Gives
-withPreviews f = made (parts refusals f committing moving offering replanningLatest replanningLines enquiring)
+withPreviews f = made (parts refusals f committing moving offering replanningLatest replanningLines enquiring boarding)
 
 abbrev pub withCommits : (State → ℕ → ℕ → ℕ → ℕ → ℕ → Result) → Gives
-withCommits f = made (parts refusals previewing f moving offering replanningLatest replanningLines enquiring)
+withCommits f = made (parts refusals previewing f moving offering replanningLatest replanningLines enquiring boarding)
 
 abbrev pub withMoves : (State → ℕ → List ℕ → Result) → Gives
-withMoves m = made (parts refusals previewing committing m offering replanningLatest replanningLines enquiring)
+withMoves m = made (parts refusals previewing committing m offering replanningLatest replanningLines enquiring boarding)
 
 abbrev pub withOffers : (State → List ℕ → Result) → Gives
-withOffers f = made (parts refusals previewing committing moving f replanningLatest replanningLines enquiring)
+withOffers f = made (parts refusals previewing committing moving f replanningLatest replanningLines enquiring boarding)
 
 abbrev pub withReplansLatest : (State → Result) → Gives
-withReplansLatest a = made (parts refusals previewing committing moving offering a replanningLines enquiring)
+withReplansLatest a = made (parts refusals previewing committing moving offering a replanningLines enquiring boarding)
 
 abbrev pub withReplansLines : (State → ℕ → Result) → Gives
-withReplansLines b = made (parts refusals previewing committing moving offering replanningLatest b enquiring)
+withReplansLines b = made (parts refusals previewing committing moving offering replanningLatest b enquiring boarding)
 
 abbrev pub withEnquiries : (State → ℕ → Result) → Gives
-withEnquiries e = made (parts refusals previewing committing moving offering replanningLatest replanningLines e)
+withEnquiries e = made (parts refusals previewing committing moving offering replanningLatest replanningLines e boarding)
+
+abbrev pub withBoards : (State → List ℕ → List ℕ → Result) → Gives
+withBoards b = made (parts refusals previewing committing moving offering replanningLatest replanningLines enquiring b)
 
 -- Orders
 
@@ -92,7 +99,7 @@ abbrev orders :
     (State → ℕ → ℕ → ℕ → ℕ → Result) → (State → ℕ → ℕ → ℕ → ℕ → ℕ → Result) → (State → ℕ → List ℕ → Result) → Gives
 orders f g m =
     made
-    (parts (λ s c. unnumbered 16 (refusals s c)) f g m offering replanningLatest replanningLines enquiring)
+    (parts (λ s c. unnumbered 16 (refusals s c)) f g m offering replanningLatest replanningLines enquiring boarding)
 
 -- commits that do not look at the start shown
 abbrev pub withUntested : (State → ℕ → ℕ → ℕ → ℕ → ℕ → Result) → Gives

@@ -32,6 +32,10 @@ shownFirst = withRefusals (λ s c. keep (λ row. eqb (row .1) 16) (refusals s c)
 abbrev pub otherNumber : Gives
 otherNumber = withRefusals (λ s c. map (λ row. (row .0, cond (eqb (row .1) 16) 14 (row .1))) (refusals s c))
 
+-- tickets in any order are taken by the board
+abbrev pub anyOrderAsked : Gives
+anyOrderAsked = withRefusals (λ s c. unnumbered 23 (refusals s c))
+
 -- a station full from the start
 abbrev pub alwaysFull : Gives
 alwaysFull = withRefusals (λ s c. map (λ row. (eqb (row .1) 13 || row .0, row .1)) (refusals s c))

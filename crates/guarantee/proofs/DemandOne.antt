@@ -10,7 +10,7 @@ use Rattle.rules.specs.Basics.{some, firstOf}
 use Rattle.rules.specs.Charge.{Charge, endOf, isBegun}
 use Rattle.rules.specs.Replan.{Proposal, starts, none, latest, Replanned, byLines}
 use Rattle.rules.specs.Judgement.{judged}
-use Rattle.rules.specs.Calls.{Settings, settings, State, limitsOf, Answer, refused, opened, planned, Result, answering, boundOf, fresh, openRefusals, opening, Call, preview, commit, move, offer, replanLatest, replanLines, enquire, lent, refusals, previewing, committing, moving, decided, tested, offering, replanningLatest, replanningLines, told, enquiring, granted, step}
+use Rattle.rules.specs.Calls.{Settings, settings, State, limitsOf, Answer, refused, opened, planned, Result, answering, boundOf, fresh, openRefusals, opening, Call, preview, commit, move, offer, replanLatest, replanLines, enquire, board, lent, refusals, previewing, committing, moving, decided, tested, offering, replanningLatest, replanningLines, told, enquiring, boarding, granted, step}
 use Rattle.rules.specs.Valid.{ValidState}
 use Rattle.rules.proofs.Tables.{Numbered, firstOf-none, none-firstOf}
 use Rattle.rules.proofs.Granted.{refusals-numbered, openRefusals-numbered, order-granted, enquire-granted}
@@ -70,6 +70,7 @@ answer-not-refused replanLatest a (i, b, c, n, e) = rw e
 answer-not-refused (replanLines allowance) a (i, b, c, n, e) = rw e
 answer-not-refused (enquire ticket) a (inl (s, w, e)) = rw e
 answer-not-refused (enquire ticket) a (inr (s, u, w, e)) = rw e
+answer-not-refused (board asked list) a (n, e) = rw e
 
 -- a tested plan is answered with a cause
 abbrev Planned : Answer → Type 0
@@ -106,7 +107,7 @@ told-held k t (c ∷ cs) e = go (eqb (c .ticket) t) refl (isBegun k c) refl e (t
     go false p b q u later = rw p (later u)
 
 granted-answer : (s : State) (c : Call) → ValidState s → NoneApplies (refusals s c) → AnswerTo c (granted s c .answer)
-unfolding previewing committing moving offering replanningLatest replanningLines enquiring
+unfolding previewing committing moving offering replanningLatest replanningLines enquiring boarding
 granted-answer s (preview line p d rate) v q =
     let f = order-found s line p d rate v (order-granted s line p d rate q) in (f .0, rw (f .1))
 granted-answer s (commit line p d rate shown) v q = (s .next, refl)
@@ -118,6 +119,7 @@ granted-answer s (replanLines allowance) v q =
     tested-planned s (r .rounds) (r .proposal) []
 granted-answer s (enquire ticket) v q =
     told-held (s .clock) ticket (s .charges) (enquire-granted s ticket q)
+granted-answer s (board asked list) v q = (_, refl)
 
 -- The demand
 

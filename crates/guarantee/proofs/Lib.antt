@@ -10,5 +10,6 @@ pub mod DemandThree
 pub mod DemandOne
 pub mod Proposals
 pub mod Orders
+pub mod Boards
 pub mod DemandTwo
 pub mod Demands

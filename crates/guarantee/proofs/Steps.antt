@@ -12,7 +12,7 @@ use Rattle.rules.specs.Charge.{Charge, starting, loadsOf, isFinished, unfinishe
 use Rattle.rules.specs.Search.{added}
 use Rattle.rules.specs.Replan.{Proposal, starts, none, latest, byLines}
 use Rattle.rules.specs.Judgement.{restarted, judged}
-use Rattle.rules.specs.Calls.{State, limitsOf, Answer, refused, Result, answering, Call, preview, commit, move, offer, replanLatest, replanLines, enquire, lent, newCharge, drawFor, startFor, refusals, previewedAt, previewing, committing, moving, decided, tested, offering, replanningLatest, replanningLines, enquiring, granted, step}
+use Rattle.rules.specs.Calls.{State, limitsOf, Answer, refused, Result, answering, Call, preview, commit, move, offer, replanLatest, replanLines, enquire, board, lent, newCharge, drawFor, startFor, refusals, previewedAt, previewing, committing, moving, decided, tested, offering, replanningLatest, replanningLines, enquiring, boarding, granted, step}
 use Rattle.rules.proofs.Ranges.{IsFirst}
 use Rattle.rules.proofs.Lists.{keep-append}
 use Rattle.rules.proofs.Searches.{earliest-first}
@@ -96,6 +96,7 @@ refused-learnt k j (offer ss) list = refl
 refused-learnt k j replanLatest list = refl
 refused-learnt k j (replanLines allowance) list = refl
 refused-learnt k j (enquire ticket) list = refl
+refused-learnt k j (board asked l) list = refl
 
 module _
     (s : State) (k n : ℕ) (os : List Order) (hs : List Charge) (rs : List Report)
@@ -181,7 +182,7 @@ module _
         (c : Call)
         → NoneHolds (refusals (stationOf s k n hs) c)
         → Next s k n os hs rs c (granted (stationOf s k n hs) c)
-    unfolding previewing moving offering replanningLatest replanningLines enquiring
+    unfolding previewing moving offering replanningLatest replanningLines enquiring boarding
     granted-next (preview line p d rate) q =
         preview-next line p d rate (startFor (stationOf s k n hs) (drawFor (stationOf s k n hs) line p rate))
     granted-next (commit line p d rate shown) q =
@@ -209,6 +210,7 @@ module _
         []
         (λ a. refl)
     granted-next (enquire ticket) q = stays (enquire ticket) _ refl refl
+    granted-next (board asked list) q = stays (board asked list) _ refl refl
 
     step-next : (c : Call) → Next s k n os hs rs c (step (stationOf s k n hs) c)
     step-next c =

@@ -1,17 +1,19 @@
--- Demand 2: when a plan is taken, the start that an order is shown and gets, and what offers and replans leave.
+-- Demand 2: when a plan is taken, the start that an order is shown and gets, what offers and replans leave, and what the board shows.
 use mathlib.Core.Logic.{_↔_}
 use mathlib.Core.Path.{_≡_}
-use Prim.Native.Nat.{ℕ, _+_, _≤_, _<_}
-use mathlib.Core.Bool.{true}
-use mathlib.Core.List.{List, map}
-use Rattle.rules.specs.Basics.{Each}
+use Prim.Native.Nat.{ℕ, _+_, max, _≤_, _<_}
+use mathlib.Core.Bool.{true, cond}
+use mathlib.Core.List.{List, [], _∷_, map}
+use lib.Dec.{leb}
+use lib.ListN.{length}
+use Rattle.rules.specs.Basics.{keep, Each}
 use Rattle.rules.specs.Load.{Load, Draw, active, count, IsLine}
 use Rattle.rules.specs.Charge.{Charge, starting, activeUntil, loadOf, loadsOf, begunCharges, waitingCharges, lastEnd, lateness}
 use Rattle.rules.specs.Search.{added}
 use Rattle.rules.specs.Replan.{Proposal, starts, none, latest, byLines}
 use Rattle.rules.specs.Judgement.{restarted, judged}
-use Rattle.rules.specs.Calls.{State, limitsOf, holding, Answer, refused, previewed, committed, planned, Result, Call, preview, commit, offer, replanLatest, replanLines, lent, newCharge, drawFor, refusals, taking}
-use Rattle.guarantee.specs.Past.{Gives}
+use Rattle.rules.specs.Calls.{State, limitsOf, holding, Answer, refused, previewed, committed, planned, looked, Result, Call, preview, commit, offer, replanLatest, replanLines, enquire, board, lent, newCharge, drawFor, refusals, taking, written, notHeld}
+use Rattle.guarantee.specs.Past.{Gives, isRefused, startIn}
 use Rattle.guarantee.specs.DemandOne.{NoneApplies}
 
 -- Constraints III and IV in every minute from the clock on, with the lines as parameters. "Soundness is compared with this D
@@ -104,6 +106,29 @@ pub record CommitStart (s : State) (line p d rate shown : ℕ) (r : Result) : Ty
   -- `taking` puts the new charge behind the held ones, which stay as they are
   pub others-same : EarliestStart s (drawFor s line p rate) shown → r .state ≡ taking s (newCharge s line p d rate shown)
 
+-- what the board shows of a ticket where an enquiry of it has this answer: "the start of each .., or 4,294,967,295 for one not
+-- held"
+abbrev pub shownBy : Answer → ℕ
+shownBy a = cond (isRefused a) notHeld (startIn a)
+
+-- "the highest asked", 0 where none is
+abbrev pub highest : List ℕ → ℕ
+highest [] = 0
+highest (t ∷ ts) = max t (highest ts)
+
+-- N10's board, for the tickets asked and an answer list
+pub record BoardShown (gives : Gives) (s : State) (asked list : List ℕ) (r : Result) : Type 0 where
+  -- "those with a ticket not above the highest asked, so never more than are held; 0 for an empty list": no ticket is 0
+  pub answer :
+      NoneApplies (refusals s (board asked list))
+      → r .answer ≡ looked (length (keep (λ c. leb (c .ticket) (highest asked)) (s .charges)))
+  -- what an enquiry of each ticket says, and "Later places of the answer list are kept."
+  pub shown :
+      NoneApplies (refusals s (board asked list))
+      → r .list ≡ written (map (λ t. shownBy (gives s (enquire t) .answer)) asked) list
+  -- refused or not
+  pub same-station : r .state ≡ s
+
 -- `gives` is what a call to a station gives
 pub record DemandTwo (gives : Gives) (s : State) : Type 0 where
   pub previews : (line p d rate : ℕ) → PreviewStart s line p d rate (gives s (preview line p d rate))
@@ -122,3 +147,5 @@ pub record DemandTwo (gives : Gives) (s : State) : Type 0 where
       (byLines (limitsOf s) (s .clock) allowance (s .charges) .proposal)
       (byLines (limitsOf s) (s .clock) allowance (s .charges) .rounds)
       (gives s (replanLines allowance))
+  -- "One call takes a rising list of 32-bit numbers and writes the start of each to another such list"
+  pub boards : (asked list : List ℕ) → BoardShown gives s asked list (gives s (board asked list))

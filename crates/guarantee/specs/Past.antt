@@ -7,7 +7,7 @@ use mathlib.Core.List.{List, [], _∷_, _++_, map}
 use lib.Dec.{eqb}
 use Rattle.rules.specs.Load.{draw, Load, loadFrom, count}
 use Rattle.rules.specs.Charge.{Charge, begunCharges}
-use Rattle.rules.specs.Calls.{State, Answer, refused, opened, previewed, committed, moved, planned, waiting, charging, Result, Call, preview, commit, move, offer, replanLatest, replanLines, enquire}
+use Rattle.rules.specs.Calls.{State, Answer, refused, opened, previewed, committed, moved, planned, waiting, charging, looked, Result, Call, preview, commit, move, offer, replanLatest, replanLines, enquire, board}
 
 -- An accepted order: its ticket is that of the answer. "Its order minute is the clock at that moment; its line and p are
 -- those passed in", and so is its rate.
@@ -46,6 +46,7 @@ said (moved n m) = says false [] n 0
 said (planned c b a n) = says false [] 0 0
 said (waiting s rate) = says false [] 0 s
 said (charging s e rate) = says false [] 0 s
+said (looked n) = says false [] 0 0
 
 abbrev pub isRefused : Answer → Bool
 isRefused a = said a .refuses
@@ -93,6 +94,7 @@ learnt clock (offer ss) a list = nothingNew clock
 learnt clock replanLatest a list = nothingNew clock
 learnt clock (replanLines allowance) a list = nothingNew clock
 learnt clock (enquire ticket) a list = nothingNew clock
+learnt clock (board asked lent) a list = nothingNew clock
 
 -- What is known after a list of calls
 

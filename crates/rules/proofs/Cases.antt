@@ -9,7 +9,7 @@ use Rattle.rules.specs.Candidate.{testedBy}
 use Rattle.rules.specs.Priority.{fading, weights, weightOf, firstFit, picked}
 use Rattle.rules.specs.Replan.{byLatestStart, placeAll, latest, placeOn, round, roundsFrom, byLines}
 use Rattle.rules.specs.Judgement.{judged}
-use Rattle.rules.specs.Calls.{settings, State, Answer, refused, previewed, committed, moved, Result, opening, preview, commit, run, previewing, committing, moving, offering, replanningLatest, replanningLines, enquiring}
+use Rattle.rules.specs.Calls.{settings, State, Answer, refused, previewed, committed, moved, Result, opening, preview, commit, run, previewing, committing, moving, offering, replanningLatest, replanningLines, enquiring, boarding}
 use Rattle.rules.specs.Entry.{Case, computed, stateAfter}
 use Rattle.rules.specs.CasesAToL.{callsG, casesAToL}
 use Rattle.rules.specs.CasesAtEdges.{casesAtEdges}
@@ -19,12 +19,13 @@ use Rattle.rules.specs.CasesOfTwoRates.{casesOfTwoRates}
 use Rattle.rules.specs.CasesOfPriority.{casesOfPriority}
 use Rattle.rules.specs.CasesOnBusyEvenings.{testedIn, casesOnBusyEvenings}
 use Rattle.rules.specs.CasesOfTails.{casesOfTails}
+use Rattle.rules.specs.CasesOnTheBoard.{casesOnTheBoard}
 
 abbrev pub cases : List Case
-cases = casesAToL ++ casesAtEdges ++ casesInAHurry ++ casesPreviewed ++ casesOfTwoRates ++ casesOfPriority ++ casesOfTails
+cases = casesAToL ++ casesAtEdges ++ casesInAHurry ++ casesPreviewed ++ casesOfTwoRates ++ casesOfPriority ++ casesOfTails ++ casesOnTheBoard
 
 pub cases-hold : map computed cases ≡ cases
-unfolding limited balanced sound earliest firstUnbalanced placeAll latest fading weights weightOf firstFit picked placeOn round roundsFrom byLines judged opening previewing committing moving offering replanningLatest replanningLines enquiring
+unfolding limited balanced sound earliest firstUnbalanced placeAll latest fading weights weightOf firstFit picked placeOn round roundsFrom byLines judged opening previewing committing moving offering replanningLatest replanningLines enquiring boarding
 cases-hold = refl
 
 -- the test of a candidate start, of which no call shows the number of minutes

@@ -10,7 +10,7 @@ use borrow.Author.Tests.{ltb-false, leb-false, not-false, eqb-true, eqb-false, e
 use Rattle.rules.specs.Basics.{Found, at, nothing, firstOf, some}
 use Rattle.rules.specs.Load.{IsLine, IsRate}
 use Rattle.rules.specs.Charge.{Charge, waitingCharges}
-use Rattle.rules.specs.Calls.{Settings, State, boundOf, openRefusals, Call, preview, commit, move, offer, replanLatest, replanLines, enquire, drawFor, startFor, isStart, orderRefusals, refusals}
+use Rattle.rules.specs.Calls.{Settings, State, boundOf, openRefusals, Call, preview, commit, move, offer, replanLatest, replanLines, enquire, board, drawFor, startFor, isStart, orderRefusals, refusals}
 use Rattle.rules.proofs.Ranges.{or-left, or-right}
 use Rattle.rules.proofs.Lists.{each-append}
 use Rattle.rules.proofs.Tables.{NoneHolds, Numbered, firstOf-none, none-front}
@@ -25,6 +25,7 @@ refusals-numbered s (offer ss) = omega arith
 refusals-numbered s replanLatest = tt
 refusals-numbered s (replanLines allowance) = omega arith
 refusals-numbered s (enquire ticket) = omega arith
+refusals-numbered s (board asked list) = omega arith
 
 pub refusals-none : (s : State) (c : Call) → firstOf (refusals s c) ≡ 0 → NoneHolds (refusals s c)
 refusals-none s c e = firstOf-none (refusals s c) (refusals-numbered s c) e

@@ -24,3 +24,4 @@ pub mod Changes
 pub mod Restarts
 pub mod Validity
 pub mod Shown
+pub mod OnTheBoard

@@ -1,7 +1,7 @@
 -- The station, its calls, their refusals and answers (docs/RULES.md, sections 2 and 3).
 use Prim.Native.Nat.{ℕ, zero, suc, _+_, _-_, _*_, _/_, _%_}
-use mathlib.Core.Bool.{Bool, false, cond, not, _&&_, _||_}
-use mathlib.Core.List.{List, [], _∷_, _++_}
+use mathlib.Core.Bool.{Bool, true, false, cond, not, _&&_, _||_}
+use mathlib.Core.List.{List, [], _∷_, _++_, map}
 use lib.Dec.{ltb, leb, eqb}
 use lib.ListN.{length, drop}
 use Rattle.rules.specs.Basics.{Found, at, nothing, firstOf, keep, some, sortedBy}
@@ -59,6 +59,8 @@ pub data Answer : Type 0 where
   -- an enquiry: "waiting with its start, charging with start and end", and "enquiries show the rate", last
   waiting : ℕ → ℕ → Answer
   charging : ℕ → ℕ → ℕ → Answer
+  -- a board: "answers how many it looked at"
+  looked : ℕ → Answer
 
 -- an answer, the next station, and the whole of the lent list afterwards (empty where none is lent)
 pub record Result : Type 0 where
@@ -137,6 +139,8 @@ pub data Call : Type 0 where
   replanLines : ℕ → Call
   -- ticket
   enquire : ℕ → Call
+  -- the tickets asked for, answer list
+  board : List ℕ → List ℕ → Call
 
 -- the list that is lent to a call
 abbrev pub lent : Call → List ℕ
@@ -147,6 +151,7 @@ lent (offer ss) = ss
 lent replanLatest = []
 lent (replanLines allowance) = []
 lent (enquire ticket) = []
+lent (board asked list) = list
 
 -- An order, previewed or committed
 
@@ -198,6 +203,15 @@ orderRefusals s line p d rate =
     ∷ (ltb 65535 (s .next), 14)
     ∷ []
 
+-- "strictly rising": no number is below a, and each is above the one before it
+abbrev pub risesFrom : ℕ → List ℕ → Bool
+risesFrom a [] = true
+risesFrom a (x ∷ xs) = leb a x && risesFrom (suc x) xs
+
+-- "The board asks for up to 180 tickets at a time."
+abbrev pub askedAtMost : ℕ
+askedAtMost = 180
+
 -- "Where several apply": the first of the call's table, for a refusal's "stated place goes before its number".
 abbrev pub refusals : State → Call → List (Bool × ℕ)
 refusals s (preview line p d rate) = orderRefusals s line p d rate
@@ -223,6 +237,12 @@ refusals s (replanLines allowance) =
 refusals s (enquire ticket) =
     -- "no held charge has this ticket"
     (not (some (λ c. eqb (c .ticket) ticket) (s .charges)), 15) ∷ []
+refusals s (board asked list) =
+    -- "tickets not strictly rising or more than 180"
+    (not (risesFrom 0 asked) || ltb askedAtMost (length asked), 23)
+    -- "answer list shorter than the ticket list"
+    ∷ (ltb (length list) (length asked), 24)
+    ∷ []
 
 -- Preview
 
@@ -337,6 +357,30 @@ told clock (c ∷ cs) ticket =
 unfoldable pub enquiring : State → ℕ → Result
 enquiring s ticket = record { answer = told (s .clock) (s .charges) ticket; state = s; list = [] }
 
+-- Board
+
+-- "writes the start of each to another such list, or 4,294,967,295 for one not held"
+abbrev pub notHeld : ℕ
+notHeld = 4294967295
+
+abbrev pub startOrNotHeld : List Charge → ℕ → ℕ
+startOrNotHeld [] ticket = notHeld
+startOrNotHeld (c ∷ cs) ticket = cond (eqb (c .ticket) ticket) (c .start) (startOrNotHeld cs ticket)
+
+-- "those with a ticket not above the highest asked": not above the highest is not above one of them, and where none is asked
+-- there is none, "0 for an empty list"
+abbrev pub isLookedAt : List ℕ → Charge → Bool
+isLookedAt asked c = some (leb (c .ticket)) asked
+
+-- "Later places of the answer list are kept."
+unfoldable pub boarding : State → List ℕ → List ℕ → Result
+boarding s asked list =
+    record {
+      answer = looked (length (keep (isLookedAt asked) (s .charges)));
+      state = s;
+      list = written (map (startOrNotHeld (s .charges)) asked) list;
+    }
+
 -- One call
 
 -- what comes of a call that is not refused
@@ -348,6 +392,7 @@ granted s (offer ss) = offering s ss
 granted s replanLatest = replanningLatest s
 granted s (replanLines allowance) = replanningLines s allowance
 granted s (enquire ticket) = enquiring s ticket
+granted s (board asked list) = boarding s asked list
 
 -- "Each gets its number and changes neither the station nor any lent list. No other call is refused, and every call returns."
 abbrev pub step : State → Call → Result

@@ -17,3 +17,4 @@ pub mod CasesOfTwoRates
 pub mod CasesOfPriority
 pub mod CasesOnBusyEvenings
 pub mod CasesOfTails
+pub mod CasesOnTheBoard
