@@ -102,30 +102,28 @@ unfolding limited balanced sound earliest opening committing moving enquiring
 tailed-counts = (refl, refl, refl, refl)
 
 -- N = D = 1. Ticket 2, of line 1 from 10 to 20, is withdrawn and has no charge: its start reads 0 and is not counted, in minute 0 or
--- elsewhere. Ticket 3 gets its place. The withdrawal of ticket 1, which has begun, is refused. At clock 1 ticket 4, of line 2, is
--- ordered and withdrawn: it is the last accepted, and its minute and the times of all four count in the ceiling.
+-- elsewhere. The withdrawal of ticket 1, which has begun, is refused. At clock 1 ticket 3, of line 2, is ordered and withdrawn: it
+-- is the last accepted, and its minute and the times of all three count in the ceiling.
 abbrev shorter : Past
 shorter =
     past step (opening (settings 1 100 0) .state)
     (commit 1 10 60 1 0
     ∷ commit 1 10 60 1 10
     ∷ withdraw 2
-    ∷ commit 1 5 60 1 10
     ∷ move 1 (replicate 360 7)
     ∷ withdraw 1
     ∷ commit 2 7 60 1 1
-    ∷ withdraw 4
+    ∷ withdraw 3
     ∷ [])
 
 shorter-known :
-    (shorter .withdrawn ≡ 2 ∷ 4 ∷ [])
-    × (same (map (λ (o : Order). o .ticket) (stayingOrders shorter)) (1 ∷ 3 ∷ []) ≡ true)
-    × (same (map (λ (o : Order). o .ticket) (withdrawnOrders shorter)) (2 ∷ 4 ∷ []) ≡ true)
-    × (map (enquiry step shorter) (1 ∷ 2 ∷ 3 ∷ 4 ∷ []) ≡ charging 0 10 1 ∷ refused 15 ∷ waiting 10 1 ∷ refused 15 ∷ [])
-    × (map (startOf step shorter) (shorter .orders) ≡ 0 ∷ 0 ∷ 10 ∷ 0 ∷ [])
-    × (map (countIn step shorter 1) (0 ∷ 9 ∷ 10 ∷ 14 ∷ 15 ∷ []) ≡ 1 ∷ 1 ∷ 1 ∷ 1 ∷ 0 ∷ [])
-    × (map (countIn step shorter 2) (0 ∷ 1 ∷ []) ≡ 0 ∷ 0 ∷ [])
+    (same (shorter .withdrawn) (2 ∷ 3 ∷ []) ≡ true)
+    × (same (map (λ (o : Order). o .ticket) (stayingOrders shorter)) (1 ∷ []) ≡ true)
+    × (same (map (λ (o : Order). o .ticket) (withdrawnOrders shorter)) (2 ∷ 3 ∷ []) ≡ true)
+    × (map (enquiry step shorter) (1 ∷ 2 ∷ 3 ∷ []) ≡ charging 0 10 1 ∷ refused 15 ∷ refused 15 ∷ [])
+    × (same (map (countIn step shorter 1) (0 ∷ 10 ∷ [])) (1 ∷ 0 ∷ []) ≡ true)
+    × (countIn step shorter 2 1 ≡ 0)
     × (lastMinute 0 (shorter .orders) ≡ 1)
-    × (totalTime 0 (shorter .orders) ≡ 32)
+    × (totalTime 0 (shorter .orders) ≡ 27)
 unfolding limited balanced sound earliest opening committing moving enquiring withdrawing
-shorter-known = (refl, refl, refl, refl, refl, refl, refl, refl, refl)
+shorter-known = (refl, refl, refl, refl, refl, refl, refl, refl)
