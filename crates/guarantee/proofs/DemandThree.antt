@@ -253,9 +253,6 @@ module _ (s : State) (calls : List Call) (v : ValidState s) where
         unmoved = unmoved-part;
       }
 
-  pub clock-later : s .clock ≤ past step s calls .clock
-  clock-later = reached .later
-
 -- what it holds has at the beginning the starts that it has them with
 pub beginning-starts :
     (s : State) → ValidState s → Each (λ c. startOf step (beginning s) (orderOf c) ≡ c .start) (s .charges)
