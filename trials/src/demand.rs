@@ -3,7 +3,9 @@
 //! answers say. Each part quotes the sentence of document 01 that it checks.
 //!
 //! Starts of waiting orders are known from enquiries, so before a station is
-//! left every order that was not reported has to be asked for.
+//! left every order that was not reported has to be asked for. A board shows starts too.
+
+mod board;
 
 use crate::protocol::{read_call, Call};
 use crate::script::{self, Line};
@@ -35,13 +37,18 @@ struct Order {
     /// "the one reported by the clock move that passed it"
     reported: Option<u64>,
     /// "and until then the one that an enquiry would give": known only since the
-    /// last call that was not an enquiry.
+    /// last call that was neither an enquiry nor a board.
     waiting: Option<u64>,
 }
 
 impl Order {
     fn start(&self) -> Option<u64> {
         self.reported.or(self.waiting)
+    }
+
+    /// "is finished when s + p + r is at or below the clock" (N7), else held.
+    fn held(&self, clock: u64, tail: u64) -> bool {
+        self.reported.is_none_or(|start| clock < start + self.time + tail)
     }
 }
 
@@ -53,7 +60,7 @@ struct Trace {
     tail: u64,
     clock: u64,
     orders: Vec<Order>,
-    /// Whether an enquiry was answered since the last other call.
+    /// Whether an enquiry or a board was answered since the last other call.
     asked: bool,
 }
 
@@ -126,9 +133,13 @@ impl Trace {
     }
 
     fn step(&mut self, call: &Call, answer: &Answer) -> Checked {
-        if let Call::Enquire { ticket } = call {
+        if let Call::Enquire { .. } | Call::Board { .. } = call {
             self.asked = true;
-            return self.enquiry(*ticket, answer);
+        }
+        match call {
+            Call::Enquire { ticket } => return self.enquiry(*ticket, answer),
+            Call::Board { tickets, .. } => return self.board(tickets, answer),
+            _ => (),
         }
         self.leave(matches!(call, Call::Open { .. }))?;
         match (call, answer.refused()) {

@@ -11,7 +11,7 @@ use trials::script::Line;
 use trials::{demand, generate, script};
 
 /// With the kind of scripts that finds them, and how many lines are left at most.
-const FAULTY: [(&str, usize, &[Error]); 10] = [
+const FAULTY: [(&str, usize, &[Error]); 11] = [
     (
         "leaning",
         13,
@@ -120,6 +120,19 @@ const FAULTY: [(&str, usize, &[Error]); 10] = [
             Error::TailBeforeTheBound,
         ],
     ),
+    // A place behind the answers is in no line, so `boards.rs` has that error alone.
+    (
+        "boards",
+        4,
+        &[
+            Error::EqualNeighbours,
+            Error::OneTooManyAsked,
+            Error::ZeroForNotHeld,
+            Error::LookedIsAsked,
+            Error::StopsAtNotHeld,
+            Error::PlacesBeforeOrder,
+        ],
+    ),
 ];
 
 fn choice(kind: &str, scripts: u64) -> Choice<'_> {
@@ -142,11 +155,11 @@ fn the_comparison_finds_every_faulty_yard() {
     }
 }
 
-/// The rounds that the tests make by themselves are those of the rules, where no error
-/// is put into them.
+/// The rounds and boards that the tests make by themselves are those of the rules, where no
+/// error is put into them.
 #[test]
 fn own_rounds_without_an_error() {
-    for kind in ["leaning", "rates", "priority", "weights", "tails"] {
+    for kind in ["leaning", "rates", "priority", "weights", "tails", "boards"] {
         let yard = Inside(|| Faulty::new(Error::OwnRounds));
         let found = compare(&yard, &choice(kind, 40)).map_err(|failure| failure.what);
         assert_eq!(found.map(|summary| summary.scripts), Ok(41), "{kind}");

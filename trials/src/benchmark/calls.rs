@@ -170,6 +170,13 @@ pub fn preview_before_all(held: usize) -> Measured {
     Measured::repeatable(states::behind(held - 1), states::preview_at_once())
 }
 
+/// A board of so many tickets at a full station, spread evenly over those held.
+pub fn board(asked: usize) -> Measured {
+    let tickets = (1..=asked).map(|place| (180 * place / asked) as u32).collect();
+    let call = Call::Board { places: asked as u32, tickets };
+    Measured::repeatable(states::peak(180), write_call(&call).into_bytes())
+}
+
 pub fn worst_latest() -> Measured {
     Measured::kept(states::queue(180), b"latest".to_vec())
 }
@@ -235,6 +242,18 @@ mod tests {
                 assert_eq!(last(measured), Some("start 0".to_string()));
             }
             assert_eq!(last(worst_preview(held)), Some("start 2880".to_string()));
+        }
+    }
+
+    /// The last ticket is the last one held, so each board walks over all charges.
+    #[test]
+    fn boards_of_held_tickets() {
+        for asked in [1, 20, 180] {
+            let answers = answers_of(Station::fresh(1, 100, 0), &board(asked).scripts(2)[0]);
+            let last = show(&answers[answers.len() - 1]);
+            assert!(last.starts_with("board 180 "), "{last}");
+            assert!(!last.contains("4294967295"), "{last}");
+            assert_eq!(last.split(' ').count(), 2 + asked);
         }
     }
 

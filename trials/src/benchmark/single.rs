@@ -45,6 +45,9 @@ pub fn print(pair: &Pair) -> Result<(), String> {
         ("replan by lines, 180 on one line", calls::one_round(false)),
         ("replan by lines, 180 equal ones on one line", calls::all_equal()),
         ("replan by lines, worst", calls::worst_lines()?),
+        ("board of 1 ticket", calls::board(1)),
+        ("board of 20 tickets", calls::board(20)),
+        ("board of 180 tickets", calls::board(180)),
     ];
     let mut table = Table::new(&["call", "program µs", "Rust µs", "ratio"]);
     for (title, measured) in &measured {

@@ -4,11 +4,12 @@
 
 use super::profile::{Load, Profile, Rules, Wanted};
 use super::search::earliest;
-use crate::yard::{Committed, Found, Moved, Order, Planned, Refusal, Yard};
+use crate::yard::{Committed, Found, Moved, Order, Planned, Refusal, Yard, NOT_HELD};
 
 pub const PLACES: usize = 180;
 pub const LAST_TICKET: u32 = 65_535;
 pub const LAST_CLOCK: u32 = 1_000_000;
+const MOST_ASKED: usize = 180;
 
 #[derive(Clone, Copy)]
 pub struct Charge {
@@ -206,5 +207,27 @@ impl Yard for Station {
         } else {
             Found::Charging { start, end: u64::from(charge.end()), rate }
         })
+    }
+
+    /// A merge: both lists rise, so the walk over the charges goes on from ticket to ticket.
+    /// At the end it has passed those up to the last one asked.
+    fn board(&self, tickets: &[u32], starts: &mut [u32]) -> Result<usize, Refusal> {
+        if tickets.len() > MOST_ASKED || tickets.windows(2).any(|two| two[0] >= two[1]) {
+            return Err(23);
+        }
+        if starts.len() < tickets.len() {
+            return Err(24);
+        }
+        let mut looked = 0;
+        for (start, ticket) in starts.iter_mut().zip(tickets) {
+            *start = NOT_HELD;
+            while let Some(charge) = self.charges.get(looked).filter(|one| one.ticket <= *ticket) {
+                looked += 1;
+                if charge.ticket == *ticket {
+                    *start = charge.start;
+                }
+            }
+        }
+        Ok(looked)
     }
 }

@@ -5,7 +5,7 @@ use super::author::Author;
 use super::{due, mixed};
 use crate::protocol::LONGEST_LINE;
 
-const SAMPLES: [&str; 57] = [
+const SAMPLES: [&str; 65] = [
     "",
     "#",
     "# commit 1 1 1 1 0",
@@ -64,6 +64,14 @@ const SAMPLES: [&str; 57] = [
     "lines 1 1",
     "enquire",
     "enquire 1 x",
+    "board",
+    "board ",
+    "board  1",
+    "board x 1",
+    "board 1 x",
+    "board 4294967296 1",
+    "board 2 1 4294967296",
+    "board 0000001 01",
 ];
 
 fn broken(author: &mut Author) -> Vec<u8> {

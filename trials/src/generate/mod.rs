@@ -3,6 +3,7 @@
 //! follow each other in one run of a program.
 
 mod author;
+mod boards;
 pub mod cars;
 mod commits;
 mod due;
@@ -41,7 +42,7 @@ pub struct Kind {
     write: fn(&mut Author),
 }
 
-pub const KINDS: [Kind; 21] = [
+pub const KINDS: [Kind; 22] = [
     Kind { name: "edges", share: 15, write: edges::write },
     Kind { name: "mixed", share: 24, write: mixed::write },
     Kind { name: "offers", share: 15, write: offers::write },
@@ -59,6 +60,7 @@ pub const KINDS: [Kind; 21] = [
     Kind { name: "weights", share: 5, write: weights::write },
     Kind { name: "searches", share: 8, write: searches::write },
     Kind { name: "tails", share: 15, write: tails::write },
+    Kind { name: "boards", share: 8, write: boards::write },
     // These are long and come once in a thousand, at turns of their own.
     Kind { name: "tickets", share: 0, write: tickets::write },
     Kind { name: "spent", share: 0, write: spent::write },

@@ -3,6 +3,7 @@
 //! "When the yard takes delivery", and the wrong programs of each request. All else
 //! is the reference's.
 
+mod boards;
 mod bounds;
 mod commits;
 mod lists;
@@ -100,6 +101,18 @@ pub enum Error {
     TailOfARefusedOpening,
     /// 19 before 3.
     TailBeforeTheBound,
+    // N10, the board over the exit
+    EqualNeighbours,
+    /// 181 tickets.
+    OneTooManyAsked,
+    PlacesBehindCleared,
+    ZeroForNotHeld,
+    /// The number of tickets as the number looked at.
+    LookedIsAsked,
+    /// The walk ends at the first ticket that is not held.
+    StopsAtNotHeld,
+    /// 24 before 23.
+    PlacesBeforeOrder,
     /// None of these, but the rounds are made as for those in which the error lies.
     OwnRounds,
 }
@@ -247,5 +260,9 @@ impl Yard for Faulty {
         }
         let found = faulty.with_clock(u64::MAX, |faulty| faulty.station.enquire(ticket))?;
         Ok(self.shown_end(found))
+    }
+
+    fn board(&self, tickets: &[u32], starts: &mut [u32]) -> Result<usize, Refusal> {
+        self.shown_board(tickets, starts)
     }
 }
