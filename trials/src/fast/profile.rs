@@ -196,10 +196,6 @@ impl Profile {
         Some((self.from[step], self.counts[step]))
     }
 
-    pub fn is_sound(&self, rules: Rules) -> bool {
-        self.counts[..self.steps].iter().all(|counts| rules.sound(*counts))
-    }
-
     /// The first unsound minute and the one after the last.
     pub fn unsound_span(&self, rules: Rules) -> Option<(u32, u32)> {
         let unsound = |step: &usize| !rules.sound(self.counts[*step]);
