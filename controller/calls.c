@@ -6,6 +6,14 @@
 
 #define PLACES_MOST 4096 /* the places of a lent list at most */
 
+/* So many places of a list as are asked for, each 4,294,967,295. */
+static size_t lend(uint32_t list[PLACES_MOST], uint32_t asked) {
+    size_t places = asked < PLACES_MOST ? asked : PLACES_MOST, i;
+
+    for (i = 0; i < places; i++) list[i] = UINT32_MAX;
+    return places;
+}
+
 static uint32_t make_open(struct buffer *b, const uint32_t *n, struct text *text, uint32_t *blocks) {
     uint32_t bound = 0;
     uint32_t refusal = togbeyis_open(b->bytes, b->length, n[0], n[1], n[2], &bound, blocks);
@@ -32,9 +40,8 @@ static uint32_t make_commit(struct buffer *b, const uint32_t *n, struct text *te
 
 static uint32_t make_move(struct buffer *b, const uint32_t *n, struct text *text, uint32_t *blocks) {
     uint32_t report[PLACES_MOST], refusal;
-    size_t places = n[1] < PLACES_MOST ? n[1] : PLACES_MOST, reported = 0, dropped = 0, i;
+    size_t places = lend(report, n[1]), reported = 0, dropped = 0, i;
 
-    for (i = 0; i < places; i++) report[i] = UINT32_MAX;
     refusal = togbeyis_move(b->bytes, b->length, n[0], report, places, &reported, &dropped, blocks);
     if (refusal) return refusal;
     text_add(text, "moved %zu dropped %zu", reported, dropped);
@@ -87,6 +94,17 @@ static uint32_t make_enquire(struct buffer *b, const uint32_t *n, struct text *t
     return 0;
 }
 
+static uint32_t make_board(struct buffer *b, const uint32_t *n, size_t count, struct text *text, uint32_t *blocks) {
+    uint32_t answers[PLACES_MOST], refusal;
+    size_t places = lend(answers, n[0]), asked = count - 1, looked = 0, i;
+
+    refusal = togbeyis_board(b->bytes, b->length, n + 1, asked, answers, places, &looked, blocks);
+    if (refusal) return refusal;
+    text_add(text, "board %zu", looked);
+    for (i = 0; i < asked; i++) text_add(text, " %" PRIu32, answers[i]);
+    return 0;
+}
+
 static uint32_t make(struct buffer *b, const struct request *request, struct text *text, uint32_t *blocks) {
     const uint32_t *n = request->numbers;
 
@@ -99,6 +117,7 @@ static uint32_t make(struct buffer *b, const struct request *request, struct tex
     case LATEST: return make_latest(b, text, blocks);
     case LINES: return make_lines(b, n, text, blocks);
     case ENQUIRE: return make_enquire(b, n, text, blocks);
+    case BOARD: return make_board(b, n, request->count, text, blocks);
     case READ:
     case WRITE:
     case NOTHING: break;

@@ -84,6 +84,12 @@ uint32_t togbeyis_lines(uint8_t *image, size_t length, uint32_t allowance, uint3
 uint32_t togbeyis_enquire(uint8_t *image, size_t length, uint32_t ticket, uint32_t *charging, uint32_t *start,
                           uint32_t *rate, uint32_t *end, uint32_t *blocks);
 
+/* Tells the board's starts: answers begins with the start of each ticket asked for, or 4,294,967,295 for one that is not held, and its
+ * later places stay; *looked is how many held charges have a ticket not above the highest asked. The image stays. 23 the tickets do not
+ * rise strictly or are more than 180; 24 places under count. */
+uint32_t togbeyis_board(uint8_t *image, size_t length, const uint32_t *asked, size_t count, uint32_t *answers,
+                        size_t places, size_t *looked, uint32_t *blocks);
+
 #ifdef __cplusplus
 }
 #endif
