@@ -63,13 +63,13 @@ module _ (s : Station) (ticket : ℕ) where
         (rw (one-held, with (isBegun (s .clock)) (lt-ltb (chargeAt (s .charges) i .start) (s .clock) h)))
         (omega arith)
 
-    module _ (h : s .clock ≤ chargeAt (s .charges) i .start) {rest : Charges} (r : Holds (withoutTicket ticket (chargesOf (s .charges))) rest) where
+    module _ (h : s .clock ≤ chargeAt (s .charges) i .start) (rest : Charges) (r : Holds (withoutTicket ticket (chargesOf (s .charges))) rest) where
       not-begun : some (λ c. hasTicket ticket c && isBegun (s .clock) c) (chargesOf (s .charges)) ≡ false
       not-begun =
           waits-not-begun (s .clock) ticket 1 (chargesOf (s .charges)) (v .state .rising)
           (with (isWaiting (s .clock)) (rw (le-ltb (chargeAt (s .charges) i .start) (s .clock) h)))
 
-      module _ {test : Bool} (q : test ≡ sound (limits (s .limit) (s .bound)) (s .clock) (loadsOf (chargesOf rest))) where
+      module _ (test : Bool) (q : test ≡ sound (limits (s .limit) (s .bound)) (s .clock) (loadsOf (chargesOf rest))) where
         whole : sound (limits (s .limit) (s .bound)) (s .clock) (loadsOf (withoutTicket ticket (chargesOf (s .charges)))) ≡ test
         whole = rw (← (r .charges)) (sym q)
 

@@ -7,7 +7,6 @@ use Rattle.rules.specs.Calls.{withdraw}
 use Rattle.charges.specs.Arrays.{foundAt}
 use Rattle.station.proofs.Refusing.{call-gives}
 use Rattle.station.proofs.Enquiring.{asked, enquire-held}
-use Rattle.station.proofs.Planned.{holdingCharges}
 use Rattle.station.proofs.Withdrawn.{withdraw-missing, withdraw-begun, withdraw-unsound, withdraw-taken, left-profiled}
 use borrow.Author.Needs.{needs}
 use Rattle.station.proofs.Station.withdraw.Statement.{statement}
@@ -37,7 +36,7 @@ returns : tie.Need-returns
 returns c =
     let s = c .before .before .before .before in
     record {
-      result = withdraw-missing (s .args .self) (s .args .ticket) (c .before .before .find .ensures ∙ ap foundAt (c .enum-told .given .1));
+      result = search (withdraw-missing (s .args .self) (s .args .ticket) (c .before .before .find .ensures ∙ ap foundAt (c .enum-told .given .1)));
       valid = s .pre;
     }
 
@@ -52,7 +51,7 @@ returns-2 c =
     let f = c .before .before .before .before in
     let s = f .before .before .before .before in
     record {
-      result = withdraw-begun (s .args .self) (s .args .ticket) (s .pre) (place f) (found f) (omega (arith, c .if1 .taken));
+      result = search (withdraw-begun (s .args .self) (s .args .ticket) (s .pre) (place f) (found f) (omega (arith, c .if1 .taken)));
       valid = s .pre;
     }
 
@@ -62,14 +61,14 @@ without-requires c κs = search needs
 plan-sound-requires : tie.Need-plan-sound-requires
 plan-sound-requires c κs =
     let s = c .before .before .before .before .before .before .before .before .before in
-    left-profiled (s .args .self) (s .args .ticket) (s .pre) (c .without .ensures)
+    left-profiled (s .args .self) (s .args .ticket) (s .pre) (search (c .without .ensures))
 
 returns-3 : tie.Need-returns-3
 returns-3 c =
     let f = c .before .before .before .before .before .before .before in
     let s = f .before .before .before .before in
     record {
-      result = withdraw-unsound (s .args .self) (s .args .ticket) (s .pre) (place f) (found f) (omega (arith, c .before .before .before .if1 .left)) (c .before .before .without .ensures) (c .before .plan-sound .ensures) (not-true _ (c .if2 .taken));
+      result = search (withdraw-unsound (s .args .self) (s .args .ticket) (s .pre) (place f) (found f) (omega (arith, c .before .before .before .if1 .left)) (c .before .before .without .result) (search (c .before .before .without .ensures)) (c .before .plan-sound .result) (search (c .before .plan-sound .ensures)) (not-true _ (c .if2 .taken)));
       valid = s .pre;
     }
 
@@ -78,8 +77,8 @@ returns-4 c =
     let f = c .before .before .before .before .before .before .before in
     let s = f .before .before .before .before in
     let rest = c .before .before .without in
-    call-gives (s .args .self) (withdraw (s .args .ticket)) _ (holdingCharges (s .args .self) (rest .result)) _ (s .pre) (rest .ensures .columns)
-    (withdraw-taken (s .args .self) (s .args .ticket) (s .pre) (place f) (found f) (omega (arith, c .before .before .before .if1 .left)) (rest .ensures) (c .before .plan-sound .ensures) (not-false _ (c .if2 .left)))
+    call-gives (s .args .self) (withdraw (s .args .ticket)) _ _ _ (s .pre) (search (rest .ensures .columns))
+    (search (withdraw-taken (s .args .self) (s .args .ticket) (s .pre) (place f) (found f) (omega (arith, c .before .before .before .if1 .left)) (rest .result) (rest .ensures) (c .before .plan-sound .result) (search (c .before .plan-sound .ensures)) (not-false _ (c .if2 .left))))
 
 pub withdraw-spec : {M : Type 1} → statement M
 withdraw-spec =
