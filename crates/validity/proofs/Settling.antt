@@ -21,7 +21,8 @@ use Rattle.layout.specs.Image.{noCharge, heldAt}
 use Rattle.layout.specs.Validity.{boundRight, chargeRight, ticketAt, ticketRight, recordRight, isValid}
 use Rattle.layout.proofs.Listing.{every-at}
 use Rattle.layout.proofs.Judging.{RightCharge, charge-tested}
-use Rattle.validity.specs.Settled.{chargeValid, ticketOrNext, ticketRises, Settled, Profiled}
+use Rattle.planner.specs.Ready.{Profiled}
+use Rattle.validity.specs.Settled.{chargeValid, ticketOrNext, ticketRises, Settled}
 use Rattle.validity.proofs.Ranging.{Ranged, ranged, valid-ranged, valid-bound}
 
 -- Tickets that rise, by what was read
