@@ -36,7 +36,7 @@ pub struct Trial {
 }
 
 /// So many images are read by one run of the program.
-const BATCH: usize = 1_000;
+const BATCH: usize = 250;
 
 /// All of them; `times` as many of those that are drawn by lot.
 pub fn trials(seed: u64, times: u64) -> impl Iterator<Item = Trial> {
