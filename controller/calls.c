@@ -105,6 +105,13 @@ static uint32_t make_board(struct buffer *b, const uint32_t *n, size_t count, st
     return 0;
 }
 
+static uint32_t make_withdraw(struct buffer *b, const uint32_t *n, struct text *text, uint32_t *blocks) {
+    uint32_t refusal = togbeyis_withdraw(b->bytes, b->length, n[0], blocks);
+
+    if (!refusal) text_add(text, "withdrawn");
+    return refusal;
+}
+
 static uint32_t make(struct buffer *b, const struct request *request, struct text *text, uint32_t *blocks) {
     const uint32_t *n = request->numbers;
 
@@ -118,6 +125,7 @@ static uint32_t make(struct buffer *b, const struct request *request, struct tex
     case LINES: return make_lines(b, n, text, blocks);
     case ENQUIRE: return make_enquire(b, n, text, blocks);
     case BOARD: return make_board(b, n, request->count, text, blocks);
+    case WITHDRAW: return make_withdraw(b, n, text, blocks);
     case READ:
     case WRITE:
     case NOTHING: break;

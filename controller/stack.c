@@ -41,6 +41,7 @@ static void *calls(void *nothing) {
     togbeyis_enquire(image, sizeof image, TOGBEYIS_HELD, &a, &b, &c, &d, &blocks);
     for (i = 0; i < TOGBEYIS_HELD; i++) starts[i] = (uint32_t)(i + 1);
     togbeyis_board(image, sizeof image, starts, TOGBEYIS_HELD, report, TOGBEYIS_REPORT, &reported, &blocks);
+    togbeyis_withdraw(image, sizeof image, TOGBEYIS_HELD, &blocks);
     togbeyis_move(image, sizeof image, 100, report, TOGBEYIS_REPORT, &reported, &dropped, &blocks);
     togbeyis_latest(image, sizeof image, &a, &before, &after, &b, &blocks);
     togbeyis_lines(image, sizeof image, 1000, &a, &before, &after, &b, &blocks);

@@ -90,6 +90,10 @@ uint32_t togbeyis_enquire(uint8_t *image, size_t length, uint32_t ticket, uint32
 uint32_t togbeyis_board(uint8_t *image, size_t length, const uint32_t *asked, size_t count, uint32_t *answers,
                         size_t places, size_t *looked, uint32_t *blocks);
 
+/* Withdraws an order that waits: its charge is gone and its place free. 15 no held charge has this ticket; 25 the charge has begun;
+ * 26 the rest would not be sound. */
+uint32_t togbeyis_withdraw(uint8_t *image, size_t length, uint32_t ticket, uint32_t *blocks);
+
 #ifdef __cplusplus
 }
 #endif

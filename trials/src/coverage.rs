@@ -37,6 +37,7 @@ fn sort_of(line: &[u8], answer: &str) -> String {
         Call::Lines { .. } => "lines",
         Call::Enquire { .. } => "enquire",
         Call::Board { .. } => "board",
+        Call::Withdraw { .. } => "withdraw",
     };
     let words: Vec<&str> = answer.split(' ').collect();
     match words[0] {

@@ -6,6 +6,7 @@
 //! left every order that was not reported has to be asked for. A board shows starts too.
 
 mod board;
+mod withdrawal;
 
 use crate::protocol::{read_call, Call};
 use crate::script::{self, Line};
@@ -39,6 +40,8 @@ struct Order {
     /// "and until then the one that an enquiry would give": known only since the
     /// last call that was neither an enquiry nor a board.
     waiting: Option<u64>,
+    /// It "has no charge" any more (N11).
+    withdrawn: bool,
 }
 
 impl Order {
@@ -46,9 +49,11 @@ impl Order {
         self.reported.or(self.waiting)
     }
 
-    /// "is finished when s + p + r is at or below the clock" (N7), else held.
+    /// "is finished when s + p + r is at or below the clock" (N7), else held, unless it was
+    /// withdrawn.
     fn held(&self, clock: u64, tail: u64) -> bool {
-        self.reported.is_none_or(|start| clock < start + self.time + tail)
+        let finished = self.reported.is_some_and(|start| start + self.time + tail <= clock);
+        !finished && !self.withdrawn
     }
 }
 
@@ -149,6 +154,7 @@ impl Trace {
             }
             (Call::Commit { order, .. }, false) => self.accepted(order, answer),
             (Call::Move { target, .. }, false) => self.moved(u64::from(*target), answer),
+            (Call::Withdraw { ticket }, false) => self.withdrawn(*ticket, answer),
             _ => Ok(()),
         }
     }
@@ -167,7 +173,7 @@ impl Trace {
     }
 
     fn all_starts_known(&self) -> bool {
-        self.orders.iter().all(|order| order.start().is_some())
+        self.standing().all(|(_, order)| order.start().is_some())
     }
 
     /// "tickets are 1, 2, 3 and so on in the order of acceptance"
@@ -186,6 +192,7 @@ impl Trace {
             order: self.clock,
             reported: None,
             waiting: None,
+            withdrawn: false,
         });
         Ok(())
     }
@@ -212,6 +219,7 @@ impl Trace {
         let clock = self.clock;
         let order = self.order(ticket).ok_or(format!("ticket {ticket} reported, not given"))?;
         ensure(order.reported.is_none(), || format!("ticket {ticket} reported again"))?;
+        ensure(!order.withdrawn, || format!("ticket {ticket} reported, withdrawn"))?;
         ensure(clock <= start && start < target, || {
             format!(
                 "ticket {ticket} with start {start} reported by a move from {clock} to {target}"
@@ -237,6 +245,9 @@ impl Trace {
             return ensure(answer.refused(), || format!("ticket {ticket} found, not given"));
         };
         let found = || format!("ticket {ticket}: {} {:?}", answer.words, answer.numbers);
+        if order.withdrawn {
+            return ensure(answer.refused() && answer.numbers == [15], found);
+        }
         match (order.reported, answer.words.as_str(), answer.numbers.as_slice()) {
             (None, "waiting", [start, rate]) => {
                 let same = order.waiting.is_none_or(|before| before == *start);
@@ -255,8 +266,7 @@ impl Trace {
 
     /// The claim over the whole list, once all starts are known.
     fn settle(&self) -> Checked {
-        for (place, order) in self.orders.iter().enumerate() {
-            let ticket = place + 1;
+        for (ticket, order) in self.standing() {
             let start =
                 order.start().ok_or(format!("ticket {ticket} neither reported nor found"))?;
             ensure(order.order <= start, || {
@@ -269,16 +279,15 @@ impl Trace {
 
     /// "No charge ends later than the last minute in which an order was accepted
     /// plus the charging times of all accepted orders." "The ceiling on ends gains r for
-    /// each accepted order" (N7).
+    /// each accepted order" (N7), and a withdrawn order's "time still counts in the ceiling
+    /// on ends" (N11), as does its order minute.
     fn check_ends(&self) -> Checked {
         let Some(last) = self.orders.last() else { return Ok(()) };
         let times = self.orders.iter().map(|order| order.time + self.tail);
         let ceiling = last.order + times.sum::<u64>();
-        for (place, order) in self.orders.iter().enumerate() {
+        for (ticket, order) in self.standing() {
             let end = order.start().unwrap_or(0) + order.time;
-            ensure(end <= ceiling, || {
-                format!("ticket {} ends in {end}, after {ceiling}", place + 1)
-            })?;
+            ensure(end <= ceiling, || format!("ticket {ticket} ends in {end}, after {ceiling}"))?;
         }
         Ok(())
     }
@@ -286,12 +295,12 @@ impl Trace {
     /// "in every minute, gone or to come under the plan held, no line has more
     /// than its limit charging and no two lines differ by more than the bound";
     /// "A line's count in a minute takes all accepted orders of the list, dropped
-    /// ones too"; they are "weighted counts" (N4), in which each is active in "minutes s to
-    /// s + p + r − 1" (N7). Counts change only where an order starts or its tail ends, so
-    /// these minutes stand for all.
+    /// ones too", but not those that were withdrawn (N11); they are "weighted counts" (N4),
+    /// in which each is active in "minutes s to s + p + r − 1" (N7). Counts change only where
+    /// an order starts or its tail ends, so these minutes stand for all.
     fn check_counts(&self) -> Checked {
         let mut changes = Vec::new();
-        for order in &self.orders {
+        for (_, order) in self.standing() {
             let (start, line) = (order.start().unwrap_or(0), order.line as usize - 1);
             changes.push((start, line, i64::from(order.rate)));
             changes.push((start + order.time + self.tail, line, -i64::from(order.rate)));

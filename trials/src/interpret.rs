@@ -76,6 +76,10 @@ impl<Y: Yard> Interpreter<Y> {
                 let looked = yard.board(tickets, &mut self.list)?;
                 protocol::write_board(out, looked, &self.list[..tickets.len()]);
             }
+            Call::Withdraw { ticket } => {
+                yard.withdraw(*ticket)?;
+                protocol::write_withdrawn(out);
+            }
         }
         Ok(())
     }

@@ -11,6 +11,7 @@
 //! | `lines allowance` | `plan ..`, or `refused 11` |
 //! | `enquire T` | `waiting S RATE`, `charging S E RATE`, or `refused 15` |
 //! | `board places t1 t2 ..` | `board LOOKED A1 A2 ..`, or `refused K` |
+//! | `withdraw T` | `withdrawn`, or `refused K` |
 //!
 //! Words are separated by exactly one space byte. Empty lines and lines that
 //! begin with `#` get no answer. Anything else gets `error` and a reason.
@@ -33,6 +34,7 @@ pub enum Call {
     Lines { allowance: u32 },
     Enquire { ticket: u32 },
     Board { places: u32, tickets: Vec<u32> },
+    Withdraw { ticket: u32 },
 }
 
 #[derive(Clone, Copy, Debug, PartialEq, Eq)]
@@ -84,6 +86,7 @@ pub fn read_call(text: &[u8]) -> Result<Option<Call>, Fault> {
         b"lines" => numbers(words).map(|[allowance]| Call::Lines { allowance }),
         b"enquire" => numbers(words).map(|[ticket]| Call::Enquire { ticket }),
         b"board" => board(words),
+        b"withdraw" => numbers(words).map(|[ticket]| Call::Withdraw { ticket }),
         _ => Err(Fault::UnknownCall),
     };
     call.map(Some)
@@ -143,6 +146,7 @@ pub fn write_call(call: &Call) -> String {
         Call::Lines { allowance } => format!("lines {allowance}"),
         Call::Enquire { ticket } => format!("enquire {ticket}"),
         Call::Board { places, tickets } => format!("board {places}{}", write_list(tickets)),
+        Call::Withdraw { ticket } => format!("withdraw {ticket}"),
     }
 }
 
@@ -231,4 +235,9 @@ pub fn write_board(out: &mut Vec<u8>, looked: usize, starts: &[u32]) {
     for start in starts {
         words(out, "", &[u64::from(*start)]);
     }
+}
+
+/// A bare acknowledgement.
+pub fn write_withdrawn(out: &mut Vec<u8>) {
+    words(out, "withdrawn", &[]);
 }

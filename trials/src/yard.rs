@@ -66,4 +66,6 @@ pub trait Yard {
     /// "takes a rising list of 32-bit numbers and writes the start of each to another such
     /// list", and "answers how many it looked at" (N10).
     fn board(&self, tickets: &[u32], starts: &mut [u32]) -> Result<usize, Refusal>;
+    /// "A waiting charge is removed, and its place is free" (N11).
+    fn withdraw(&mut self, ticket: u32) -> Result<(), Refusal>;
 }

@@ -45,6 +45,8 @@ fn words_that_are_no_numbers() {
         "board x",
         "board 1 ",
         "board 1 2  3",
+        "withdraw ",
+        "withdraw 1x",
     ] {
         assert_eq!(fault(text.as_bytes()), Fault::NotANumber, "{text:?}");
     }
@@ -83,6 +85,8 @@ fn the_first_fault_counts() {
     assert_eq!(fault(b"board"), Fault::MissingNumber);
     assert_eq!(fault(b"board 4294967296 x"), Fault::NumberTooLarge);
     assert_eq!(fault(b"board x 4294967296"), Fault::NotANumber);
+    assert_eq!(fault(b"withdraw"), Fault::MissingNumber);
+    assert_eq!(fault(b"withdraw 1 x"), Fault::ExtraNumber);
     assert_eq!(fault(b"latest "), Fault::ExtraNumber);
     assert_eq!(fault(b"latest x"), Fault::ExtraNumber);
 }
@@ -143,6 +147,7 @@ fn written_calls_are_read_back() {
         Call::Enquire { ticket: 65_536 },
         Call::Board { places: 4_097, tickets: vec![] },
         Call::Board { places: 0, tickets: vec![3, 3, u32::MAX] },
+        Call::Withdraw { ticket: u32::MAX },
     ] {
         assert_eq!(read_call(write_call(&call).as_bytes()), Ok(Some(call)));
     }

@@ -7,7 +7,7 @@ use mathlib.Core.List.{List, [], _∷_, map}
 use Rattle.rules.specs.Basics.{Found, at, nothing, firstOf}
 use Rattle.rules.specs.Replan.{Proposal, Replanned, starts, none, latest, byLines}
 use Rattle.rules.specs.Judgement.{judged}
-use Rattle.rules.specs.Calls.{State, Settings, Result, answering, opening, Call, preview, commit, move, offer, replanLatest, replanLines, enquire, board, lent, refusals, granted, step, run, limitsOf, drawFor, startFor, previewedAt, decided, tested, previewing, committing, moving, offering, replanningLatest, replanningLines, enquiring, boarding}
+use Rattle.rules.specs.Calls.{State, Settings, Result, answering, opening, Call, preview, commit, move, offer, replanLatest, replanLines, enquire, board, withdraw, lent, refusals, granted, step, run, limitsOf, drawFor, startFor, previewedAt, decided, tested, previewing, committing, moving, offering, replanningLatest, replanningLines, enquiring, boarding, withdrawing}
 use Rattle.rules.specs.Valid.{ValidState}
 use Rattle.rules.proofs.Validity.{opening-valid, step-valid}
 use Rattle.layout.specs.Image.{imageOf}
@@ -41,7 +41,7 @@ tested-stays s rounds (starts ss) list = decided-stays s rounds ss list (judged 
 tested-stays s rounds (none cause) list = λ e. refl
 
 granted-stays : (s : State) (c : Call) → Stays s (granted s c)
-unfolding previewing committing moving offering replanningLatest replanningLines enquiring boarding
+unfolding previewing committing moving offering replanningLatest replanningLines enquiring boarding withdrawing
 granted-stays s (preview line p d rate) = previewed-stays s (startFor s (drawFor s line p rate))
 granted-stays s (commit line p d rate shown) = λ e. absurd (true≢false (sym e))
 granted-stays s (move target list) = λ e. absurd (true≢false (sym e))
@@ -51,6 +51,7 @@ granted-stays s (replanLines allowance) =
     let r : Replanned = byLines (limitsOf s) (s .clock) allowance (s .charges) in tested-stays s (r .rounds) (r .proposal) []
 granted-stays s (enquire ticket) = λ e. refl
 granted-stays s (board asked list) = λ e. refl
+granted-stays s (withdraw ticket) = λ e. absurd (true≢false (sym e))
 
 refused-stays : (s : State) (c : Call) → Stays s (step s c)
 refused-stays s c = answering-stays (firstOf (refusals s c)) s (lent c) (granted s c) (granted-stays s c)

@@ -5,7 +5,7 @@ use mathlib.Core.Bool.{Bool, true, false, cond}
 use mathlib.Core.List.{List, [], _∷_}
 use lib.Dec.{eqb}
 use lib.ListN.{length}
-use Rattle.rules.specs.Calls.{Settings, State, Answer, refused, opened, previewed, committed, moved, planned, waiting, charging, looked, Result, answering, opening, Call, lent, step, written}
+use Rattle.rules.specs.Calls.{Settings, State, Answer, refused, opened, previewed, committed, moved, planned, waiting, charging, looked, withdrawn, Result, answering, opening, Call, lent, step, written}
 use Rattle.layout.specs.Image.{imageOf}
 use Rattle.layout.specs.Reading.{RestoreResult, restoring}
 use Rattle.layout.specs.Blocks.{differing}
@@ -35,6 +35,7 @@ told (planned cause before after rounds) = telling (cause ∷ before ∷ after �
 told (waiting start rate) = telling (0 ∷ start ∷ rate ∷ [])
 told (charging start end rate) = telling (1 ∷ start ∷ rate ∷ end ∷ [])
 told (looked count) = telling (count ∷ [])
+told withdrawn = telling []
 
 -- the number returned, and afterwards the numbers behind the references in their order, the image and the lent list
 pub record Left : Type 0 where

@@ -8,3 +8,4 @@ pub mod enquiry;
 pub mod open;
 pub mod order;
 pub mod plan;
+pub mod withdraw;

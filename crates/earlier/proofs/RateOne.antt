@@ -6,10 +6,10 @@ use mathlib.Core.Bool.{not}
 use mathlib.Core.List.{List, [], _∷_}
 use borrow.Author.Tests.{le-ltb}
 use Rattle.rules.specs.Basics.{Each, Found, at, nothing, firstOf}
-use Rattle.rules.specs.Charge.{loadsOf, isFinished}
+use Rattle.rules.specs.Charge.{loadsOf, isFinished, hasTicket}
 use Rattle.rules.specs.Replan.{Proposal, starts, none, latest, Replanned, byLines}
 use Rattle.rules.specs.Judgement.{judged}
-use Rattle.rules.specs.Calls.{State, limitsOf, Result, answering, Call, preview, commit, move, offer, replanLatest, replanLines, enquire, board, refusals, drawFor, startFor, previewedAt, previewing, committing, moving, decided, tested, offering, replanningLatest, replanningLines, enquiring, boarding, step, run}
+use Rattle.rules.specs.Calls.{State, limitsOf, Result, answering, Call, preview, commit, move, offer, replanLatest, replanLines, enquire, board, withdraw, refusals, drawFor, startFor, previewedAt, previewing, committing, moving, decided, tested, offering, replanningLatest, replanningLines, enquiring, boarding, withdrawing, step, run}
 use Rattle.rules.specs.Valid.{ValidState}
 use Rattle.earlier.specs.Unrated.{testedBefore, startForBefore, stepBefore, runBefore, AtRateOne, StatesOne}
 use Rattle.rules.proofs.Lists.{each-append, keep-each}
@@ -48,6 +48,7 @@ module _ (s : State) (v : ValidState s) (one : AtRateOne (s .charges)) where
       ∙ ap (λ (r : Replanned). testedBefore s (r .rounds) (r .proposal) []) (lines-is (limitsOf s) (s .clock) (s .charges) one allowance))
   step-is (enquire ticket) h = refl
   step-is (board asked list) h = refl
+  step-is (withdraw ticket) h = refl
 
 -- Rates stay 1
 
@@ -69,7 +70,7 @@ tested-one s rounds (starts ss) list e = go (judged (limitsOf s) (s .clock) (s .
 tested-one s rounds (none cause) list e = e
 
 step-one : (s : State) (c : Call) → StatesOne c → AtRateOne (s .charges) → AtRateOne (step s c .state .charges)
-unfolding previewing committing moving offering replanningLatest replanningLines enquiring boarding
+unfolding previewing committing moving offering replanningLatest replanningLines enquiring boarding withdrawing
 step-one s (preview line p d rate) h e =
     answering-one (firstOf (refusals s (preview line p d rate))) s [] _ e (go (startFor s (drawFor s line p rate)))
   where
@@ -91,6 +92,9 @@ step-one s (replanLines allowance) h e =
     (byLines (limitsOf s) (s .clock) allowance (s .charges) .proposal) [] e)
 step-one s (enquire ticket) h e = answering-one (firstOf (refusals s (enquire ticket))) s [] _ e e
 step-one s (board asked list) h e = answering-one (firstOf (refusals s (board asked list))) s list _ e e
+step-one s (withdraw ticket) h e =
+    answering-one (firstOf (refusals s (withdraw ticket))) s [] _ e
+    (keep-each (λ c. c .rate ≡ 1) (λ c. not (hasTicket ticket c)) (s .charges) e)
 
 -- Lists of calls
 

@@ -6,10 +6,10 @@ use mathlib.Core.Bool.{not}
 use mathlib.Core.List.{List, [], _∷_, map}
 use native.Mathlib.Omega.{arith}
 use Rattle.rules.specs.Basics.{Each, Found, at, nothing, firstOf}
-use Rattle.rules.specs.Charge.{Charge, loadOf, loadsOf, isFinished, unfinishedCharges}
+use Rattle.rules.specs.Charge.{Charge, loadOf, loadsOf, isFinished, unfinishedCharges, hasTicket}
 use Rattle.rules.specs.Replan.{Proposal, starts, none, latest, byLines}
 use Rattle.rules.specs.Judgement.{judged}
-use Rattle.rules.specs.Calls.{State, limitsOf, holding, settings, Result, answering, opened, fresh, openRefusals, opening, Call, preview, commit, move, offer, replanLatest, replanLines, enquire, board, refusals, drawFor, startFor, previewedAt, previewing, committing, moving, decided, tested, offering, replanningLatest, replanningLines, enquiring, boarding, step, run}
+use Rattle.rules.specs.Calls.{State, limitsOf, holding, settings, Result, answering, opened, fresh, openRefusals, opening, Call, preview, commit, move, offer, replanLatest, replanLines, enquire, board, withdraw, refusals, drawFor, startFor, previewedAt, previewing, committing, moving, decided, tested, offering, replanningLatest, replanningLines, enquiring, boarding, withdrawing, step, run}
 use Rattle.rules.proofs.Lists.{each-append, keep-each}
 use Rattle.rules.proofs.Restarts.{each-restarted}
 use Rattle.earlier.specs.Untailed.{loadBefore, loadsBefore, unfinishedBefore, activeFor, stationBefore, startForBefore, stepBefore, runBefore, openingBefore, WithoutTails}
@@ -58,6 +58,7 @@ module _ (s : State) (w : WithoutTails s) where
   step-is (replanLines allowance) = rw station-is
   step-is (enquire ticket) = refl
   step-is (board asked list) = refl
+  step-is (withdraw ticket) = refl
 
 -- Stations stay without tails
 
@@ -78,7 +79,7 @@ tested-stays s rounds (starts ss) list w = go (judged (limitsOf s) (s .clock) (s
 tested-stays s rounds (none cause) list w = w
 
 step-stays : (s : State) (c : Call) → WithoutTails s → WithoutTails (step s c .state)
-unfolding previewing committing moving offering replanningLatest replanningLines enquiring boarding
+unfolding previewing committing moving offering replanningLatest replanningLines enquiring boarding withdrawing
 step-stays s (preview line p d rate) w =
     answering-stays (firstOf (refusals s (preview line p d rate))) s [] _ w (go (startFor s (drawFor s line p rate)))
   where
@@ -100,6 +101,9 @@ step-stays s (replanLines allowance) w =
     (byLines (limitsOf s) (s .clock) allowance (s .charges) .proposal) [] w)
 step-stays s (enquire ticket) w = answering-stays (firstOf (refusals s (enquire ticket))) s [] _ w w
 step-stays s (board asked list) w = answering-stays (firstOf (refusals s (board asked list))) s list _ w w
+step-stays s (withdraw ticket) w =
+    answering-stays (firstOf (refusals s (withdraw ticket))) s [] _ w
+    (holding-stays s (s .clock) _ w (keep-each AtItsEnd (λ c. not (hasTicket ticket c)) (s .charges) (w .active)))
 
 -- Lists of calls
 

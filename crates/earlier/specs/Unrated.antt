@@ -14,7 +14,7 @@ use Rattle.rules.specs.Search.{added, Caps}
 use Rattle.rules.specs.Priority.{Fitting}
 use Rattle.rules.specs.Replan.{byLatestStart, Proposal, starts, none, Placed, all, stuck, placeAll, startsIn, proposed, placeLines, largestLine, smallestLine, placedActive, Outcome, ends, lowers, Replanned, roundsFrom}
 use Rattle.rules.specs.Judgement.{restarted}
-use Rattle.rules.specs.Calls.{places, State, limitsOf, Result, answering, Call, preview, commit, move, offer, replanLatest, replanLines, enquire, board, lent, drawFor, isStart, refusals, previewedAt, committing, moving, kept, decided, enquiring, boarding}
+use Rattle.rules.specs.Calls.{places, State, limitsOf, Result, answering, Call, preview, commit, move, offer, replanLatest, replanLines, enquire, board, withdraw, lent, drawFor, isStart, refusals, previewedAt, committing, moving, kept, decided, enquiring, boarding, withdrawing}
 
 -- Counts
 
@@ -108,6 +108,7 @@ refusalsBefore s replanLatest = refusals s replanLatest
 refusalsBefore s (replanLines allowance) = refusals s (replanLines allowance)
 refusalsBefore s (enquire ticket) = refusals s (enquire ticket)
 refusalsBefore s (board asked list) = refusals s (board asked list)
+refusalsBefore s (withdraw ticket) = refusals s (withdraw ticket)
 
 abbrev pub grantedBefore : State → Call → Result
 grantedBefore s (preview line p d rate) = previewedAt s (startForBefore s line p rate)
@@ -120,6 +121,7 @@ grantedBefore s (replanLines allowance) =
     testedBefore s (r .rounds) (r .proposal) []
 grantedBefore s (enquire ticket) = enquiring s ticket
 grantedBefore s (board asked list) = boarding s asked list
+grantedBefore s (withdraw ticket) = withdrawing s ticket
 
 abbrev pub stepBefore : State → Call → Result
 stepBefore s c = answering (firstOf (refusalsBefore s c)) s (lent c) (grantedBefore s c)
@@ -144,3 +146,4 @@ StatesOne replanLatest = Unit {0}
 StatesOne (replanLines allowance) = Unit {0}
 StatesOne (enquire ticket) = Unit {0}
 StatesOne (board asked list) = Unit {0}
+StatesOne (withdraw ticket) = Unit {0}

@@ -12,7 +12,7 @@ use Rattle.rules.specs.Basics.{Found, firstOf, keep, Each}
 use Rattle.rules.specs.Load.{Load, draw, loadFrom}
 use Rattle.rules.specs.Charge.{Charge, endOf}
 use Rattle.rules.specs.Search.{earliest}
-use Rattle.rules.specs.Calls.{State, limitsOf, holding, settings, committed, moved, opened, Result, answering, boundOf, fresh, Call, preview, commit, move, offer, replanLatest, replanLines, enquire, board, lent, isStart, orderRefusals, refusals, previewedAt, taking, reported, pairs, written, offering, replanningLatest, replanningLines, enquiring, boarding}
+use Rattle.rules.specs.Calls.{State, limitsOf, holding, settings, committed, moved, opened, Result, answering, boundOf, fresh, Call, preview, commit, move, offer, replanLatest, replanLines, enquire, board, withdraw, lent, isStart, orderRefusals, refusals, previewedAt, taking, reported, pairs, written, offering, replanningLatest, replanningLines, enquiring, boarding, withdrawing}
 
 -- Charges
 
@@ -75,6 +75,7 @@ refusalsBefore s replanLatest = refusals s replanLatest
 refusalsBefore s (replanLines allowance) = refusals s (replanLines allowance)
 refusalsBefore s (enquire ticket) = refusals s (enquire ticket)
 refusalsBefore s (board asked list) = refusals s (board asked list)
+refusalsBefore s (withdraw ticket) = refusals s (withdraw ticket)
 
 -- "Then finished charges are dropped."
 abbrev pub movingBefore : State → ℕ → List ℕ → Result
@@ -97,6 +98,7 @@ grantedBefore s replanLatest = replanningLatest (stationBefore s)
 grantedBefore s (replanLines allowance) = replanningLines (stationBefore s) allowance
 grantedBefore s (enquire ticket) = enquiring s ticket
 grantedBefore s (board asked list) = boarding s asked list
+grantedBefore s (withdraw ticket) = withdrawing s ticket
 
 abbrev pub stepBefore : State → Call → Result
 stepBefore s c = answering (firstOf (refusalsBefore s c)) s (lent c) (grantedBefore s c)

@@ -7,7 +7,7 @@ use Rattle.rules.specs.Load.{limited, balanced, sound}
 use Rattle.rules.specs.Search.{earliest}
 use Rattle.rules.specs.Replan.{placeAll, latest}
 use Rattle.rules.specs.Judgement.{judged}
-use Rattle.rules.specs.Calls.{settings, State, Call, opening, previewing, committing, moving, offering, replanningLatest, enquiring, boarding, step}
+use Rattle.rules.specs.Calls.{settings, State, Call, opening, previewing, committing, moving, offering, replanningLatest, enquiring, boarding, withdrawing, step}
 use Rattle.rules.proofs.Lists.{each-append, each-map}
 use Rattle.guarantee.specs.DemandThree.{DemandThree}
 use Rattle.guarantee.proofs.DemandThree.{demand-three}
@@ -24,7 +24,7 @@ use Rattle.excluded.proofs.TestsThree.{three-tested}
 
 -- the checker computes every test on every list
 pub entries-hold : every agrees wrongEntries ≡ true
-unfolding limited balanced sound earliest placeAll latest judged opening previewing committing moving offering replanningLatest enquiring boarding
+unfolding limited balanced sound earliest placeAll latest judged opening previewing committing moving offering replanningLatest enquiring boarding withdrawing
 entries-hold = refl
 
 first-opened : every (λ (e : Breach). isOpened (e .thing .first)) wrongEntries ≡ true

@@ -12,11 +12,13 @@ pub mod TestsStarts
 pub mod RefutedTwoOrders
 pub mod RefutedTwoPlans
 pub mod RefutedTwoBoards
+pub mod RefutedTwoWithdrawals
 pub mod TestsTwoPreviews
 pub mod TestsTwoCommits
 pub mod TestsBetter
 pub mod TestsTwoPlans
 pub mod TestsTwoBoards
+pub mod TestsTwoWithdrawals
 pub mod FieldsThree
 pub mod TestsThree
 pub mod BreaksOne
@@ -24,4 +26,5 @@ pub mod BreaksTwoPreviews
 pub mod BreaksTwoCommits
 pub mod BreaksTwoPlans
 pub mod BreaksTwoBoards
+pub mod BreaksTwoWithdrawals
 pub mod BreaksThree

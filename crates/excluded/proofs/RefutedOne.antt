@@ -8,13 +8,14 @@ use lib.ListN.{length}
 use Rattle.rules.specs.Load.{limited, balanced, sound}
 use Rattle.rules.specs.Search.{earliest}
 use Rattle.rules.specs.Entry.{lentList}
-use Rattle.rules.specs.Calls.{settings, State, refused, opened, previewed, committed, waiting, preview, commit, move, board, looked, refusals, opening, previewing, committing, boarding}
+use Rattle.rules.specs.Calls.{settings, State, refused, opened, previewed, committed, waiting, preview, commit, move, board, withdraw, looked, withdrawn, refusals, opening, previewing, committing, boarding, withdrawing}
 use Rattle.rules.proofs.Granted.{refusals-none}
 use Rattle.guarantee.specs.Past.{Gives}
 use Rattle.guarantee.specs.DemandOne.{DemandOne, DemandOneOpening}
 use Rattle.excluded.specs.WrongOrders.{shownAsWaiting, anySoundStart, shownIgnored}
 use Rattle.excluded.specs.WrongRefusals.{lineAccepted, lastRow, lowestNumber, anyOrderAsked, rateAboveBound, shownFirst, otherNumber, alwaysFull, hurryRefused, standstillRefused, ticketUsedUp, listCleared, ticketNotSaid, openedAsAsked, openingWrites, limitSaid, percentLost, zeroBound, smallProductRefused, roundedDown, longTailOpened, tailLookedAtFirst, refusedTailKept, tailLost}
-use Rattle.excluded.specs.Stations.{station, stationTwo}
+use Rattle.excluded.specs.WrongWithdrawals.{balanceUntested, begunWithdrawn, restLookedAtFirst, startAtClockRefused}
+use Rattle.excluded.specs.Stations.{station, stationTwo, stationF, stationH}
 use Rattle.guarantee.proofs.Tables.{firstOf-is, is-firstOf}
 
 -- Calls to a fresh station of 1, 100
@@ -99,6 +100,37 @@ unfolding limited balanced sound earliest
 shown-first d =
     let h : refused 16 ≡ refused 4 = d .refused-by .number 4 .1 (inl (refl, refl)) in
     let z : _≡_ {A = ℕ} 16 4 = cc in
+    omega arith
+
+-- `number`: in case f's station ticket 5 cannot go
+balance-untested : DemandOne balanceUntested stationF (withdraw 5) → ⊥
+unfolding limited balanced sound withdrawing
+balance-untested d =
+    let h : withdrawn ≡ refused 26 = d .refused-by .number 26 .1 (inr (refl, inr (refl, inl (refl, refl)))) in
+    let z : _≡_ {A = ℕ} 0 1 = cc in
+    omega arith
+
+-- `number`: and ticket 1 has begun
+begun-withdrawn : DemandOne begunWithdrawn stationF (withdraw 1) → ⊥
+unfolding limited balanced sound withdrawing
+begun-withdrawn d =
+    let h : withdrawn ≡ refused 25 = d .refused-by .number 25 .1 (inr (refl, inl (refl, refl))) in
+    let z : _≡_ {A = ℕ} 0 1 = cc in
+    omega arith
+
+-- `number`: 26 in the place of 25
+rest-looked-at-first : DemandOne restLookedAtFirst stationF (withdraw 2) → ⊥
+unfolding limited balanced sound
+rest-looked-at-first d =
+    let h : refused 26 ≡ refused 25 = d .refused-by .number 25 .1 (inr (refl, inl (refl, refl))) in
+    let z : _≡_ {A = ℕ} 26 25 = cc in
+    omega arith
+
+-- `number`: a start equal to the clock still waits
+start-at-clock-refused : DemandOne startAtClockRefused stationH (withdraw 1) → ⊥
+unfolding limited balanced sound
+start-at-clock-refused d =
+    let h : _≡_ {A = ℕ} 0 25 = is-firstOf 25 (refusals stationH (withdraw 1)) (d .refused-by .number 25 .0 refl) in
     omega arith
 
 -- `number`: no charge is held

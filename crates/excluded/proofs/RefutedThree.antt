@@ -2,18 +2,19 @@
 use mathlib.Core.Path.{_≡_, refl}
 use Prim.Native.Nat.{ℕ, _≤_}
 use mathlib.Core.Bool.{false≢true}
-use mathlib.Core.List.{[], _∷_}
+use mathlib.Core.List.{[], _∷_, _++_}
 use native.Mathlib.Omega.{arith}
 use Rattle.rules.specs.Load.{limited, balanced, sound}
 use Rattle.rules.specs.Search.{earliest}
 use Rattle.rules.specs.Replan.{placeAll, latest}
 use Rattle.rules.specs.Judgement.{judged}
 use Rattle.rules.specs.Entry.{lentList}
-use Rattle.rules.specs.Calls.{refused, waiting, charging, preview, commit, move, offer, replanLatest, board, opening, previewing, committing, moving, offering, replanningLatest, enquiring, boarding}
+use Rattle.rules.specs.Calls.{refused, waiting, charging, preview, commit, move, offer, replanLatest, board, withdraw, opening, previewing, committing, moving, offering, replanningLatest, enquiring, boarding, withdrawing}
 use Rattle.guarantee.specs.DemandThree.{DemandThree}
 use Rattle.excluded.specs.WrongOrders.{ownLineOnly, neighboursOnly, limitIgnored, chargesCounted, ratesInLimitOnly, tailsLeftOut, tailsInLimitOnly, fixedStart, previewTakesTicket, shownBeforeTaken, ticketSkipped}
 use Rattle.excluded.specs.WrongMoves.{startAtClockLeftOut, firstReportOnly, reportedTwice, startAtTargetReported, nobodyReported, slowClock, droppedEarly, droppedLate, droppedAtItsEnd, neverDropped, shownLate, shownBegun, shownEarly, endWithTail}
 use Rattle.excluded.specs.WrongBoards.{boardTakesTicket}
+use Rattle.excluded.specs.WrongWithdrawals.{balanceUntested, begunWithdrawn, ticketGivenAgain, withdrawnHeld}
 use Rattle.excluded.specs.WrongPlans.{untested, rateLost, begunMoved}
 use Rattle.excluded.specs.WrongRestores.{begunForgotten, ticketsGivenAgain, clockLost}
 use Rattle.excluded.specs.BreaksThree.{one, two, twoEven, four, oneTailed, twoTailed, from, fromRated, single, fourOrders}
@@ -217,3 +218,26 @@ tickets-given-again d = let h : _≡_ {A = ℕ} 2 3 = d .tickets .1 .1 .0 in ome
 clock-lost : DemandThree clockLost one (single ∷ move 1 lentList ∷ move 2 lentList ∷ []) → ⊥
 unfolding limited balanced sound earliest opening committing moving enquiring
 clock-lost d = let h : _≡_ {A = ℕ} 2 1 = d .orders .0 .reported (omega arith) in omega arith
+
+-- Withdrawn orders
+
+-- `balance`: in minute 0 two charges of line 1, none of line 2
+balance-untested : DemandThree balanceUntested two (fourOrders 0 ++ (withdraw 2 ∷ [])) → ⊥
+unfolding limited balanced sound earliest opening committing enquiring withdrawing
+balance-untested d = let h : 2 ≤ 1 = d .balance 1 2 0 line-one line-two in omega arith
+
+-- `gone`: ticket 1 has been reported
+begun-withdrawn : DemandThree begunWithdrawn one (single ∷ move 1 lentList ∷ withdraw 1 ∷ []) → ⊥
+unfolding limited balanced sound earliest opening committing moving enquiring withdrawing
+begun-withdrawn d = let h : _≡_ {A = ℕ} 1 0 = d .gone .0 .not-reported in omega arith
+
+-- `gone`: an enquiry finds it waiting
+withdrawn-held : DemandThree withdrawnHeld one (single ∷ withdraw 1 ∷ []) → ⊥
+unfolding limited balanced sound earliest opening committing enquiring withdrawing
+withdrawn-held d =
+    let h : waiting 0 1 ≡ refused 15 = d .gone .0 .not-held in let z : _≡_ {A = ℕ} 0 1 = cc in omega arith
+
+-- `tickets`: 1 and 1
+ticket-given-again : DemandThree ticketGivenAgain one (single ∷ withdraw 1 ∷ single ∷ []) → ⊥
+unfolding limited balanced sound earliest opening committing enquiring withdrawing
+ticket-given-again d = let h : _≡_ {A = ℕ} 1 2 = d .tickets .1 .0 in omega arith

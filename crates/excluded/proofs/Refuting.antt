@@ -2,7 +2,7 @@
 use mathlib.Core.Path.{_≡_, refl}
 use native.Mathlib.Omega.{arith}
 use Rattle.rules.specs.Load.{IsLine}
-use Rattle.rules.specs.Calls.{State, Call, preview, commit, move, offer, replanLatest, replanLines, enquire, board, moving, step}
+use Rattle.rules.specs.Calls.{State, Call, preview, commit, move, offer, replanLatest, replanLines, enquire, board, withdraw, moving, step}
 use Rattle.excluded.specs.Parts.{withMoves}
 
 -- with nothing put in their place, the parts are the rules: a wrong station differs in its one part only
@@ -15,6 +15,7 @@ unaltered s replanLatest = refl
 unaltered s (replanLines allowance) = refl
 unaltered s (enquire ticket) = refl
 unaltered s (board asked list) = refl
+unaltered s (withdraw ticket) = refl
 
 pub line-one : IsLine 1
 line-one = record { low = omega arith; high = omega arith }

@@ -7,7 +7,7 @@ use native.Mathlib.Omega.{arith}
 use lib.Dec.{eqb}
 use lib.ListN.{getD}
 use Rattle.rules.specs.Charge.{Charge}
-use Rattle.rules.specs.Calls.{State, Answer, refused, opened, previewed, committed, moved, planned, waiting, charging, looked}
+use Rattle.rules.specs.Calls.{State, Answer, refused, opened, previewed, committed, moved, planned, waiting, charging, looked, withdrawn}
 use Rattle.rules.proofs.Ranges.{and-left, and-right, and-both}
 use Rattle.excluded.specs.Same.{sameEach, sameList, inNumbers, sameAnswer, ofCharge, sameCharges, ofState, sameState}
 use Rattle.excluded.proofs.Tests.{Tests, eqb-tests}
@@ -52,7 +52,8 @@ read l =
     (cond (eqb (of 0) 3) (committed (of 1) (of 2))
     (cond (eqb (of 0) 4) (moved (of 1) (of 2))
     (cond (eqb (of 0) 5) (planned (of 1) (of 2) (of 3) (of 4))
-    (cond (eqb (of 0) 6) (waiting (of 1) (of 2)) (cond (eqb (of 0) 7) (charging (of 1) (of 2) (of 3)) (looked (of 1)))))))))
+    (cond (eqb (of 0) 6) (waiting (of 1) (of 2)) (cond (eqb (of 0) 7) (charging (of 1) (of 2) (of 3))
+    (cond (eqb (of 0) 8) (looked (of 1)) withdrawn))))))))
 
 read-back : (a : Answer) → read (inNumbers a) ≡ a
 read-back (refused k) = refl
@@ -64,6 +65,7 @@ read-back (planned c b a n) = refl
 read-back (waiting s rate) = refl
 read-back (charging s e rate) = refl
 read-back (looked n) = refl
+read-back withdrawn = refl
 
 pub same-answer : (a b : Answer) → Tests (sameAnswer a b) (a ≡ b)
 same-answer a b = same-numbers inNumbers read read-back a b

@@ -1,13 +1,13 @@
 -- An opening and calls lead to each of the stations that are written down.
 use mathlib.Core.Path.{_≡_, refl}
-use mathlib.Core.List.{List, [], _∷_}
+use mathlib.Core.List.{List, [], _∷_, _++_}
 use Rattle.rules.specs.Load.{limited, balanced, sound}
 use Rattle.rules.specs.Search.{earliest}
-use Rattle.rules.specs.CasesAToL.{ordersH}
+use Rattle.rules.specs.CasesAToL.{ordersE, ordersH}
 use Rattle.rules.specs.Entry.{lentList}
 use Rattle.rules.specs.Calls.{Settings, settings, State, Call, commit, move, opening, committing, moving}
 use Rattle.guarantee.specs.Demands.{reached}
-use Rattle.excluded.specs.Stations.{station, stationFive, stationThree, stationFour, stationTwo, stationH, stationHTwo, stationShort, stationTailed, stationRated, waitingSince, begunAndWaiting}
+use Rattle.excluded.specs.Stations.{station, stationFive, stationThree, stationFour, stationTwo, stationH, stationHTwo, stationF, stationShort, stationTailed, stationRated, waitingSince, begunAndWaiting}
 use Rattle.excluded.proofs.Same.{same-state}
 
 abbrev Reached : Settings → List Call → State → Type 0
@@ -46,6 +46,10 @@ h-reached = same-state (reached (settings 1 100 0) ordersH) stationH .0 refl
 h-two-reached : Reached (settings 2 50 0) ordersH stationHTwo
 unfolding limited balanced sound earliest opening committing
 h-two-reached = same-state (reached (settings 2 50 0) ordersH) stationHTwo .0 refl
+
+f-reached : Reached (settings 2 50 0) (ordersE ++ (move 1 lentList ∷ [])) stationF
+unfolding limited balanced sound earliest opening committing moving
+f-reached = same-state (reached (settings 2 50 0) (ordersE ++ (move 1 lentList ∷ []))) stationF .0 refl
 
 short-reached : Reached (settings 1 100 0) (commit 1 20 30 1 0 ∷ commit 1 2 14 1 20 ∷ []) stationShort
 unfolding limited balanced sound earliest opening committing

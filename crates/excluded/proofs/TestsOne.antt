@@ -5,7 +5,7 @@ use Prim.Native.Nat.{ℕ}
 use mathlib.Core.Bool.{Bool, true, false, cond}
 use mathlib.Core.List.{List, [], _∷_}
 use native.Mathlib.Omega.{arith}
-use Rattle.rules.specs.Calls.{Answer, refused, opened, previewed, committed, moved, planned, waiting, charging, looked, fresh, Call, preview, commit, move, offer, replanLatest, replanLines, enquire, board}
+use Rattle.rules.specs.Calls.{Answer, refused, opened, previewed, committed, moved, planned, waiting, charging, looked, withdrawn, fresh, Call, preview, commit, move, offer, replanLatest, replanLines, enquire, board, withdraw}
 use Rattle.guarantee.specs.Past.{isRefused}
 use Rattle.guarantee.specs.DemandOne.{FirstIs, AnswerTo}
 use Rattle.excluded.specs.Same.{sameList, sameAnswer, numberIn}
@@ -25,6 +25,7 @@ refusal-is (planned c b a n) k e = let z : _≡_ {A = ℕ} 0 1 = cc in absurd (o
 refusal-is (waiting s w) k e = let z : _≡_ {A = ℕ} 0 1 = cc in absurd (omega arith)
 refusal-is (charging s f w) k e = let z : _≡_ {A = ℕ} 0 1 = cc in absurd (omega arith)
 refusal-is (looked n) k e = let z : _≡_ {A = ℕ} 0 1 = cc in absurd (omega arith)
+refusal-is withdrawn k e = let z : _≡_ {A = ℕ} 0 1 = cc in absurd (omega arith)
 
 first-is : (rows : List (Bool × ℕ)) (k : ℕ) → FirstIs rows k ↔ (firstIn rows ≡ k ∷ [])
 first-is [] k = ((λ e. absurd e), (λ e. let z : _≡_ {A = ℕ} 0 1 = cc in absurd (omega arith)))
@@ -147,6 +148,7 @@ module _ (a : Answer) where
   answers-tests (replanLines allowance) = planned-tests
   answers-tests (enquire ticket) = either-tests waiting-tests charging-tests
   answers-tests (board asked list) = looked-tests
+  answers-tests (withdraw ticket) = same-answer a withdrawn
 
 own-tests : (r : Trial) → Tests (ownAnswer r) (OwnAnswer r)
 own-tests (calledOn gives s c) = answers-tests (gives s c .answer) c

@@ -9,10 +9,10 @@ use borrow.Author.Tests.{eqb-true, eq-eqb}
 use Rattle.rules.specs.Basics.{Each, some}
 use Rattle.rules.specs.Calls.{State, limitsOf, refused, waiting, charging, Call}
 use Rattle.rules.proofs.Ranges.{and-left, and-right, and-both}
-use Rattle.guarantee.specs.Past.{Gives, Order, Report, Past, beginning, extended, after, past, timesReported, enquiry, startOf, endOf, activeUntil, loadOf, Numbered, totalTime, lastMinute}
+use Rattle.guarantee.specs.Past.{Gives, Order, Report, Past, beginning, extended, after, past, stayingOrders, withdrawnOrders, timesReported, enquiry, startOf, endOf, activeUntil, loadOf, Numbered, totalTime, lastMinute}
 use Rattle.guarantee.specs.DemandThree.{Unmoved}
 use Rattle.excluded.specs.Same.{every}
-use Rattle.excluded.specs.FieldsThree.{Field, limit, balance, tickets, not-early, in-time, reported, not-reported, waits, charges, finished, no-other, unmoved, Holds}
+use Rattle.excluded.specs.FieldsThree.{Field, limit, balance, tickets, not-early, in-time, reported, not-reported, waits, charges, finished, gone-not-reported, gone-not-held, no-other, unmoved, Holds}
 use Rattle.excluded.specs.TestsThree.{numbered, afterEach, unmovedFrom, tested}
 use Rattle.excluded.proofs.Tests.{Tests, leb-tests, ltb-tests, eqb-tests, every-tests, where-so-tests}
 use Rattle.excluded.proofs.TestsMinutes.{limit-tests, balance-tests}
@@ -94,35 +94,35 @@ after-each f gives h (c ∷ calls) = (
 
 pub three-tested : (gives : Gives) (s : State) (calls : List Call) (f : Field) → Tests (tested gives s calls f) (Holds gives s calls f)
 three-tested gives s calls limit =
-    let law = limit-tests (limitsOf s) 0 (map (loadOf gives (past gives s calls)) (past gives s calls .orders)) in
+    let law = limit-tests (limitsOf s) 0 (map (loadOf gives (past gives s calls)) (stayingOrders (past gives s calls))) in
     ((λ e l t j. law .0 e l t j (omega arith)), (λ p. law .1 (λ l t j h. p l t j)))
 three-tested gives s calls balance =
-    let law = balance-tests (limitsOf s) 0 (map (loadOf gives (past gives s calls)) (past gives s calls .orders)) in
+    let law = balance-tests (limitsOf s) 0 (map (loadOf gives (past gives s calls)) (stayingOrders (past gives s calls))) in
     ((λ e l m t j i. law .0 e l m t j i (omega arith)), (λ p. law .1 (λ l m t j i h. p l m t j i)))
 three-tested gives s calls tickets = tickets-tests 1 (past gives s calls .orders)
 three-tested gives s calls not-early =
     let h : Past = past gives s calls in
-    every-tests (λ o. leb-tests (o .minute) (startOf gives h o)) (h .orders)
+    every-tests (λ o. leb-tests (o .minute) (startOf gives h o)) (stayingOrders h)
 three-tested gives s calls in-time =
     let h : Past = past gives s calls in
-    every-tests (λ o. leb-tests (endOf gives h o) (lastMinute 0 (h .orders) + totalTime (h .tail) (h .orders))) (h .orders)
+    every-tests (λ o. leb-tests (endOf gives h o) (lastMinute 0 (h .orders) + totalTime (h .tail) (h .orders))) (stayingOrders h)
 three-tested gives s calls reported =
     let h : Past = past gives s calls in
     every-tests
     (λ o. where-so-tests (ltb-tests (startOf gives h o) (h .clock)) (eqb-tests (timesReported (h .reports) (o .ticket)) 1))
-    (h .orders)
+    (stayingOrders h)
 three-tested gives s calls not-reported =
     let h : Past = past gives s calls in
     every-tests
     (λ o. where-so-tests (leb-tests (h .clock) (startOf gives h o)) (eqb-tests (timesReported (h .reports) (o .ticket)) 0))
-    (h .orders)
+    (stayingOrders h)
 three-tested gives s calls waits =
     let h : Past = past gives s calls in
     every-tests
     (λ o.
     where-so-tests (leb-tests (h .clock) (startOf gives h o))
     (same-answer (enquiry gives h (o .ticket)) (waiting (startOf gives h o) (o .rate))))
-    (h .orders)
+    (stayingOrders h)
 three-tested gives s calls charges =
     let h : Past = past gives s calls in
     every-tests
@@ -130,23 +130,29 @@ three-tested gives s calls charges =
     where-so-tests (ltb-tests (startOf gives h o) (h .clock))
     (where-so-tests (ltb-tests (h .clock) (activeUntil gives h o))
     (same-answer (enquiry gives h (o .ticket)) (charging (startOf gives h o) (endOf gives h o) (o .rate)))))
-    (h .orders)
+    (stayingOrders h)
 three-tested gives s calls finished =
     let h : Past = past gives s calls in
     every-tests
     (λ o. where-so-tests (leb-tests (activeUntil gives h o) (h .clock)) (same-answer (enquiry gives h (o .ticket)) (refused 15)))
-    (h .orders)
+    (stayingOrders h)
+three-tested gives s calls gone-not-reported =
+    let h : Past = past gives s calls in
+    every-tests (λ o. eqb-tests (timesReported (h .reports) (o .ticket)) 0) (withdrawnOrders h)
+three-tested gives s calls gone-not-held =
+    let h : Past = past gives s calls in
+    every-tests (λ o. same-answer (enquiry gives h (o .ticket)) (refused 15)) (withdrawnOrders h)
 three-tested gives s calls no-other =
     every-reported (λ t. some (λ (o : Order). eqb (o .ticket) t) (past gives s calls .orders)) (past gives s calls .reports)
 three-tested gives s calls unmoved =
     let there : Past = past gives s calls in
     let each = after-each (unmovedFrom gives there) gives (beginning s) calls in
-    let at : (here : Past) → Tests (unmovedFrom gives there here) (Each (Unmoved gives here there) (here .orders))
+    let at : (here : Past) → Tests (unmovedFrom gives there here) (Each (Unmoved gives here there) (stayingOrders here))
     = λ here.
     every-tests
     (λ o.
     where-so-tests (ltb-tests (startOf gives here o) (here .clock)) (eqb-tests (startOf gives there o) (startOf gives here o)))
-    (here .orders) in (
+    (stayingOrders here) in (
       (λ e part rest q. at (past gives s part) .0 (each .0 e part rest q)),
       (λ p. each .1 (λ part rest q. at (past gives s part) .1 (p part rest q))),
     )

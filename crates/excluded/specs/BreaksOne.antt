@@ -2,10 +2,11 @@
 use mathlib.Core.Bool.{Bool}
 use mathlib.Core.List.{List, [], _∷_, _++_, map}
 use Rattle.rules.specs.Entry.{lentList}
-use Rattle.rules.specs.Calls.{settings, preview, commit, move, board, opening, step}
+use Rattle.rules.specs.Calls.{settings, preview, commit, move, board, withdraw, opening, step}
 use Rattle.excluded.specs.WrongOrders.{shownAsWaiting, anySoundStart, shownIgnored}
 use Rattle.excluded.specs.WrongRefusals.{lineAccepted, lastRow, lowestNumber, anyOrderAsked, rateAboveBound, shownFirst, otherNumber, alwaysFull, hurryRefused, standstillRefused, ticketUsedUp, listCleared, ticketNotSaid, openedAsAsked, openingWrites, limitSaid, percentLost, zeroBound, smallProductRefused, roundedDown, longTailOpened, tailLookedAtFirst, refusedTailKept, tailLost}
-use Rattle.excluded.specs.Stations.{station, stationTwo}
+use Rattle.excluded.specs.WrongWithdrawals.{balanceUntested, begunWithdrawn, restLookedAtFirst, startAtClockRefused}
+use Rattle.excluded.specs.Stations.{station, stationTwo, stationF, stationH}
 use Rattle.excluded.specs.Breaks.{Entry, agreesBy, onlyOf}
 use Rattle.excluded.specs.FieldsOne.{Field, number, same-station, same-list, answered, fields, place, Trial, calledOn, openedBy, tested}
 
@@ -33,10 +34,15 @@ wrongCalls =
     ∷ only (calledOn shownIgnored station (commit 1 10 60 1 3)) (number ∷ [])
     ∷ only (calledOn otherNumber station (commit 1 10 60 1 3)) (number ∷ [])
     ∷ only (calledOn shownFirst station (commit 4 10 60 1 3)) (number ∷ [])
+    -- ticket 5 cannot go, ticket 1 has begun; ticket 2 has begun, and the rest would not be sound: 25 goes before 26
+    ∷ only (calledOn balanceUntested stationF (withdraw 5)) (number ∷ [])
+    ∷ only (calledOn begunWithdrawn stationF (withdraw 1)) (number ∷ [])
+    ∷ only (calledOn restLookedAtFirst stationF (withdraw 2)) (number ∷ [])
     -- a call that is refused where no condition applies has no answer of its own kind either
     ∷ only (calledOn alwaysFull station (preview 1 10 60 1)) (number ∷ answered ∷ [])
     ∷ only (calledOn hurryRefused station (preview 1 10 9 1)) (number ∷ answered ∷ [])
     ∷ only (calledOn standstillRefused station (move 0 lentList)) (number ∷ answered ∷ [])
+    ∷ only (calledOn startAtClockRefused stationH (withdraw 1)) (number ∷ answered ∷ [])
     ∷ only (calledOn ticketUsedUp station (commit 4 10 60 1 0)) (same-station ∷ [])
     ∷ only (calledOn listCleared station (move 0 (7 ∷ []))) (same-list ∷ [])
     ∷ only (calledOn listCleared station (board (1 ∷ 2 ∷ []) (7 ∷ []))) (same-list ∷ [])

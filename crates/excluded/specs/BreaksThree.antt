@@ -3,15 +3,16 @@ use Prim.Native.Nat.{ℕ}
 use mathlib.Core.Bool.{Bool}
 use mathlib.Core.List.{List, [], _∷_, _++_, map}
 use Rattle.rules.specs.Entry.{lentList}
-use Rattle.rules.specs.Calls.{settings, State, Call, preview, commit, move, offer, replanLatest, board, opening, step}
+use Rattle.rules.specs.Calls.{settings, State, Call, preview, commit, move, offer, replanLatest, board, withdraw, opening, step}
 use Rattle.guarantee.specs.Past.{Gives}
 use Rattle.excluded.specs.Same.{sameState}
 use Rattle.excluded.specs.WrongOrders.{ownLineOnly, neighboursOnly, limitIgnored, chargesCounted, ratesInLimitOnly, tailsLeftOut, tailsInLimitOnly, fixedStart, previewTakesTicket, shownBeforeTaken, ticketSkipped}
 use Rattle.excluded.specs.WrongMoves.{startAtClockLeftOut, firstReportOnly, reportedTwice, startAtTargetReported, nobodyReported, slowClock, droppedEarly, droppedLate, droppedAtItsEnd, neverDropped, shownLate, shownBegun, shownEarly, endWithTail}
 use Rattle.excluded.specs.WrongBoards.{boardTakesTicket}
+use Rattle.excluded.specs.WrongWithdrawals.{balanceUntested, begunWithdrawn, ticketGivenAgain, withdrawnHeld}
 use Rattle.excluded.specs.WrongPlans.{untested, rateLost, begunMoved}
 use Rattle.excluded.specs.WrongRestores.{begunForgotten, ticketsGivenAgain, clockLost}
-use Rattle.excluded.specs.FieldsThree.{Field, limit, balance, tickets, not-early, in-time, reported, not-reported, waits, charges, finished, no-other, unmoved, fields, place, Holds}
+use Rattle.excluded.specs.FieldsThree.{Field, limit, balance, tickets, not-early, in-time, reported, not-reported, waits, charges, finished, gone-not-reported, gone-not-held, no-other, unmoved, fields, place, Holds}
 use Rattle.excluded.specs.Breaks.{Entry, agreesBy, onlyOf}
 use Rattle.excluded.specs.TestsThree.{tested}
 
@@ -108,6 +109,12 @@ wrongEntries =
     ∷ only endWithTail oneTailed (single ∷ to 1 ∷ []) (charges ∷ [])
     ∷ only droppedLate one (single ∷ to 10 ∷ []) (finished ∷ [])
     ∷ only neverDropped one (single ∷ to 99 ∷ []) (finished ∷ [])
+    -- without ticket 2 minutes 0 to 9 count 2, 0, 1
+    ∷ only balanceUntested two (fourOrders 0 ++ (withdraw 2 ∷ [])) (balance ∷ [])
+    ∷ only begunWithdrawn one (single ∷ to 1 ∷ withdraw 1 ∷ []) (gone-not-reported ∷ [])
+    ∷ only withdrawnHeld one (single ∷ withdraw 1 ∷ []) (gone-not-held ∷ [])
+    -- the second order has ticket 1 again, which is withdrawn
+    ∷ only ticketGivenAgain one (single ∷ withdraw 1 ∷ single ∷ []) (tickets ∷ gone-not-held ∷ [])
     ∷ only nobodyReported one (to 1 ∷ []) (no-other ∷ [])
     ∷ only shownEarly one (single ∷ from 1 10 ∷ to 9 ∷ to 11 ∷ []) (unmoved ∷ [])
     -- the first charge of line 1 has begun and is forgotten: an enquiry does not find it, and the second one begins beside it

@@ -5,7 +5,7 @@ use mathlib.Core.Path.{_≡_}
 use Prim.Native.Nat.{ℕ}
 use mathlib.Core.Bool.{Bool, true, cond, not, _&&_, _||_}
 use mathlib.Core.List.{List, [], _∷_}
-use Rattle.rules.specs.Calls.{Settings, settings, State, Answer, refused, opened, previewed, committed, moved, planned, waiting, charging, looked, Result, fresh, openRefusals, Call, preview, commit, move, offer, replanLatest, replanLines, enquire, board, lent, refusals}
+use Rattle.rules.specs.Calls.{Settings, settings, State, Answer, refused, opened, previewed, committed, moved, planned, waiting, charging, looked, withdrawn, Result, fresh, openRefusals, Call, preview, commit, move, offer, replanLatest, replanLines, enquire, board, withdraw, lent, refusals}
 use Rattle.guarantee.specs.Past.{Gives, isRefused}
 use Rattle.guarantee.specs.DemandOne.{FirstIs, NoneApplies, AnswerTo}
 use Rattle.excluded.specs.Same.{every, where-so, sameList, sameAnswer, numberIn, sameState}
@@ -77,6 +77,7 @@ answersTo (enquire ticket) a =
     sameAnswer a (waiting (numberIn 1 a) (numberIn 2 a))
     || sameAnswer a (charging (numberIn 1 a) (numberIn 2 a) (numberIn 3 a))
 answersTo (board asked list) a = sameAnswer a (looked (numberIn 1 a))
+answersTo (withdraw ticket) a = sameAnswer a withdrawn
 
 abbrev pub ownAnswer : Trial → Bool
 ownAnswer (calledOn gives s c) = answersTo c (gives s c .answer)

@@ -7,10 +7,10 @@ use lib.Dec.{eqb}
 use Rattle.rules.specs.Basics.{Each, some}
 use Rattle.rules.specs.Load.{IsLine}
 use Rattle.rules.specs.Calls.{State, refused, waiting, charging, Call}
-use Rattle.guarantee.specs.Past.{Gives, Order, Past, past, timesReported, enquiry, startOf, endOf, activeUntil, countIn, Numbered, totalTime, lastMinute}
+use Rattle.guarantee.specs.Past.{Gives, Order, Past, past, timesReported, enquiry, startOf, endOf, activeUntil, stayingOrders, withdrawnOrders, countIn, Numbered, totalTime, lastMinute}
 use Rattle.guarantee.specs.DemandThree.{Unmoved}
 
--- in the order of `DemandThree`, with those of `Kept` in the place of `orders`
+-- in the order of `DemandThree`, with those of `Kept` in the place of `orders` and those of `Gone` in the place of `gone`
 pub data Field : Type 0 where
   limit : Field
   balance : Field
@@ -21,13 +21,29 @@ pub data Field : Type 0 where
   waits : Field
   charges : Field
   finished : Field
+  gone-not-reported : Field
+  gone-not-held : Field
   in-time : Field
   no-other : Field
   unmoved : Field
 
 abbrev pub fields : List Field
 fields =
-    limit ∷ balance ∷ tickets ∷ not-early ∷ reported ∷ not-reported ∷ waits ∷ charges ∷ finished ∷ in-time ∷ no-other ∷ unmoved ∷ []
+    limit
+    ∷ balance
+    ∷ tickets
+    ∷ not-early
+    ∷ reported
+    ∷ not-reported
+    ∷ waits
+    ∷ charges
+    ∷ finished
+    ∷ gone-not-reported
+    ∷ gone-not-held
+    ∷ in-time
+    ∷ no-other
+    ∷ unmoved
+    ∷ []
 
 -- the place of a field in that list
 abbrev pub place : Field → ℕ
@@ -40,9 +56,11 @@ place not-reported = 5
 place waits = 6
 place charges = 7
 place finished = 8
-place in-time = 9
-place no-other = 10
-place unmoved = 11
+place gone-not-reported = 9
+place gone-not-held = 10
+place in-time = 11
+place no-other = 12
+place unmoved = 13
 
 -- what a field says; all together they are demand 3 (`three-fields` in proofs/FieldsThree.antt)
 abbrev pub Holds : Gives → State → List Call → Field → Type 0
@@ -55,19 +73,19 @@ Holds gives s calls balance =
 Holds gives s calls tickets = Numbered 1 (past gives s calls .orders)
 Holds gives s calls not-early =
     let h : Past = past gives s calls in
-    Each (λ o. o .minute ≤ startOf gives h o) (h .orders)
+    Each (λ o. o .minute ≤ startOf gives h o) (stayingOrders h)
 Holds gives s calls in-time =
     let h : Past = past gives s calls in
-    Each (λ o. endOf gives h o ≤ lastMinute 0 (h .orders) + totalTime (h .tail) (h .orders)) (h .orders)
+    Each (λ o. endOf gives h o ≤ lastMinute 0 (h .orders) + totalTime (h .tail) (h .orders)) (stayingOrders h)
 Holds gives s calls reported =
     let h : Past = past gives s calls in
-    Each (λ o. startOf gives h o < h .clock → timesReported (h .reports) (o .ticket) ≡ 1) (h .orders)
+    Each (λ o. startOf gives h o < h .clock → timesReported (h .reports) (o .ticket) ≡ 1) (stayingOrders h)
 Holds gives s calls not-reported =
     let h : Past = past gives s calls in
-    Each (λ o. h .clock ≤ startOf gives h o → timesReported (h .reports) (o .ticket) ≡ 0) (h .orders)
+    Each (λ o. h .clock ≤ startOf gives h o → timesReported (h .reports) (o .ticket) ≡ 0) (stayingOrders h)
 Holds gives s calls waits =
     let h : Past = past gives s calls in
-    Each (λ o. h .clock ≤ startOf gives h o → enquiry gives h (o .ticket) ≡ waiting (startOf gives h o) (o .rate)) (h .orders)
+    Each (λ o. h .clock ≤ startOf gives h o → enquiry gives h (o .ticket) ≡ waiting (startOf gives h o) (o .rate)) (stayingOrders h)
 Holds gives s calls charges =
     let h : Past = past gives s calls in
     Each
@@ -75,10 +93,16 @@ Holds gives s calls charges =
     startOf gives h o < h .clock
     → h .clock < activeUntil gives h o
     → enquiry gives h (o .ticket) ≡ charging (startOf gives h o) (endOf gives h o) (o .rate))
-    (h .orders)
+    (stayingOrders h)
 Holds gives s calls finished =
     let h : Past = past gives s calls in
-    Each (λ o. activeUntil gives h o ≤ h .clock → enquiry gives h (o .ticket) ≡ refused 15) (h .orders)
+    Each (λ o. activeUntil gives h o ≤ h .clock → enquiry gives h (o .ticket) ≡ refused 15) (stayingOrders h)
+Holds gives s calls gone-not-reported =
+    let h : Past = past gives s calls in
+    Each (λ o. timesReported (h .reports) (o .ticket) ≡ 0) (withdrawnOrders h)
+Holds gives s calls gone-not-held =
+    let h : Past = past gives s calls in
+    Each (λ o. enquiry gives h (o .ticket) ≡ refused 15) (withdrawnOrders h)
 Holds gives s calls no-other =
     (t : ℕ)
     → 1 ≤ timesReported (past gives s calls .reports) t
@@ -86,4 +110,4 @@ Holds gives s calls no-other =
 Holds gives s calls unmoved =
     (part rest : List Call)
     → calls ≡ part ++ rest
-    → Each (Unmoved gives (past gives s part) (past gives s calls)) (past gives s part .orders)
+    → Each (Unmoved gives (past gives s part) (past gives s calls)) (stayingOrders (past gives s part))

@@ -5,6 +5,7 @@ pub mod WrongMoves
 pub mod WrongPlans
 pub mod WrongRestores
 pub mod WrongBoards
+pub mod WrongWithdrawals
 pub mod Same
 pub mod Stations
 pub mod Breaks
@@ -22,4 +23,6 @@ pub mod FieldsTwoPlans
 pub mod BreaksTwoPlans
 pub mod FieldsTwoBoards
 pub mod BreaksTwoBoards
+pub mod FieldsTwoWithdrawals
+pub mod BreaksTwoWithdrawals
 pub mod BreaksThree

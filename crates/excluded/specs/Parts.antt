@@ -6,7 +6,7 @@ use lib.Dec.{eqb}
 use Rattle.rules.specs.Basics.{Found, firstOf, keep}
 use Rattle.rules.specs.Load.{Draw}
 use Rattle.rules.specs.Charge.{Charge, starting}
-use Rattle.rules.specs.Calls.{State, holding, Answer, refused, Result, answering, Call, preview, commit, move, offer, replanLatest, replanLines, enquire, board, lent, drawFor, isStart, refusals, previewedAt, previewing, committing, moving, offering, replanningLatest, replanningLines, enquiring, boarding}
+use Rattle.rules.specs.Calls.{State, holding, Answer, refused, Result, answering, Call, preview, commit, move, offer, replanLatest, replanLines, enquire, board, withdraw, lent, drawFor, isStart, refusals, previewedAt, previewing, committing, moving, offering, replanningLatest, replanningLines, enquiring, boarding, withdrawing}
 use Rattle.guarantee.specs.Past.{Gives}
 
 -- the refusals, and what comes of each kind of call that is not refused
@@ -20,6 +20,7 @@ pub record Parts : Type 0 where
   pub replans-lines : State → ℕ → Result
   pub enquiries : State → ℕ → Result
   pub boards : State → List ℕ → List ℕ → Result
+  pub withdrawals : State → ℕ → Result
 
 abbrev grantedBy : Parts → State → Call → Result
 grantedBy p s (preview line time d rate) = p .previews s line time d rate
@@ -30,6 +31,7 @@ grantedBy p s replanLatest = p .replans-latest s
 grantedBy p s (replanLines allowance) = p .replans-lines s allowance
 grantedBy p s (enquire ticket) = p .enquiries s ticket
 grantedBy p s (board asked list) = p .boards s asked list
+grantedBy p s (withdraw ticket) = p .withdrawals s ticket
 
 -- the station with these parts
 abbrev made : Parts → Gives
@@ -45,8 +47,9 @@ abbrev parts :
     → (State → ℕ → Result)
     → (State → ℕ → Result)
     → (State → List ℕ → List ℕ → Result)
+    → (State → ℕ → Result)
     → Parts
-parts refuses previews commits moves offers latest lines enquiries boards =
+parts refuses previews commits moves offers latest lines enquiries boards withdrawals =
     record {
       refuses = refuses;
       previews = previews;
@@ -57,36 +60,40 @@ parts refuses previews commits moves offers latest lines enquiries boards =
       replans-lines = lines;
       enquiries = enquiries;
       boards = boards;
+      withdrawals = withdrawals;
     }
 
 -- One part changed
 
 abbrev pub withRefusals : (State → Call → List (Bool × ℕ)) → Gives
-withRefusals r = made (parts r previewing committing moving offering replanningLatest replanningLines enquiring boarding)
+withRefusals r = made (parts r previewing committing moving offering replanningLatest replanningLines enquiring boarding withdrawing)
 
 abbrev pub withPreviews : (State → ℕ → ℕ → ℕ → ℕ → Result) → Gives
-withPreviews f = made (parts refusals f committing moving offering replanningLatest replanningLines enquiring boarding)
+withPreviews f = made (parts refusals f committing moving offering replanningLatest replanningLines enquiring boarding withdrawing)
 
 abbrev pub withCommits : (State → ℕ → ℕ → ℕ → ℕ → ℕ → Result) → Gives
-withCommits f = made (parts refusals previewing f moving offering replanningLatest replanningLines enquiring boarding)
+withCommits f = made (parts refusals previewing f moving offering replanningLatest replanningLines enquiring boarding withdrawing)
 
 abbrev pub withMoves : (State → ℕ → List ℕ → Result) → Gives
-withMoves m = made (parts refusals previewing committing m offering replanningLatest replanningLines enquiring boarding)
+withMoves m = made (parts refusals previewing committing m offering replanningLatest replanningLines enquiring boarding withdrawing)
 
 abbrev pub withOffers : (State → List ℕ → Result) → Gives
-withOffers f = made (parts refusals previewing committing moving f replanningLatest replanningLines enquiring boarding)
+withOffers f = made (parts refusals previewing committing moving f replanningLatest replanningLines enquiring boarding withdrawing)
 
 abbrev pub withReplansLatest : (State → Result) → Gives
-withReplansLatest a = made (parts refusals previewing committing moving offering a replanningLines enquiring boarding)
+withReplansLatest a = made (parts refusals previewing committing moving offering a replanningLines enquiring boarding withdrawing)
 
 abbrev pub withReplansLines : (State → ℕ → Result) → Gives
-withReplansLines b = made (parts refusals previewing committing moving offering replanningLatest b enquiring boarding)
+withReplansLines b = made (parts refusals previewing committing moving offering replanningLatest b enquiring boarding withdrawing)
 
 abbrev pub withEnquiries : (State → ℕ → Result) → Gives
-withEnquiries e = made (parts refusals previewing committing moving offering replanningLatest replanningLines e boarding)
+withEnquiries e = made (parts refusals previewing committing moving offering replanningLatest replanningLines e boarding withdrawing)
 
 abbrev pub withBoards : (State → List ℕ → List ℕ → Result) → Gives
-withBoards b = made (parts refusals previewing committing moving offering replanningLatest replanningLines enquiring b)
+withBoards b = made (parts refusals previewing committing moving offering replanningLatest replanningLines enquiring b withdrawing)
+
+abbrev pub withWithdrawals : (State → ℕ → Result) → Gives
+withWithdrawals w = made (parts refusals previewing committing moving offering replanningLatest replanningLines enquiring boarding w)
 
 -- Orders
 
@@ -99,7 +106,7 @@ abbrev orders :
     (State → ℕ → ℕ → ℕ → ℕ → Result) → (State → ℕ → ℕ → ℕ → ℕ → ℕ → Result) → (State → ℕ → List ℕ → Result) → Gives
 orders f g m =
     made
-    (parts (λ s c. unnumbered 16 (refusals s c)) f g m offering replanningLatest replanningLines enquiring boarding)
+    (parts (λ s c. unnumbered 16 (refusals s c)) f g m offering replanningLatest replanningLines enquiring boarding withdrawing)
 
 -- commits that do not look at the start shown
 abbrev pub withUntested : (State → ℕ → ℕ → ℕ → ℕ → ℕ → Result) → Gives

@@ -5,7 +5,7 @@ use mathlib.Core.List.{List, [], _∷_}
 use lib.Dec.{eqb}
 use lib.ListN.{getD}
 use Rattle.rules.specs.Charge.{Charge}
-use Rattle.rules.specs.Calls.{State, Answer, refused, opened, previewed, committed, moved, planned, waiting, charging, looked}
+use Rattle.rules.specs.Calls.{State, Answer, refused, opened, previewed, committed, moved, planned, waiting, charging, looked, withdrawn}
 
 -- f holds at each member
 abbrev pub every : {A : Type 0} → (A → Bool) → List A → Bool
@@ -40,6 +40,7 @@ inNumbers (planned c b a n) = 5 ∷ c ∷ b ∷ a ∷ n ∷ []
 inNumbers (waiting s rate) = 6 ∷ s ∷ rate ∷ []
 inNumbers (charging s e rate) = 7 ∷ s ∷ e ∷ rate ∷ []
 inNumbers (looked n) = 8 ∷ n ∷ []
+inNumbers withdrawn = 9 ∷ []
 
 abbrev pub sameAnswer : Answer → Answer → Bool
 sameAnswer a b = sameList (inNumbers a) (inNumbers b)

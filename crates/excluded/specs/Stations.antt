@@ -54,6 +54,12 @@ stationH = standing 1 100 0 3 heldH
 abbrev pub stationHTwo : State
 stationHTwo = standing 2 50 0 3 heldH
 
+-- case f: ticket 5 waits for 5, all others have begun, and without it minutes 5 to 9 would count 2, 0, 1
+abbrev pub stationF : State
+stationF =
+    standing 2 50 1 7
+    (held 1 1 10 60 0 ∷ held 2 3 10 60 0 ∷ held 3 2 5 60 0 ∷ held 4 2 5 60 0 ∷ held 5 2 5 20 5 ∷ held 6 1 10 60 0 ∷ [])
+
 -- a charge of 20 minutes from 0 on, and behind it one of 2 minutes, due at 14
 abbrev pub stationShort : State
 stationShort = standing 1 100 0 3 (held 1 1 20 30 0 ∷ held 2 1 2 14 20 ∷ [])

@@ -7,9 +7,9 @@ use lib.Dec.{ltb, leb, eqb}
 use Rattle.rules.specs.Basics.{some}
 use Rattle.rules.specs.Load.{Load, limitAt, balanceAt, fromOn}
 use Rattle.rules.specs.Calls.{State, limitsOf, refused, waiting, charging, Call}
-use Rattle.guarantee.specs.Past.{Gives, Order, Report, Past, beginning, extended, past, timesReported, enquiry, startOf, endOf, activeUntil, loadOf, totalTime, lastMinute}
+use Rattle.guarantee.specs.Past.{Gives, Order, Report, Past, beginning, extended, past, stayingOrders, withdrawnOrders, timesReported, enquiry, startOf, endOf, activeUntil, loadOf, totalTime, lastMinute}
 use Rattle.excluded.specs.Same.{every, where-so, sameAnswer}
-use Rattle.excluded.specs.FieldsThree.{Field, limit, balance, tickets, not-early, in-time, reported, not-reported, waits, charges, finished, no-other, unmoved}
+use Rattle.excluded.specs.FieldsThree.{Field, limit, balance, tickets, not-early, in-time, reported, not-reported, waits, charges, finished, gone-not-reported, gone-not-held, no-other, unmoved}
 
 abbrev pub numbered : ℕ → List Order → Bool
 numbered i [] = true
@@ -22,7 +22,7 @@ afterEach f gives h (c ∷ calls) = f h && afterEach f gives (extended h c (give
 
 abbrev pub unmovedFrom : Gives → Past → Past → Bool
 unmovedFrom gives there here =
-    every (λ o. where-so (ltb (startOf gives here o) (here .clock)) (eqb (startOf gives there o) (startOf gives here o))) (here .orders)
+    every (λ o. where-so (ltb (startOf gives here o) (here .clock)) (eqb (startOf gives there o) (startOf gives here o))) (stayingOrders here)
 
 abbrev pub reportedOrder : Past → Report → Bool
 reportedOrder h r = some (λ (o : Order). eqb (o .ticket) (r .ticket)) (h .orders)
@@ -30,34 +30,38 @@ reportedOrder h r = some (λ (o : Order). eqb (o .ticket) (r .ticket)) (h .order
 -- h is what is known after the calls
 abbrev pub testedOn : Gives → State → List Call → Past → Field → Bool
 testedOn gives s calls h limit =
-    let xs : List Load = map (loadOf gives h) (h .orders) in fromOn 0 xs (limitAt (limitsOf s) xs)
+    let xs : List Load = map (loadOf gives h) (stayingOrders h) in fromOn 0 xs (limitAt (limitsOf s) xs)
 testedOn gives s calls h balance =
-    let xs : List Load = map (loadOf gives h) (h .orders) in fromOn 0 xs (balanceAt (limitsOf s) xs)
+    let xs : List Load = map (loadOf gives h) (stayingOrders h) in fromOn 0 xs (balanceAt (limitsOf s) xs)
 testedOn gives s calls h tickets = numbered 1 (h .orders)
-testedOn gives s calls h not-early = every (λ o. leb (o .minute) (startOf gives h o)) (h .orders)
+testedOn gives s calls h not-early = every (λ o. leb (o .minute) (startOf gives h o)) (stayingOrders h)
 testedOn gives s calls h in-time =
-    every (λ o. leb (endOf gives h o) (lastMinute 0 (h .orders) + totalTime (h .tail) (h .orders))) (h .orders)
+    every (λ o. leb (endOf gives h o) (lastMinute 0 (h .orders) + totalTime (h .tail) (h .orders))) (stayingOrders h)
 testedOn gives s calls h reported =
-    every (λ o. where-so (ltb (startOf gives h o) (h .clock)) (eqb (timesReported (h .reports) (o .ticket)) 1)) (h .orders)
+    every (λ o. where-so (ltb (startOf gives h o) (h .clock)) (eqb (timesReported (h .reports) (o .ticket)) 1)) (stayingOrders h)
 testedOn gives s calls h not-reported =
-    every (λ o. where-so (leb (h .clock) (startOf gives h o)) (eqb (timesReported (h .reports) (o .ticket)) 0)) (h .orders)
+    every (λ o. where-so (leb (h .clock) (startOf gives h o)) (eqb (timesReported (h .reports) (o .ticket)) 0)) (stayingOrders h)
 testedOn gives s calls h waits =
     every
     (λ o.
     where-so (leb (h .clock) (startOf gives h o))
     (sameAnswer (enquiry gives h (o .ticket)) (waiting (startOf gives h o) (o .rate))))
-    (h .orders)
+    (stayingOrders h)
 testedOn gives s calls h charges =
     every
     (λ o.
     where-so (ltb (startOf gives h o) (h .clock))
     (where-so (ltb (h .clock) (activeUntil gives h o))
     (sameAnswer (enquiry gives h (o .ticket)) (charging (startOf gives h o) (endOf gives h o) (o .rate)))))
-    (h .orders)
+    (stayingOrders h)
 testedOn gives s calls h finished =
     every
     (λ o. where-so (leb (activeUntil gives h o) (h .clock)) (sameAnswer (enquiry gives h (o .ticket)) (refused 15)))
-    (h .orders)
+    (stayingOrders h)
+testedOn gives s calls h gone-not-reported =
+    every (λ o. eqb (timesReported (h .reports) (o .ticket)) 0) (withdrawnOrders h)
+testedOn gives s calls h gone-not-held =
+    every (λ o. sameAnswer (enquiry gives h (o .ticket)) (refused 15)) (withdrawnOrders h)
 testedOn gives s calls h no-other = every (reportedOrder h) (h .reports)
 testedOn gives s calls h unmoved = afterEach (unmovedFrom gives h) gives (beginning s) calls
 

@@ -12,7 +12,7 @@ use Rattle.rules.specs.Calls.{State, limitsOf}
 use Rattle.rules.specs.Valid.{ValidCharge, ValidState}
 use Rattle.rules.proofs.Lists.{keep-all}
 use Rattle.rules.proofs.Counts.{sound-from}
-use Rattle.guarantee.specs.Past.{ordersOf, reportOf, beginning, lastMinute}
+use Rattle.guarantee.specs.Past.{Order, ordersOf, reportOf, beginning, staying, lastMinute}
 use Rattle.guarantee.proofs.Each.{each-in}
 use Rattle.guarantee.proofs.History.{each-until}
 use Rattle.guarantee.proofs.Reports.{Worth, sumReports, sumBegun}
@@ -35,6 +35,10 @@ last-ordered : (m k : ℕ) (cs : List Charge) → m ≤ k → Each (λ c. c .ord
 last-ordered m k [] h e = h
 last-ordered m k (c ∷ cs) h e = last-ordered (c .orderMinute) k cs (e .0) (e .1)
 
+all-stay : (os : List Order) → staying [] os ≡ os
+all-stay [] = refl
+all-stay (o ∷ os) = rw (all-stay os)
+
 -- its history is what it holds
 pub station-known : (s : State) → ValidState s → Known s (beginning s) (s .charges)
 station-known s v =
@@ -52,7 +56,8 @@ station-known s v =
                   next = omega arith;
                 };
             last = last-ordered 0 (s .clock) (s .charges) (omega arith) (each (λ c w. w .ordered));
-            orders = refl;
+            orders = sym (all-stay (ordersOf (s .charges)));
+            off = tt;
             rising = v .rising;
             next-low = v .next-low;
             given = each (λ c w. w .ticket-given);

@@ -7,10 +7,10 @@ use mathlib.Core.List.{List, [], _∷_}
 use native.Mathlib.Omega.{arith}
 use lib.Dec.{eqb}
 use Rattle.rules.specs.Basics.{some, firstOf}
-use Rattle.rules.specs.Charge.{Charge, endOf, isBegun}
+use Rattle.rules.specs.Charge.{Charge, endOf, isBegun, hasTicket}
 use Rattle.rules.specs.Replan.{Proposal, starts, none, latest, Replanned, byLines}
 use Rattle.rules.specs.Judgement.{judged}
-use Rattle.rules.specs.Calls.{Settings, settings, State, limitsOf, Answer, refused, opened, planned, Result, answering, boundOf, fresh, openRefusals, opening, Call, preview, commit, move, offer, replanLatest, replanLines, enquire, board, lent, refusals, previewing, committing, moving, decided, tested, offering, replanningLatest, replanningLines, told, enquiring, boarding, granted, step}
+use Rattle.rules.specs.Calls.{Settings, settings, State, limitsOf, Answer, refused, opened, planned, Result, answering, boundOf, fresh, openRefusals, opening, Call, preview, commit, move, offer, replanLatest, replanLines, enquire, board, withdraw, lent, refusals, previewing, committing, moving, decided, tested, offering, replanningLatest, replanningLines, told, enquiring, boarding, withdrawing, granted, step}
 use Rattle.rules.specs.Valid.{ValidState}
 use Rattle.rules.proofs.Tables.{Numbered, firstOf-none, none-firstOf}
 use Rattle.rules.proofs.Granted.{refusals-numbered, openRefusals-numbered, order-granted, enquire-granted}
@@ -71,6 +71,7 @@ answer-not-refused (replanLines allowance) a (i, b, c, n, e) = rw e
 answer-not-refused (enquire ticket) a (inl (s, w, e)) = rw e
 answer-not-refused (enquire ticket) a (inr (s, u, w, e)) = rw e
 answer-not-refused (board asked list) a (n, e) = rw e
+answer-not-refused (withdraw ticket) a e = rw e
 
 -- a tested plan is answered with a cause
 abbrev Planned : Answer → Type 0
@@ -89,7 +90,7 @@ tested-planned s rounds (none cause) list = (_, _, _, _, refl)
 -- a held charge is told of
 told-held :
     (k t : ℕ) (cs : List Charge)
-    → some (λ c. eqb (c .ticket) t) cs ≡ true
+    → some (hasTicket t) cs ≡ true
     → AnswerTo (enquire t) (told k cs t)
 told-held k t [] e = absurd (true≢false (sym e))
 told-held k t (c ∷ cs) e = go (eqb (c .ticket) t) refl (isBegun k c) refl e (told-held k t cs)
@@ -99,15 +100,15 @@ told-held k t (c ∷ cs) e = go (eqb (c .ticket) t) refl (isBegun k c) refl e (t
         → eqb (c .ticket) t ≡ a
         → (b : Bool)
         → isBegun k c ≡ b
-        → a || some (λ c. eqb (c .ticket) t) cs ≡ true
-        → (some (λ c. eqb (c .ticket) t) cs ≡ true → AnswerTo (enquire t) (told k cs t))
+        → a || some (hasTicket t) cs ≡ true
+        → (some (hasTicket t) cs ≡ true → AnswerTo (enquire t) (told k cs t))
         → AnswerTo (enquire t) (told k (c ∷ cs) t)
     go true p true q u later = inr (c .start, endOf c, c .rate, rw (p, q))
     go true p false q u later = inl (c .start, c .rate, rw (p, q))
     go false p b q u later = rw p (later u)
 
 granted-answer : (s : State) (c : Call) → ValidState s → NoneApplies (refusals s c) → AnswerTo c (granted s c .answer)
-unfolding previewing committing moving offering replanningLatest replanningLines enquiring boarding
+unfolding previewing committing moving offering replanningLatest replanningLines enquiring boarding withdrawing
 granted-answer s (preview line p d rate) v q =
     let f = order-found s line p d rate v (order-granted s line p d rate q) in (f .0, rw (f .1))
 granted-answer s (commit line p d rate shown) v q = (s .next, refl)
@@ -120,6 +121,7 @@ granted-answer s (replanLines allowance) v q =
 granted-answer s (enquire ticket) v q =
     told-held (s .clock) ticket (s .charges) (enquire-granted s ticket q)
 granted-answer s (board asked list) v q = (_, refl)
+granted-answer s (withdraw ticket) v q = refl
 
 -- The demand
 

@@ -1,7 +1,7 @@
 -- Demand 3.
 use mathlib.Core.Path.{_≡_, refl, sym, ap, subst, _∙_}
 use Prim.Native.Nat.{ℕ, zero, suc, _+_, _≤_}
-use mathlib.Core.Bool.{Bool, true, false, cond}
+use mathlib.Core.Bool.{Bool, true, false, cond, not}
 use mathlib.Core.List.{List, [], _∷_, _++_, map}
 use native.Mathlib.Omega.{arith}
 use lib.Dec.{eqb}
@@ -10,17 +10,18 @@ use Rattle.rules.specs.Basics.{Each, firstOf, some}
 use Rattle.rules.specs.Load.{count, lastUntil}
 use Rattle.rules.specs.Charge.{Charge, activeUntil, loadsOf, isBegun, unfinishedCharges}
 use Rattle.rules.specs.Calls.{Settings, settings, State, told, opened, answering, fresh, openRefusals, opening, Call, step}
-use Rattle.guarantee.specs.Past.{Order, Past, orderOf, ordersOf, beginning, past, timesReported, enquiry, startIn, startOf, loadOf, countIn, Numbered}
-use Rattle.guarantee.specs.DemandThree.{Kept, Unmoved, InTime, NoOther, NoneMoved, DemandThree, DemandThreeFrom}
+use Rattle.guarantee.specs.Past.{Order, Past, orderOf, ordersOf, beginning, past, isWithdrawn, stayingOrders, withdrawnOrders, timesReported, enquiry, startIn, startOf, loadOf, countIn, Numbered}
+use Rattle.guarantee.specs.DemandThree.{Kept, Gone, Unmoved, InTime, NoOther, NoneMoved, DemandThree, DemandThreeFrom}
 use Rattle.rules.specs.Valid.{ValidState}
 use Rattle.rules.proofs.Lists.{each-map}
 use Rattle.rules.proofs.Validity.{opening-valid}
-use Rattle.guarantee.proofs.Each.{each-two, each-both, each-image}
+use Rattle.guarantee.proofs.Each.{each-two, each-both, image-each, each-image}
 use Rattle.guarantee.proofs.History.{Fit}
 use Rattle.guarantee.proofs.Reports.{Worth, sumReports, sumBegun}
 use Rattle.guarantee.proofs.Tickets.{isTicket, isPair, times-sum, not-reported-start, once-reported-start, sum-of-own, sum-ours, enquiry-told, Told, told-each}
 use Rattle.guarantee.proofs.Invariant.{Accepted, ceilingOf}
-use Rattle.guarantee.proofs.Steps.{Grown, more, on, Known, Reach, reach, after-append}
+use Rattle.guarantee.proofs.Staying.{some-kept, kept-pass, stays-not-withdrawn, withdrawn-none, none-begun, none-told}
+use Rattle.guarantee.proofs.Steps.{Grown, more, on, off, Known, Reach, reach, after-append}
 use Rattle.guarantee.proofs.Beginnings.{station-known}
 
 -- what calls and answers say of one charge of the history
@@ -111,17 +112,17 @@ module _ (s : State) (h : Past) (hs : List Charge) (known : Known s h hs) where
       (P : Charge → Type 0) (Q : Order → Type 0)
       → ((c : Charge) → Said h (unfinishedCharges (h .clock) hs) c → P c → Q (orderOf c))
       → Each P hs
-      → Each Q (h .orders)
+      → Each Q (stayingOrders h)
   each-order P Q f e =
       subst (λ (os : List Order). Each Q os) (known .invariant .orders)
       (each-image Q orderOf hs
       (each-two (Said h (unfinishedCharges (h .clock) hs)) P (λ c. Q (orderOf c)) f hs said e))
 
-  orders-kept : Each (Kept step h) (h .orders)
+  orders-kept : Each (Kept step h) (stayingOrders h)
   orders-kept = each-order (Fit (s .tail) (h .clock)) (Kept step h) keeps (known .invariant .fit)
 
   -- where nothing was held at the beginning
-  orders-in-time : lastUntil (loadsOf (s .charges)) ≡ 0 → Each (InTime step h) (h .orders)
+  orders-in-time : lastUntil (loadsOf (s .charges)) ≡ 0 → Each (InTime step h) (stayingOrders h)
   orders-in-time none =
       each-order
       (λ c. Fit (s .tail) (h .clock) c × (activeUntil c ≤ ceilingOf s (h .orders)))
@@ -148,8 +149,31 @@ module _ (s : State) (h : Past) (hs : List Charge) (known : Known s h hs) where
   only-ours t j =
       let q : sumReports (isTicket t) (h .reports) ≡ sumBegun (isTicket t) (h .clock) hs
       = known .invariant .reports (isTicket t) in
-      subst (λ (os : List Order). some (λ (o : Order). eqb (o .ticket) t) os ≡ true) (known .invariant .orders)
-      (sum-ours t (h .clock) hs (omega (arith, times-sum (h .reports) t)))
+      some-kept (λ (o : Order). eqb (o .ticket) t) (λ o. not (isWithdrawn (h .withdrawn) o)) (h .orders)
+      (subst (λ (os : List Order). some (λ (o : Order). eqb (o .ticket) t) os ≡ true) (known .invariant .orders)
+      (sum-ours t (h .clock) hs (omega (arith, times-sum (h .reports) t))))
+
+  -- no charge of the history has a withdrawn ticket
+  withdrawn-gone : Each (Gone step h) (withdrawnOrders h)
+  withdrawn-gone =
+      each-map (λ o. isWithdrawn (h .withdrawn) o ≡ true) (Gone step h)
+      (λ o w.
+      let none = withdrawn-none (h .withdrawn) o hs not-withdrawn w in
+      record {
+        not-reported =
+            times-sum (h .reports) (o .ticket)
+            ∙ known .invariant .reports (isTicket (o .ticket))
+            ∙ none-begun (o .ticket) (h .clock) hs none;
+        not-held = enquiry-held (o .ticket) ∙ none-told (o .ticket) (h .clock) hs none;
+      })
+      (withdrawnOrders h)
+      (kept-pass (isWithdrawn (h .withdrawn)) (h .orders))
+    where
+      not-withdrawn : Each (λ c. isWithdrawn (h .withdrawn) (orderOf c) ≡ false) hs
+      not-withdrawn =
+          image-each (λ o. isWithdrawn (h .withdrawn) o ≡ false) orderOf hs
+          (subst (λ (os : List Order). Each (λ o. isWithdrawn (h .withdrawn) o ≡ false) os) (sym (known .invariant .orders))
+          (stays-not-withdrawn (h .withdrawn) (h .orders)))
 
 -- A first part and the whole
 
@@ -167,13 +191,17 @@ unmoved-each here there a b e (on {c = c} {d = d} t u r) p q = (
       ap (startOf step there) (sym t) ∙ q .0 .start ∙ u (omega arith) ∙ sym i),
   unmoved-each here there a b e r (p .1) (q .1),
 )
+unmoved-each here there a b e (off {c = c} i r) p q = (
+  (λ j. let w : startOf step here (orderOf c) ≡ c .start = p .0 .start in absurd (omega arith)),
+  unmoved-each here there a b e r (p .1) q,
+)
 
 unmoved-orders :
     (s : State) (here there : Past) (cs ds : List Charge)
     → Known s here cs
     → Known s there ds
     → Grown (here .clock) cs ds
-    → Each (Unmoved step here there) (here .orders)
+    → Each (Unmoved step here there) (stayingOrders here)
 unmoved-orders s here there cs ds p q r =
     subst (λ (os : List Order). Each (Unmoved step here there) os) (p .invariant .orders)
     (each-image (Unmoved step here there) orderOf cs
@@ -196,8 +224,8 @@ module _ (s : State) (calls : List Call) (v : ValidState s) where
   unmoved-part part rest e =
       let p : Reach s (beginning s) (s .charges) (past step s part) = reach s part (beginning s) (s .charges) (station-known s v) in
       let q = reach s rest (past step s part) (p .now) (p .known) in
-      subst (λ (z : List Call). Each (Unmoved step (past step s part) (past step s z)) (past step s part .orders)) (sym e)
-      (subst (λ (g : Past). Each (Unmoved step (past step s part) g) (past step s part .orders))
+      subst (λ (z : List Call). Each (Unmoved step (past step s part) (past step s z)) (stayingOrders (past step s part))) (sym e)
+      (subst (λ (g : Past). Each (Unmoved step (past step s part) g) (stayingOrders (past step s part)))
       (sym (after-append part rest (beginning s)))
       (unmoved-orders s (past step s part) _ (p .now) (q .now) (p .known) (q .known) (q .grown)))
 
@@ -220,12 +248,10 @@ module _ (s : State) (calls : List Call) (v : ValidState s) where
             let a : Accepted s (reached .known .next) (past step s calls .orders) = reached .known .invariant .accepted in
             (a .new, a .is, a .numbered);
         orders = orders-kept s (past step s calls) (reached .now) (reached .known);
+        gone = withdrawn-gone s (past step s calls) (reached .now) (reached .known);
         no-other = only-ours s (past step s calls) (reached .now) (reached .known);
         unmoved = unmoved-part;
       }
-
-  pub clock-later : s .clock ≤ past step s calls .clock
-  clock-later = reached .later
 
 -- what it holds has at the beginning the starts that it has them with
 pub beginning-starts :
@@ -276,6 +302,7 @@ unused-three s calls v u =
       tickets =
           all-accepted (s .charges) (s .next) (past step s calls .orders) (d .tickets .0) (u .charges) (u .next) (d .tickets .1) (d .tickets .2);
       orders = d .orders;
+      gone = d .gone;
       in-time =
           orders-in-time s (past step s calls) (reached s calls v .now) (reached s calls v .known) (rw (u .charges));
       no-other = d .no-other;

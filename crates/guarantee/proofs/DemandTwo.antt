@@ -26,6 +26,7 @@ use Rattle.guarantee.specs.Demands.{reached}
 use Rattle.guarantee.proofs.Proposals.{Proper, latest-proper, lines-proper, restarted-starts, restarted-begun, restarted-otherwise}
 use Rattle.guarantee.proofs.Orders.{preview-start, commit-start}
 use Rattle.guarantee.proofs.Boards.{board-shown}
+use Rattle.guarantee.proofs.Leaving.{withdrawal}
 use Rattle.guarantee.proofs.DemandOne.{reached-valid}
 
 -- Constraint II
@@ -230,6 +231,7 @@ valid-demand-two s v =
           (λ q. tested-judged s (r .rounds) (r .proposal) [] v (lines-proper (limitsOf s) (s .clock) allowance (s .charges)))
           (tested-list s (r .rounds) (r .proposal) []);
       boards = λ asked list. board-shown s asked list v;
+      withdrawals = λ ticket. withdrawal s ticket v;
     }
 
 pub demand-two : (x : Settings) (calls : List Call) → DemandTwo step (reached x calls)

@@ -15,6 +15,11 @@ each-both P Q l d e = each-two P Q (λ a. P a × Q a) (λ a p q. (p, q)) l d e
 pub each-in : {A : Type 0} {P Q : A → Type 0} → ((a : A) → P a → Q a) → (l : List A) → Each P l → Each Q l
 each-in {P = P} {Q = Q} f l e = each-map P Q f l e
 
+pub image-each :
+    {A : Type 0} {B : Type 0} (P : B → Type 0) (f : A → B) (l : List A) → Each P (map f l) → Each (λ a. P (f a)) l
+image-each P f [] e = tt
+image-each P f (a ∷ l) e = (e .0, image-each P f l (e .1))
+
 pub each-image :
     {A : Type 0} {B : Type 0} (P : B → Type 0) (f : A → B) (l : List A) → Each (λ a. P (f a)) l → Each P (map f l)
 each-image P f [] e = tt

@@ -1,8 +1,11 @@
 pub mod Each
+pub mod Counted
 pub mod Tables
 pub mod History
 pub mod Reports
 pub mod Tickets
+pub mod Withdrawals
+pub mod Staying
 pub mod Invariant
 pub mod Steps
 pub mod Beginnings
@@ -11,5 +14,6 @@ pub mod DemandOne
 pub mod Proposals
 pub mod Orders
 pub mod Boards
+pub mod Leaving
 pub mod DemandTwo
 pub mod Demands

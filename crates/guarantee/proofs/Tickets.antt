@@ -7,7 +7,7 @@ use native.Mathlib.Omega.{arith}
 use lib.Dec.{eqb}
 use borrow.Author.Tests.{eqb-true, lt-ltb, le-ltb, le-leb, lt-leb, eq-eqb, ne-eqb}
 use Rattle.rules.specs.Basics.{Each, some}
-use Rattle.rules.specs.Charge.{Charge, endOf, activeUntil, isBegun, isFinished, unfinishedCharges}
+use Rattle.rules.specs.Charge.{Charge, endOf, activeUntil, isBegun, isFinished, unfinishedCharges, hasTicket}
 use Rattle.rules.specs.Calls.{State, told, refused, waiting, charging, enquire, enquiring, step}
 use Rattle.rules.specs.Valid.{Rising}
 use Rattle.rules.proofs.Ranges.{or-left, or-right}
@@ -136,20 +136,20 @@ sum-ours t k (c ∷ cs) h = go (eqb (c .ticket) t) h (sum-ours t k cs)
 
 -- What an enquiry answers
 
-told-not-held :
-    (k t : ℕ) (cs : List Charge) → some (λ c. eqb (c .ticket) t) cs ≡ false → told k cs t ≡ refused 15
+pub told-not-held :
+    (k t : ℕ) (cs : List Charge) → some (hasTicket t) cs ≡ false → told k cs t ≡ refused 15
 told-not-held k t [] e = refl
 told-not-held k t (c ∷ cs) e =
-    rw (or-left (eqb (c .ticket) t) (some (λ c. eqb (c .ticket) t) cs) e)
-    (told-not-held k t cs (or-right (eqb (c .ticket) t) (some (λ c. eqb (c .ticket) t) cs) e))
+    rw (or-left (eqb (c .ticket) t) (some (hasTicket t) cs) e)
+    (told-not-held k t cs (or-right (eqb (c .ticket) t) (some (hasTicket t) cs) e))
 
 pub enquiry-told : (s : State) (t : ℕ) → step s (enquire t) .answer ≡ told (s .clock) (s .charges) t
 unfolding enquiring
-enquiry-told s t = go (some (λ c. eqb (c .ticket) t) (s .charges)) refl
+enquiry-told s t = go (some (hasTicket t) (s .charges)) refl
   where
     go :
         (b : Bool)
-        → some (λ c. eqb (c .ticket) t) (s .charges) ≡ b
+        → some (hasTicket t) (s .charges) ≡ b
         → step s (enquire t) .answer ≡ told (s .clock) (s .charges) t
     go true e = rw e
     go false e = rw (e, told-not-held (s .clock) t (s .charges) e)

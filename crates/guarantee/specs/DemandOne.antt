@@ -5,7 +5,7 @@ use Prim.Native.Nat.{ℕ}
 use mathlib.Core.Bool.{Bool, true, false}
 use mathlib.Core.List.{List, [], _∷_}
 use Rattle.rules.specs.Basics.{Each}
-use Rattle.rules.specs.Calls.{Settings, settings, State, Answer, refused, opened, previewed, committed, moved, planned, waiting, charging, looked, Result, boundOf, fresh, openRefusals, Call, preview, commit, move, offer, replanLatest, replanLines, enquire, board, lent, refusals}
+use Rattle.rules.specs.Calls.{Settings, settings, State, Answer, refused, opened, previewed, committed, moved, planned, waiting, charging, looked, withdrawn, Result, boundOf, fresh, openRefusals, Call, preview, commit, move, offer, replanLatest, replanLines, enquire, board, withdraw, lent, refusals}
 use Rattle.guarantee.specs.Past.{Gives, isRefused}
 
 -- "Where several apply", the first in the call's table, for "its stated place goes before its number": k is the number of a
@@ -35,8 +35,9 @@ AnswerTo replanLatest a = (i : ℕ) × (b : ℕ) × (c : ℕ) × (n : ℕ) × (a
 AnswerTo (replanLines allowance) a = (i : ℕ) × (b : ℕ) × (c : ℕ) × (n : ℕ) × (a ≡ planned i b c n)
 AnswerTo (enquire ticket) a = ((s : ℕ) × (r : ℕ) × (a ≡ waiting s r)) ⊎ ((s : ℕ) × (e : ℕ) × (r : ℕ) × (a ≡ charging s e r))
 AnswerTo (board asked list) a = (n : ℕ) × (a ≡ looked n)
+AnswerTo (withdraw ticket) a = a ≡ withdrawn
 
--- a call to a station that stands: refusals 4 to 18, 23 and 24; `gives` is what a call to a station gives
+-- a call to a station that stands: refusals 4 to 18 and 23 to 26; `gives` is what a call to a station gives
 pub record DemandOne (gives : Gives) (s : State) (call : Call) : Type 0 where
   pub refused-by : RefusedBy (refusals s call) s (lent call) (gives s call)
   -- "No other call is refused, and every call returns."

@@ -7,9 +7,9 @@ use lib.Dec.{eqb}
 use Rattle.rules.specs.Basics.{Each, some}
 use Rattle.rules.specs.Load.{IsLine}
 use Rattle.rules.specs.Calls.{State, refused, waiting, charging, Call}
-use Rattle.guarantee.specs.Past.{Gives, Order, Past, past, timesReported, enquiry, startOf, endOf, activeUntil, countIn, ordersOf, Numbered, totalTime, lastMinute}
+use Rattle.guarantee.specs.Past.{Gives, Order, Past, past, timesReported, enquiry, startOf, endOf, activeUntil, countIn, ordersOf, stayingOrders, withdrawnOrders, Numbered, totalTime, lastMinute}
 
--- What is claimed of one accepted order, wherever the list began.
+-- What is claimed of one accepted order, wherever the list began: "For someone who stays, every assurance holds".
 pub record Kept (gives : Gives) (h : Past) (o : Order) : Type 0 where
   -- "not before its order minute"
   pub not-early : o .minute ≤ startOf gives h o
@@ -26,13 +26,18 @@ pub record Kept (gives : Gives) (h : Past) (o : Order) : Type 0 where
   -- "for a finished one the answer is refusal 15."
   pub finished : activeUntil gives h o ≤ h .clock → enquiry gives h (o .ticket) ≡ refused 15
 
+-- What is claimed of a withdrawn order: it "has no charge". `countIn` does not count it, and it draws in no minute.
+pub record Gone (gives : Gives) (h : Past) (o : Order) : Type 0 where
+  pub not-reported : timesReported (h .reports) (o .ticket) ≡ 0
+  pub not-held : enquiry gives h (o .ticket) ≡ refused 15
+
 -- "if an order's start is below the clock after some first part of the list, the order has the same start after the whole list":
 -- here is what is known after the first part, there what is known after the whole list
 abbrev pub Unmoved : Gives → Past → Past → Order → Type 0
 Unmoved gives here there o = startOf gives here o < here .clock → startOf gives there o ≡ startOf gives here o
 
 -- "No charge ends later than the last minute in which an order was accepted plus the charging times of all accepted orders",
--- with r for each of these
+-- with r for each of these, withdrawn ones too: a withdrawn order's "time still counts in the ceiling on ends", and so does its minute
 abbrev pub InTime : Gives → Past → Order → Type 0
 InTime gives h o = endOf gives h o ≤ lastMinute 0 (h .orders) + totalTime (h .tail) (h .orders)
 
@@ -46,7 +51,7 @@ abbrev pub NoneMoved : Gives → State → List Call → Type 0
 NoneMoved gives s calls =
     (part rest : List Call)
     → calls ≡ part ++ rest
-    → Each (Unmoved gives (past gives s part) (past gives s calls)) (past gives s part .orders)
+    → Each (Unmoved gives (past gives s part) (past gives s calls)) (stayingOrders (past gives s part))
 
 -- The whole claim, for the station that an opening gave, the list of calls made from it, and what a call gives.
 pub record DemandThree (gives : Gives) (s : State) (calls : List Call) : Type 0 where
@@ -59,10 +64,12 @@ pub record DemandThree (gives : Gives) (s : State) (calls : List Call) : Type 0 
       → IsLine l
       → IsLine m
       → countIn gives (past gives s calls) l t ≤ countIn gives (past gives s calls) m t + s .bound
-  -- "Each accepted order has exactly one charge": "tickets are 1, 2, 3 and so on in the order of acceptance"
+  -- "Each accepted order has exactly one charge": "tickets are 1, 2, 3 and so on in the order of acceptance", those withdrawn among
+  -- them, so that none is given again
   pub tickets : Numbered 1 (past gives s calls .orders)
-  pub orders : Each (Kept gives (past gives s calls)) (past gives s calls .orders)
-  pub in-time : Each (InTime gives (past gives s calls)) (past gives s calls .orders)
+  pub orders : Each (Kept gives (past gives s calls)) (stayingOrders (past gives s calls))
+  pub gone : Each (Gone gives (past gives s calls)) (withdrawnOrders (past gives s calls))
+  pub in-time : Each (InTime gives (past gives s calls)) (stayingOrders (past gives s calls))
   pub no-other : NoOther (past gives s calls)
   pub unmoved : NoneMoved gives s calls
 
@@ -84,6 +91,7 @@ pub record DemandThreeFrom (gives : Gives) (s : State) (calls : List Call) : Typ
   -- the orders accepted by the calls get the tickets from its next one on
   pub tickets :
       (new : List Order) × (past gives s calls .orders ≡ ordersOf (s .charges) ++ new) × Numbered (s .next) new
-  pub orders : Each (Kept gives (past gives s calls)) (past gives s calls .orders)
+  pub orders : Each (Kept gives (past gives s calls)) (stayingOrders (past gives s calls))
+  pub gone : Each (Gone gives (past gives s calls)) (withdrawnOrders (past gives s calls))
   pub no-other : NoOther (past gives s calls)
   pub unmoved : NoneMoved gives s calls

@@ -1,18 +1,19 @@
--- Demand 2: when a plan is taken, the start that an order is shown and gets, what offers and replans leave, and what the board shows.
+-- Demand 2: when a plan is taken, the start that an order is shown and gets, what offers and replans leave, what the board
+-- shows, and when an order can be withdrawn.
 use mathlib.Core.Logic.{_↔_}
 use mathlib.Core.Path.{_≡_}
-use Prim.Native.Nat.{ℕ, _+_, max, _≤_, _<_}
-use mathlib.Core.Bool.{true, cond}
+use Prim.Native.Nat.{ℕ, suc, _+_, max, _≤_, _<_}
+use mathlib.Core.Bool.{true, cond, _&&_}
 use mathlib.Core.List.{List, [], _∷_, map}
 use lib.Dec.{leb}
 use lib.ListN.{length}
-use Rattle.rules.specs.Basics.{keep, Each}
+use Rattle.rules.specs.Basics.{keep, some, Each}
 use Rattle.rules.specs.Load.{Load, Draw, active, count, IsLine}
-use Rattle.rules.specs.Charge.{Charge, starting, activeUntil, loadOf, loadsOf, begunCharges, waitingCharges, lastEnd, lateness}
+use Rattle.rules.specs.Charge.{Charge, starting, activeUntil, loadOf, loadsOf, isWaiting, begunCharges, waitingCharges, hasTicket, withoutTicket, lastEnd, lateness}
 use Rattle.rules.specs.Search.{added}
 use Rattle.rules.specs.Replan.{Proposal, starts, none, latest, byLines}
 use Rattle.rules.specs.Judgement.{restarted, judged}
-use Rattle.rules.specs.Calls.{State, limitsOf, holding, Answer, refused, previewed, committed, planned, looked, Result, Call, preview, commit, offer, replanLatest, replanLines, enquire, board, lent, newCharge, drawFor, refusals, taking, written, notHeld}
+use Rattle.rules.specs.Calls.{State, limitsOf, holding, Answer, refused, previewed, committed, planned, looked, withdrawn, Result, Call, preview, commit, offer, replanLatest, replanLines, enquire, board, withdraw, lent, newCharge, drawFor, refusals, taking, written, notHeld}
 use Rattle.guarantee.specs.Past.{Gives, isRefused, startIn}
 use Rattle.guarantee.specs.DemandOne.{NoneApplies}
 
@@ -129,6 +130,18 @@ pub record BoardShown (gives : Gives) (s : State) (asked list : List ℕ) (r : R
   -- refused or not
   pub same-station : r .state ≡ s
 
+-- a waiting charge has this ticket
+abbrev pub Waits : State → ℕ → Type 0
+Waits s ticket = some (λ c. hasTicket ticket c && isWaiting (s .clock) c) (s .charges) ≡ true
+
+-- "A waiting charge is removed, and its place is free, exactly when the remaining plan is sound; no other start moves."
+pub record Withdrawal (s : State) (ticket : ℕ) (r : Result) : Type 0 where
+  pub removed : (r .answer ≡ withdrawn) ↔ (Waits s ticket × SoundPlan s (loadsOf (withoutTicket ticket (s .charges))))
+  -- all others stay as they are, and so does the next ticket
+  pub others-same : r .answer ≡ withdrawn → r .state ≡ holding s (s .clock) (withoutTicket ticket (s .charges))
+  pub place-free : r .answer ≡ withdrawn → suc (length (r .state .charges)) ≡ length (s .charges)
+  pub unchanged : (r .answer ≡ withdrawn → ⊥) → r .state ≡ s
+
 -- `gives` is what a call to a station gives
 pub record DemandTwo (gives : Gives) (s : State) : Type 0 where
   pub previews : (line p d rate : ℕ) → PreviewStart s line p d rate (gives s (preview line p d rate))
@@ -149,3 +162,4 @@ pub record DemandTwo (gives : Gives) (s : State) : Type 0 where
       (gives s (replanLines allowance))
   -- "One call takes a rising list of 32-bit numbers and writes the start of each to another such list"
   pub boards : (asked list : List ℕ) → BoardShown gives s asked list (gives s (board asked list))
+  pub withdrawals : (ticket : ℕ) → Withdrawal s ticket (gives s (withdraw ticket))

@@ -9,8 +9,8 @@ use Rattle.rules.specs.Load.{limited, balanced, sound}
 use Rattle.rules.specs.Search.{earliest}
 use Rattle.rules.specs.Replan.{placeAll, latest}
 use Rattle.rules.specs.Judgement.{judged}
-use Rattle.rules.specs.Calls.{settings, refused, waiting, charging, preview, commit, move, offer, replanLatest, enquire, opening, previewing, committing, moving, offering, replanningLatest, enquiring, step}
-use Rattle.guarantee.specs.Past.{Order, Past, past, timesReported, enquiry, startOf, activeUntil, countIn, totalTime, lastMinute}
+use Rattle.rules.specs.Calls.{settings, refused, waiting, charging, preview, commit, move, offer, replanLatest, enquire, withdraw, opening, previewing, committing, moving, offering, replanningLatest, enquiring, withdrawing, step}
+use Rattle.guarantee.specs.Past.{Order, Past, past, stayingOrders, withdrawnOrders, timesReported, enquiry, startOf, activeUntil, countIn, totalTime, lastMinute}
 
 -- N = D = 1. The orders of case h, replanned: ticket 2
 -- charges on line 1 from 0 to 10, ticket 1 waits for 10. At clock 1 there come ticket 3, on line 2 from 1 to 5 and due at 0,
@@ -100,3 +100,28 @@ tailed-counts :
     × (totalTime (tailed .tail) (tailed .orders) ≡ 24)
 unfolding limited balanced sound earliest opening committing moving enquiring
 tailed-counts = (refl, refl, refl, refl)
+
+-- N = D = 1. Ticket 2, of line 1 from 10 to 20, is withdrawn and has no charge: its start reads 0 and is not counted, in minute 0 or
+-- elsewhere (proofs/Counted.antt). The withdrawal of ticket 1, which has begun, is refused. At clock 1 ticket 3, of line 2, is ordered and withdrawn: it
+-- is the last accepted, and its minute and the times of all three count in the ceiling.
+abbrev pub shorter : Past
+shorter =
+    past step (opening (settings 1 100 0) .state)
+    (commit 1 10 60 1 0
+    ∷ commit 1 10 60 1 10
+    ∷ withdraw 2
+    ∷ move 1 (replicate 360 7)
+    ∷ withdraw 1
+    ∷ commit 2 7 60 1 1
+    ∷ withdraw 3
+    ∷ [])
+
+shorter-known :
+    (same (shorter .withdrawn) (2 ∷ 3 ∷ []) ≡ true)
+    × (same (map (λ (o : Order). o .ticket) (stayingOrders shorter)) (1 ∷ []) ≡ true)
+    × (same (map (λ (o : Order). o .ticket) (withdrawnOrders shorter)) (2 ∷ 3 ∷ []) ≡ true)
+    × (map (enquiry step shorter) (1 ∷ 2 ∷ 3 ∷ []) ≡ charging 0 10 1 ∷ refused 15 ∷ refused 15 ∷ [])
+    × (lastMinute 0 (shorter .orders) ≡ 1)
+    × (totalTime 0 (shorter .orders) ≡ 27)
+unfolding limited balanced sound earliest opening committing moving enquiring withdrawing
+shorter-known = (refl, refl, refl, refl, refl, refl)

@@ -2,12 +2,13 @@
 -- (docs/RULES.md, section 6).
 use mathlib.Core.Path.{_≡_}
 use Prim.Native.Nat.{ℕ, zero, suc, _+_}
-use mathlib.Core.Bool.{Bool, true, false, cond}
+use mathlib.Core.Bool.{Bool, true, false, cond, not}
 use mathlib.Core.List.{List, [], _∷_, _++_, map}
 use lib.Dec.{eqb}
+use Rattle.rules.specs.Basics.{keep, some}
 use Rattle.rules.specs.Load.{draw, Load, loadFrom, count}
 use Rattle.rules.specs.Charge.{Charge, begunCharges}
-use Rattle.rules.specs.Calls.{State, Answer, refused, opened, previewed, committed, moved, planned, waiting, charging, looked, Result, Call, preview, commit, move, offer, replanLatest, replanLines, enquire, board}
+use Rattle.rules.specs.Calls.{State, Answer, refused, opened, previewed, committed, moved, planned, waiting, charging, looked, withdrawn, Result, Call, preview, commit, move, offer, replanLatest, replanLines, enquire, board, withdraw}
 
 -- An accepted order: its ticket is that of the answer. "Its order minute is the clock at that moment; its line and p are
 -- those passed in", and so is its rate.
@@ -47,6 +48,7 @@ said (planned c b a n) = says false [] 0 0
 said (waiting s rate) = says false [] 0 s
 said (charging s e rate) = says false [] 0 s
 said (looked n) = says false [] 0 0
+said withdrawn = says false [] 0 0
 
 abbrev pub isRefused : Answer → Bool
 isRefused a = said a .refuses
@@ -69,14 +71,15 @@ firstPairs (suc n) [] = []
 firstPairs (suc n) (t ∷ []) = []
 firstPairs (suc n) (t ∷ s ∷ l) = record { ticket = t; start = s } ∷ firstPairs n l
 
--- the clock after a call, the order that it accepted, and what it reported
+-- the clock after a call, the order that it accepted, the ticket that it withdrew, and what it reported
 pub record Learnt : Type 0 where
   pub clock : ℕ
   pub orders : List Order
+  pub withdrawn : List ℕ
   pub reports : List Report
 
 abbrev pub nothingNew : ℕ → Learnt
-nothingNew clock = record { clock = clock; orders = []; reports = [] }
+nothingNew clock = record { clock = clock; orders = []; withdrawn = []; reports = [] }
 
 -- "The clock is the target of the last move not refused." "An order is accepted when it is answered with a ticket":
 -- "an order is accepted at its commit". A call with its answer and its list afterwards, made at some clock.
@@ -86,15 +89,19 @@ learnt clock (commit line p d rate shown) a list =
     record {
       clock = clock;
       orders = map (λ t. record { ticket = t; line = line; minute = clock; time = p; rate = rate }) (ticketIn a);
+      withdrawn = [];
       reports = [];
     }
 learnt clock (move target lent) a list =
-    record { clock = cond (isRefused a) clock target; orders = []; reports = firstPairs (reportedIn a) list }
+    record { clock = cond (isRefused a) clock target; orders = []; withdrawn = []; reports = firstPairs (reportedIn a) list }
 learnt clock (offer ss) a list = nothingNew clock
 learnt clock replanLatest a list = nothingNew clock
 learnt clock (replanLines allowance) a list = nothingNew clock
 learnt clock (enquire ticket) a list = nothingNew clock
 learnt clock (board asked lent) a list = nothingNew clock
+-- an order is withdrawn by a withdrawal of its ticket that is not refused
+learnt clock (withdraw ticket) a list =
+    record { clock = clock; orders = []; withdrawn = cond (isRefused a) [] (ticket ∷ []); reports = [] }
 
 -- What is known after a list of calls
 
@@ -102,13 +109,14 @@ learnt clock (board asked lent) a list = nothingNew clock
 abbrev pub Gives : Type 0
 Gives = State → Call → Result
 
--- r as it was opened with, the clock, all accepted orders and all reports, in the order of the calls, behind what the station
--- held at the beginning;
+-- r as it was opened with, the clock, all accepted orders, all tickets withdrawn and all reports, in the order of the calls, behind
+-- what the station held at the beginning;
 -- the station left serves for the next call and for enquiries only
 pub record Past : Type 0 where
   pub tail : ℕ
   pub clock : ℕ
   pub orders : List Order
+  pub withdrawn : List ℕ
   pub reports : List Report
   pub station : State
 
@@ -131,6 +139,7 @@ beginning s =
       tail = s .tail;
       clock = s .clock;
       orders = ordersOf (s .charges);
+      withdrawn = [];
       reports = map reportOf (begunCharges (s .clock) (s .charges));
       station = s;
     }
@@ -142,6 +151,7 @@ extended h c r =
       tail = h .tail;
       clock = new .clock;
       orders = h .orders ++ new .orders;
+      withdrawn = h .withdrawn ++ new .withdrawn;
       reports = h .reports ++ new .reports;
       station = r .state;
     }
@@ -153,6 +163,22 @@ after gives h (c ∷ calls) = after gives (extended h c (gives (h .station) c)) 
 
 abbrev pub past : Gives → State → List Call → Past
 past gives s calls = after gives (beginning s) calls
+
+-- Orders that stay
+
+abbrev pub isWithdrawn : List ℕ → Order → Bool
+isWithdrawn ws o = some (eqb (o .ticket)) ws
+
+-- the orders whose tickets are not withdrawn
+abbrev pub staying : List ℕ → List Order → List Order
+staying ws os = keep (λ o. not (isWithdrawn ws o)) os
+
+-- "someone who stays"
+abbrev pub stayingOrders : Past → List Order
+stayingOrders h = staying (h .withdrawn) (h .orders)
+
+abbrev pub withdrawnOrders : Past → List Order
+withdrawnOrders h = keep (isWithdrawn (h .withdrawn)) (h .orders)
 
 -- Reports, starts and counts
 
@@ -170,7 +196,7 @@ abbrev pub enquiry : Gives → Past → ℕ → Answer
 enquiry gives h t = gives (h .station) (enquire t) .answer
 
 -- "the start of an order is the one reported by the clock move that passed it, and until then the one that an enquiry would give"
--- (0 where neither gives one; the fields `reported` and `waits` of demand 3 leave no accepted order so)
+-- (0 where neither gives one; the fields `reported` and `waits` of demand 3 leave no order so that stays; a withdrawn order has no start, and nothing may count it)
 abbrev pub startOf : Gives → Past → Order → ℕ
 startOf gives h o = reportedStart (h .reports) (o .ticket) (startIn (enquiry gives h (o .ticket)))
 
@@ -187,16 +213,17 @@ abbrev pub loadOf : Gives → Past → Order → Load
 loadOf gives h o = loadFrom (draw (o .line) (o .time + h .tail) (o .rate)) (startOf gives h o)
 
 -- "A line's count in a minute takes all accepted orders of the list, dropped ones too", each with its rate: "What members were
--- promised for every minute is from then on a promise about these weighted counts."
+-- promised for every minute is from then on a promise about these weighted counts." "A withdrawn order has no charge".
 abbrev pub countIn : Gives → Past → ℕ → ℕ → ℕ
-countIn gives h l t = count (map (loadOf gives h) (h .orders)) l t
+countIn gives h l t = count (map (loadOf gives h) (stayingOrders h)) l t
 
 -- "tickets are 1, 2, 3 and so on in the order of acceptance": here from i on
 abbrev pub Numbered : ℕ → List Order → Type 0
 Numbered i [] = Unit {0}
 Numbered i (o ∷ os) = (o .ticket ≡ i) × Numbered (suc i) os
 
--- "the charging times of all accepted orders": "The ceiling on ends gains r for each accepted order."
+-- "the charging times of all accepted orders": "The ceiling on ends gains r for each accepted order." Of a withdrawn order "its time
+-- still counts in the ceiling on ends".
 abbrev pub totalTime : ℕ → List Order → ℕ
 totalTime r [] = 0
 totalTime r (o ∷ os) = o .time + r + totalTime r os

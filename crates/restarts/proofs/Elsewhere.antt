@@ -1,28 +1,45 @@
 -- What is claimed of a list of calls that began with an image from elsewhere.
-use mathlib.Core.Path.{_≡_, refl, sym, subst, _∙_}
+use mathlib.Core.Logic.{_⊎_, inl, inr}
+use mathlib.Core.Path.{_≡_, refl, sym, ap, subst, _∙_}
 use Prim.Native.Nat.{ℕ, _+_, _≤_, _<_}
-use mathlib.Core.Bool.{cond}
+use mathlib.Core.Bool.{Bool, true, false, cond, not}
 use mathlib.Core.List.{List, [], _∷_, _++_, map, append-assoc, append-nil}
 use native.Mathlib.Omega.{arith}
 use lib.Dec.{eqb}
-use Rattle.rules.specs.Basics.{Each}
+use Rattle.rules.specs.Basics.{Each, keep}
 use Rattle.rules.specs.Charge.{Charge, begunCharges}
 use Rattle.rules.specs.Calls.{State, Call, step}
 use Rattle.rules.specs.Valid.{ValidState}
-use Rattle.guarantee.specs.Past.{Order, Report, Past, orderOf, ordersOf, reportOf, learnt, beginning, extended, after, past, timesReported, startOf}
+use Rattle.rules.proofs.Ranges.{below-or-not}
+use Rattle.guarantee.specs.Past.{Order, Report, Past, orderOf, ordersOf, reportOf, learnt, beginning, extended, after, past, isWithdrawn, staying, stayingOrders, withdrawnOrders, timesReported, startOf}
 use Rattle.guarantee.specs.DemandThree.{Kept, Unmoved, DemandThreeFrom}
-use Rattle.guarantee.proofs.Each.{each-two, each-both, each-in}
-use Rattle.guarantee.proofs.DemandThree.{demand-three-from, clock-later, beginning-starts}
+use Rattle.guarantee.proofs.Each.{each-two, each-in, image-each}
+use Rattle.guarantee.proofs.DemandThree.{demand-three-from, beginning-starts}
 use Rattle.restarts.specs.Restarts.{FromElsewhere}
-
-each-of-image :
-    {A : Type 0} {B : Type 0} (P : B → Type 0) (f : A → B) (l : List A) → Each P (map f l) → Each (λ a. P (f a)) l
-each-of-image P f [] e = tt
-each-of-image P f (a ∷ l) e = (e .0, each-of-image P f l (e .1))
 
 each-left : {A : Type 0} (P : A → Type 0) (l m : List A) → Each P (l ++ m) → Each P l
 each-left P [] m e = tt
 each-left P (a ∷ l) m e = (e .0, each-left P l m (e .1))
+
+-- what holds of those that pass a test, and of the others
+each-split :
+    {A : Type 0} (R : A → Type 0) (f : A → Bool) (l : List A) → Each R (keep (λ a. not (f a)) l) → Each R (keep f l) → Each R l
+each-split R f [] d e = tt
+each-split R f (a ∷ l) d e = go (f a) d e (each-split R f l)
+  where
+    go :
+        (b : Bool)
+        → Each R (cond (not b) (a ∷ keep (λ x. not (f x)) l) (keep (λ x. not (f x)) l))
+        → Each R (cond b (a ∷ keep f l) (keep f l))
+        → (Each R (keep (λ x. not (f x)) l) → Each R (keep f l) → Each R l)
+        → R a × Each R l
+    go true p q rest = (q .0, rest p (q .1))
+    go false p q rest = (p .0, rest (p .1) q)
+
+-- nobody has withdrawn at the beginning
+all-stay : (os : List Order) → staying [] os ≡ os
+all-stay [] = refl
+all-stay (o ∷ os) = ap (λ (l : List Order). o ∷ l) (all-stay os)
 
 times-append : (xs ys : List Report) (t : ℕ) → timesReported (xs ++ ys) t ≡ timesReported xs t + timesReported ys t
 times-append [] ys t = omega arith
@@ -50,18 +67,42 @@ module _ (s : State) (calls : List Call) (v : ValidState s) where
       (λ c e u j. u (rw e j) ∙ e)
       (s .charges)
       (beginning-starts s v)
-      (each-of-image (Unmoved step (beginning s) (past step s calls)) orderOf (s .charges) (from .unmoved [] calls refl))
+      (image-each (Unmoved step (beginning s) (past step s calls)) orderOf (s .charges)
+      (subst (λ (os : List Order). Each (Unmoved step (beginning s) (past step s calls)) os) (all-stay (ordersOf (s .charges)))
+      (from .unmoved [] calls refl)))
 
-  -- each of them was reported once, and had been at the beginning
-  kept-all : Each (λ c. Kept step (past step s calls) (orderOf c)) (s .charges)
-  kept-all =
-      each-of-image (Kept step (past step s calls)) orderOf (s .charges)
-      (each-left (Kept step (past step s calls)) (ordersOf (s .charges)) (from .tickets .0)
-      (subst (λ (os : List Order). Each (Kept step (past step s calls)) os) (from .tickets .1) (from .orders)))
+  -- an order that stays is reported once or not at all, one that is withdrawn never
+  kept-once : (o : Order) → Kept step (past step s calls) o → timesReported (past step s calls .reports) (o .ticket) ≤ 1
+  kept-once o k = go (below-or-not (startOf step (past step s calls) o) (past step s calls .clock))
+    where
+      go :
+          (startOf step (past step s calls) o < past step s calls .clock) ⊎ (past step s calls .clock ≤ startOf step (past step s calls) o)
+          → timesReported (past step s calls .reports) (o .ticket) ≤ 1
+      go (inl h) = omega (arith, k .reported h)
+      go (inr h) = omega (arith, k .not-reported h)
 
-  kept-first : Each (λ c. Kept step (beginning s) (orderOf c)) (s .charges)
-  kept-first =
-      each-of-image (Kept step (beginning s)) orderOf (s .charges) (demand-three-from s [] v .orders)
+  held-once : Each (λ c. timesReported (past step s calls .reports) (c .ticket) ≤ 1) (s .charges)
+  held-once =
+      image-each (λ o. timesReported (past step s calls .reports) (o .ticket) ≤ 1) orderOf (s .charges)
+      (each-left (λ o. timesReported (past step s calls .reports) (o .ticket) ≤ 1) (ordersOf (s .charges)) (from .tickets .0)
+      (subst (λ (os : List Order). Each (λ o. timesReported (past step s calls .reports) (o .ticket) ≤ 1) os) (from .tickets .1)
+      (each-split (λ o. timesReported (past step s calls .reports) (o .ticket) ≤ 1) (isWithdrawn (past step s calls .withdrawn)) (past step s calls .orders)
+      (each-in kept-once (stayingOrders (past step s calls)) (from .orders))
+      (each-in (λ o g. omega (arith, g .not-reported)) (withdrawnOrders (past step s calls)) (from .gone)))))
+
+  -- those begun had been reported at the beginning
+  begun-once : Each (λ c. c .start < s .clock → timesReported (beginning s .reports) (c .ticket) ≡ 1) (s .charges)
+  begun-once =
+      each-two
+      (λ c. startOf step (beginning s) (orderOf c) ≡ c .start)
+      (λ c. Kept step (beginning s) (orderOf c))
+      (λ c. c .start < s .clock → timesReported (beginning s .reports) (c .ticket) ≡ 1)
+      (λ c e k j. k .reported (omega (arith, e)))
+      (s .charges)
+      (beginning-starts s v)
+      (image-each (Kept step (beginning s)) orderOf (s .charges)
+      (subst (λ (os : List Order). Each (Kept step (beginning s)) os) (all-stay (ordersOf (s .charges)))
+      (demand-three-from s [] v .orders)))
 
   not-again :
       (new : List Report)
@@ -69,29 +110,23 @@ module _ (s : State) (calls : List Call) (v : ValidState s) where
       → Each (λ c. c .start < s .clock → timesReported new (c .ticket) ≡ 0) (s .charges)
   not-again new e =
       each-two
-      (λ c. (startOf step (beginning s) (orderOf c) ≡ c .start) × (c .start < s .clock → startOf step (past step s calls) (orderOf c) ≡ c .start))
-      (λ c. Kept step (beginning s) (orderOf c) × Kept step (past step s calls) (orderOf c))
+      (λ c. timesReported (past step s calls .reports) (c .ticket) ≤ 1)
+      (λ c. c .start < s .clock → timesReported (beginning s .reports) (c .ticket) ≡ 1)
       (λ c. c .start < s .clock → timesReported new (c .ticket) ≡ 0)
-      (λ c p k j. once c (p .0) (p .1 j) (k .0) (k .1) j)
+      (λ c whole here j. once (c .ticket) whole (here j))
       (s .charges)
-      (each-both _ _ (s .charges) (beginning-starts s v) begun-starts)
-      (each-both _ _ (s .charges) kept-first kept-all)
+      held-once
+      begun-once
     where
       once :
-          (c : Charge)
-          → startOf step (beginning s) (orderOf c) ≡ c .start
-          → startOf step (past step s calls) (orderOf c) ≡ c .start
-          → Kept step (beginning s) (orderOf c)
-          → Kept step (past step s calls) (orderOf c)
-          → c .start < s .clock
-          → timesReported new (c .ticket) ≡ 0
-      once c p q a b j =
-          let here : timesReported (beginning s .reports) (c .ticket) ≡ 1 = a .reported (omega (arith, p)) in
-          let whole : timesReported (past step s calls .reports) (c .ticket) ≡ 1
-          = b .reported (omega (arith, q, clock-later s calls v)) in
-          let sum : timesReported (beginning s .reports ++ new) (c .ticket) ≡ 1
-          = subst (λ (rs : List Report). timesReported rs (c .ticket) ≡ 1) e whole in
-          omega (arith, here, sum, times-append (beginning s .reports) new (c .ticket))
+          (t : ℕ)
+          → timesReported (past step s calls .reports) t ≤ 1
+          → timesReported (beginning s .reports) t ≡ 1
+          → timesReported new t ≡ 0
+      once t whole here =
+          let sum : timesReported (beginning s .reports ++ new) t ≤ 1
+          = subst (λ (rs : List Report). timesReported rs t ≤ 1) e whole in
+          omega (arith, here, sum, times-append (beginning s .reports) new t)
 
   pub from-elsewhere : FromElsewhere s calls
   from-elsewhere =

@@ -9,7 +9,7 @@ use Rattle.rules.specs.Candidate.{testedBy}
 use Rattle.rules.specs.Priority.{fading, weights, weightOf, firstFit, picked}
 use Rattle.rules.specs.Replan.{byLatestStart, placeAll, latest, placeOn, round, roundsFrom, byLines}
 use Rattle.rules.specs.Judgement.{judged}
-use Rattle.rules.specs.Calls.{settings, State, Answer, refused, previewed, committed, moved, Result, opening, preview, commit, run, previewing, committing, moving, offering, replanningLatest, replanningLines, enquiring, boarding}
+use Rattle.rules.specs.Calls.{settings, State, Answer, refused, previewed, committed, moved, withdrawn, Result, opening, preview, commit, withdraw, run, previewing, committing, moving, offering, replanningLatest, replanningLines, enquiring, boarding, withdrawing}
 use Rattle.rules.specs.Entry.{Case, computed, stateAfter}
 use Rattle.rules.specs.CasesAToL.{callsG, casesAToL}
 use Rattle.rules.specs.CasesAtEdges.{casesAtEdges}
@@ -20,12 +20,13 @@ use Rattle.rules.specs.CasesOfPriority.{casesOfPriority}
 use Rattle.rules.specs.CasesOnBusyEvenings.{testedIn, casesOnBusyEvenings}
 use Rattle.rules.specs.CasesOfTails.{casesOfTails}
 use Rattle.rules.specs.CasesOnTheBoard.{casesOnTheBoard}
+use Rattle.rules.specs.CasesOfWithdrawals.{casesOfWithdrawals, fullYard}
 
 abbrev pub cases : List Case
-cases = casesAToL ++ casesAtEdges ++ casesInAHurry ++ casesPreviewed ++ casesOfTwoRates ++ casesOfPriority ++ casesOfTails ++ casesOnTheBoard
+cases = casesAToL ++ casesAtEdges ++ casesInAHurry ++ casesPreviewed ++ casesOfTwoRates ++ casesOfPriority ++ casesOfTails ++ casesOnTheBoard ++ casesOfWithdrawals
 
 pub cases-hold : map computed cases ≡ cases
-unfolding limited balanced sound earliest firstUnbalanced placeAll latest fading weights weightOf firstFit picked placeOn round roundsFrom byLines judged opening previewing committing moving offering replanningLatest replanningLines enquiring boarding
+unfolding limited balanced sound earliest firstUnbalanced placeAll latest fading weights weightOf firstFit picked placeOn round roundsFrom byLines judged opening previewing committing moving offering replanningLatest replanningLines enquiring boarding withdrawing
 cases-hold = refl
 
 -- the test of a candidate start, of which no call shows the number of minutes
@@ -68,7 +69,14 @@ abbrev lastTicket : State
 lastTicket = record { limit = 1; percent = 100; bound = 1; tail = 0; clock = 0; next = 65535; charges = [] }
 
 pub last-ticket-given :
-    map (λ r. r .answer) (run lastTicket (commit 1 1 60 1 0 ∷ preview 1 1 60 1 ∷ commit 1 1 60 1 9 ∷ []))
-    ≡ committed 65535 0 ∷ refused 14 ∷ refused 14 ∷ []
-unfolding limited balanced sound earliest committing
+    map (λ r. r .answer) (run lastTicket (commit 1 1 60 1 0 ∷ preview 1 1 60 1 ∷ commit 1 1 60 1 9 ∷ withdraw 65535 ∷ preview 1 1 60 1 ∷ []))
+    ≡ committed 65535 0 ∷ refused 14 ∷ refused 14 ∷ withdrawn ∷ refused 14 ∷ []
+unfolding limited balanced sound earliest committing withdrawing
 last-ticket-given = refl
+
+-- "its place is free": in a yard of 180 the next order is taken, with the next ticket, and then the yard is full again
+pub place-taken-again :
+    map (λ r. r .answer) (run fullYard (preview 1 1 1 1 ∷ withdraw 60 ∷ commit 1 1 1 1 0 ∷ preview 1 1 1 1 ∷ []))
+    ≡ refused 13 ∷ withdrawn ∷ committed 181 0 ∷ refused 13 ∷ []
+unfolding limited balanced sound earliest committing withdrawing
+place-taken-again = refl

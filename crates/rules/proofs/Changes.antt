@@ -1,20 +1,20 @@
--- What a commit and a clock move leave is a valid station again.
+-- What a commit, a clock move and a withdrawal leave is a valid station again.
 use mathlib.Core.Path.{_≡_, refl}
 use Prim.Native.Nat.{ℕ, suc, _+_, _-_, _*_, _≤_, _<_}
-use mathlib.Core.Bool.{true, not}
+use mathlib.Core.Bool.{Bool, true, not}
 use mathlib.Core.List.{List, [], _∷_}
 use native.Mathlib.Omega.{arith}
 use lib.ListN.{length, length-append}
 use borrow.Author.Tests.{leb-false, not-true}
 use Rattle.rules.specs.Basics.{Each, at}
 use Rattle.rules.specs.Load.{Limits, counts, lastUntil, sound}
-use Rattle.rules.specs.Charge.{Charge, endOf, activeUntil, loadOf, loadsOf, isFinished, unfinishedCharges, lastEnd}
+use Rattle.rules.specs.Charge.{Charge, endOf, activeUntil, loadOf, loadsOf, isFinished, unfinishedCharges, hasTicket, withoutTicket, lastEnd}
 use Rattle.rules.specs.Calls.{places, State, limitsOf, holding, newCharge, drawFor, startFor, taking}
 use Rattle.rules.specs.Valid.{ValidCharge, Rising, ValidState}
-use Rattle.rules.proofs.Lists.{map-append, each-map, each-append, each-keep, length-keep}
+use Rattle.rules.proofs.Lists.{map-append, each-map, each-append, each-keep, keep-each, length-keep}
 use Rattle.rules.proofs.Counts.{sound-same, sound-from, sound-true}
 use Rattle.rules.proofs.Searches.{earliest-first}
-use Rattle.rules.proofs.Granted.{OrderGranted, MoveGranted}
+use Rattle.rules.proofs.Granted.{OrderGranted, MoveGranted, WithdrawGranted}
 use Rattle.rules.proofs.Tickets.{rising-keep, rising-append}
 use Rattle.rules.proofs.Ends.{each-lastEnd, lastEnd-each, lastEnd-more, last-until, count-unfinished}
 
@@ -155,3 +155,20 @@ move-valid s target list v g =
     sound-same (limitsOf s) (counts (loadsOf (s .charges)) t) (counts (loadsOf left) t)
     (λ l k. count-unfinished target (s .charges) l t i)
     (sound-from (limitsOf s) (s .clock) (loadsOf (s .charges)) (v .sound-on) t (omega (arith, g .not-back)))))
+
+pub withdraw-valid :
+    (s : State) (ticket : ℕ)
+    → ValidState s
+    → WithdrawGranted s ticket
+    → ValidState (holding s (s .clock) (withoutTicket ticket (s .charges)))
+withdraw-valid s ticket v g =
+    let stays : Charge → Bool = λ c. not (hasTicket ticket c) in
+    let left : List Charge = withoutTicket ticket (s .charges) in
+    let last : ℕ = s .clock + 1445 * (s .next - 1) in
+    still-valid s (s .clock) (s .next) left v (v .clock-high) (v .next-low) (v .next-high)
+    (omega (arith, v .few, length-keep stays (s .charges)))
+    (keep-each (ValidCharge (limitsOf s) (s .tail) (s .clock) (s .next)) stays (s .charges) (v .each))
+    (rising-keep 1 stays (s .charges) (v .rising))
+    (lastEnd-each last left
+    (keep-each (λ c. endOf c ≤ last) stays (s .charges) (each-lastEnd last (s .charges) (v .ends-high))))
+    (g .rest-sound)

@@ -1,16 +1,16 @@
 -- What holds of a call to which no refusal applies, read by name.
 use mathlib.Core.Path.{_≡_, refl, sym, ap}
 use Prim.Native.Nat.{ℕ, _≤_, _<_}
-use mathlib.Core.Bool.{true, false, not, true≢false}
+use mathlib.Core.Bool.{true, false, not, _&&_, true≢false}
 use mathlib.Core.List.{List, [], _∷_}
 use native.Mathlib.Omega.{arith}
-use lib.Dec.{ltb, eqb}
+use lib.Dec.{ltb}
 use lib.ListN.{length}
 use borrow.Author.Tests.{ltb-false, leb-false, not-false, eqb-true, eqb-false, eq-eqb}
 use Rattle.rules.specs.Basics.{Found, at, nothing, firstOf, some}
-use Rattle.rules.specs.Load.{IsLine, IsRate}
-use Rattle.rules.specs.Charge.{Charge, waitingCharges}
-use Rattle.rules.specs.Calls.{Settings, State, boundOf, openRefusals, Call, preview, commit, move, offer, replanLatest, replanLines, enquire, board, drawFor, startFor, isStart, orderRefusals, refusals}
+use Rattle.rules.specs.Load.{IsLine, IsRate, sound}
+use Rattle.rules.specs.Charge.{loadsOf, isBegun, waitingCharges, hasTicket, withoutTicket}
+use Rattle.rules.specs.Calls.{Settings, State, limitsOf, boundOf, openRefusals, Call, preview, commit, move, offer, replanLatest, replanLines, enquire, board, withdraw, drawFor, startFor, isStart, orderRefusals, refusals}
 use Rattle.rules.proofs.Ranges.{or-left, or-right}
 use Rattle.rules.proofs.Lists.{each-append}
 use Rattle.rules.proofs.Tables.{NoneHolds, Numbered, firstOf-none, none-front}
@@ -26,6 +26,7 @@ refusals-numbered s replanLatest = tt
 refusals-numbered s (replanLines allowance) = omega arith
 refusals-numbered s (enquire ticket) = omega arith
 refusals-numbered s (board asked list) = omega arith
+refusals-numbered s (withdraw ticket) = omega arith
 
 pub refusals-none : (s : State) (c : Call) → firstOf (refusals s c) ≡ 0 → NoneHolds (refusals s c)
 refusals-none s c e = firstOf-none (refusals s c) (refusals-numbered s c) e
@@ -142,5 +143,18 @@ offer-granted s ss (other, end) =
 pub enquire-granted :
     (s : State) (ticket : ℕ)
     → NoneHolds (refusals s (enquire ticket))
-    → some (λ (c : Charge). eqb (c .ticket) ticket) (s .charges) ≡ true
-enquire-granted s ticket (missing, end) = not-false (some (λ (c : Charge). eqb (c .ticket) ticket) (s .charges)) missing
+    → some (hasTicket ticket) (s .charges) ≡ true
+enquire-granted s ticket (missing, end) = not-false (some (hasTicket ticket) (s .charges)) missing
+
+pub record WithdrawGranted (s : State) (ticket : ℕ) : Type 0 where
+  pub held : some (hasTicket ticket) (s .charges) ≡ true
+  pub not-begun : some (λ c. hasTicket ticket c && isBegun (s .clock) c) (s .charges) ≡ false
+  pub rest-sound : sound (limitsOf s) (s .clock) (loadsOf (withoutTicket ticket (s .charges))) ≡ true
+
+pub withdraw-granted : (s : State) (ticket : ℕ) → NoneHolds (refusals s (withdraw ticket)) → WithdrawGranted s ticket
+withdraw-granted s ticket (missing, (begun, (unsound, end))) =
+    record {
+      held = not-false (some (hasTicket ticket) (s .charges)) missing;
+      not-begun = begun;
+      rest-sound = not-false (sound (limitsOf s) (s .clock) (loadsOf (withoutTicket ticket (s .charges)))) unsound;
+    }

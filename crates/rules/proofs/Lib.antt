@@ -25,3 +25,4 @@ pub mod Restarts
 pub mod Validity
 pub mod Shown
 pub mod OnTheBoard
+pub mod Withdrawing

@@ -82,6 +82,22 @@ pub keep-all : {A : Type 0} (f : A → Bool) (l : List A) → Each (λ a. f a �
 keep-all f [] e = refl
 keep-all f (a ∷ l) e = rw (e .0, keep-all f l (e .1))
 
+-- two tests can be made in either order
+pub keep-keep : {A : Type 0} (f g : A → Bool) (l : List A) → keep f (keep g l) ≡ keep g (keep f l)
+keep-keep f g [] = refl
+keep-keep f g (a ∷ l) = go (f a) (g a) refl refl (keep-keep f g l)
+  where
+    go :
+        (x y : Bool)
+        → f a ≡ x
+        → g a ≡ y
+        → keep f (keep g l) ≡ keep g (keep f l)
+        → keep f (keep g (a ∷ l)) ≡ keep g (keep f (a ∷ l))
+    go true true p q ih = simp (p, q, ih)
+    go true false p q ih = rw (p, q, ih)
+    go false true p q ih = simp (p, q, ih)
+    go false false p q ih = rw (p, q, ih)
+
 pub keep-none : {A : Type 0} (f : A → Bool) → ((a : A) → f a ≡ false) → (l : List A) → keep f l ≡ []
 keep-none f h [] = refl
 keep-none f h (a ∷ l) = rw (h a, keep-none f h l)

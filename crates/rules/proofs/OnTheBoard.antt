@@ -8,7 +8,7 @@ use native.Mathlib.Omega.{arith}
 use lib.Dec.{eqb}
 use lib.ListN.{length, getD, drop}
 use Rattle.rules.specs.Basics.{Each, keep, some}
-use Rattle.rules.specs.Charge.{Charge, endOf}
+use Rattle.rules.specs.Charge.{Charge, endOf, hasTicket}
 use Rattle.rules.specs.Calls.{State, notHeld, startOrNotHeld, isLookedAt, boarding}
 use Rattle.rules.specs.Valid.{ValidState}
 use Rattle.rules.proofs.Ranges.{or-left, or-right, fails}
@@ -51,15 +51,15 @@ place-kept s asked list i h j = behind (startOrNotHeld (s .charges)) asked list 
 
 -- The ticket of a place is held, or not
 
-not-held-shown : (cs : List Charge) (t : ℕ) → some (λ c. eqb (c .ticket) t) cs ≡ false → startOrNotHeld cs t ≡ notHeld
+not-held-shown : (cs : List Charge) (t : ℕ) → some (hasTicket t) cs ≡ false → startOrNotHeld cs t ≡ notHeld
 not-held-shown [] t e = refl
 not-held-shown (c ∷ cs) t e =
-    rw (or-left (eqb (c .ticket) t) (some (λ c. eqb (c .ticket) t) cs) e)
-    (not-held-shown cs t (or-right (eqb (c .ticket) t) (some (λ c. eqb (c .ticket) t) cs) e))
+    rw (or-left (eqb (c .ticket) t) (some (hasTicket t) cs) e)
+    (not-held-shown cs t (or-right (eqb (c .ticket) t) (some (hasTicket t) cs) e))
 
 held-shown :
     (cs : List Charge) (t b : ℕ)
-    → some (λ c. eqb (c .ticket) t) cs ≡ true
+    → some (hasTicket t) cs ≡ true
     → Each (λ c. endOf c ≤ b) cs
     → startOrNotHeld cs t ≤ b
 held-shown [] t b e ends = absurd (false≢true e)
@@ -67,8 +67,8 @@ held-shown (c ∷ cs) t b e ends = go (eqb (c .ticket) t) e (λ u. held-shown cs
   where
     go :
         (a : Bool)
-        → a || some (λ c. eqb (c .ticket) t) cs ≡ true
-        → (some (λ c. eqb (c .ticket) t) cs ≡ true → startOrNotHeld cs t ≤ b)
+        → a || some (hasTicket t) cs ≡ true
+        → (some (hasTicket t) cs ≡ true → startOrNotHeld cs t ≤ b)
         → cond a (c .start) (startOrNotHeld cs t) ≤ b
     go true u later = omega (arith, ends .0)
     go false u later = later u
@@ -77,10 +77,10 @@ held-shown (c ∷ cs) t b e ends = go (eqb (c .ticket) t) e (λ u. held-shown cs
 pub shown-exactly :
     (s : State) (t : ℕ)
     → ValidState s
-    → (startOrNotHeld (s .charges) t ≡ notHeld) ↔ (some (λ c. eqb (c .ticket) t) (s .charges) ≡ false)
+    → (startOrNotHeld (s .charges) t ≡ notHeld) ↔ (some (hasTicket t) (s .charges) ≡ false)
 shown-exactly s t v = (
   (λ e.
-      fails (some (λ c. eqb (c .ticket) t) (s .charges))
+      fails (some (hasTicket t) (s .charges))
       (λ h.
       omega (
         arith,

@@ -8,13 +8,13 @@ use Rattle.rules.specs.Load.{sound}
 use Rattle.rules.specs.Charge.{loadsOf}
 use Rattle.rules.specs.Replan.{Proposal, starts, none, latest, byLines}
 use Rattle.rules.specs.Judgement.{judged}
-use Rattle.rules.specs.Calls.{Settings, settings, State, limitsOf, Result, answering, opened, fresh, boundOf, openRefusals, opening, Call, preview, commit, move, offer, replanLatest, replanLines, enquire, board, drawFor, startFor, refusals, previewedAt, previewing, committing, moving, decided, tested, offering, replanningLatest, replanningLines, enquiring, boarding, step}
+use Rattle.rules.specs.Calls.{Settings, settings, State, limitsOf, Result, answering, opened, fresh, boundOf, openRefusals, opening, Call, preview, commit, move, offer, replanLatest, replanLines, enquire, board, withdraw, drawFor, startFor, refusals, previewedAt, previewing, committing, moving, decided, tested, offering, replanningLatest, replanningLines, enquiring, boarding, withdrawing, step}
 use Rattle.rules.specs.Valid.{ValidState}
 use Rattle.rules.proofs.Tables.{firstOf-none}
-use Rattle.rules.proofs.Granted.{refusals-none, openRefusals-numbered, OpenGranted, open-granted, OrderGranted, order-granted, commit-granted, move-granted}
+use Rattle.rules.proofs.Granted.{refusals-none, openRefusals-numbered, OpenGranted, open-granted, OrderGranted, order-granted, commit-granted, move-granted, withdraw-granted}
 use Rattle.rules.proofs.Searches.{earliest-found}
 use Rattle.rules.proofs.Judgements.{judged-meets}
-use Rattle.rules.proofs.Changes.{commit-valid, move-valid}
+use Rattle.rules.proofs.Changes.{commit-valid, move-valid, withdraw-valid}
 use Rattle.rules.proofs.Restarts.{plan-valid}
 
 -- The opening
@@ -82,7 +82,7 @@ tested-valid s rounds (starts ss) list v = go (judged (limitsOf s) (s .clock) (s
 tested-valid s rounds (none cause) list v = v
 
 pub step-valid : (s : State) (c : Call) → ValidState s → ValidState (step s c .state)
-unfolding previewing committing moving offering replanningLatest replanningLines enquiring boarding
+unfolding previewing committing moving offering replanningLatest replanningLines enquiring boarding withdrawing
 step-valid s (preview line p d rate) v =
     answering-valid (firstOf (refusals s (preview line p d rate))) s [] _ v (λ e. go (startFor s (drawFor s line p rate)))
   where
@@ -110,6 +110,9 @@ step-valid s (enquire ticket) v =
     answering-valid (firstOf (refusals s (enquire ticket))) s [] _ v (λ e. v)
 step-valid s (board asked list) v =
     answering-valid (firstOf (refusals s (board asked list))) s list _ v (λ e. v)
+step-valid s (withdraw ticket) v =
+    answering-valid (firstOf (refusals s (withdraw ticket))) s [] _ v
+    (λ e. withdraw-valid s ticket v (withdraw-granted s ticket (refusals-none s (withdraw ticket) e)))
 
 -- an order that is not refused gets a start on a valid station: its rate is above neither N nor D
 pub order-found :

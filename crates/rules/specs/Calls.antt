@@ -5,8 +5,8 @@ use mathlib.Core.List.{List, [], _∷_, _++_, map}
 use lib.Dec.{ltb, leb, eqb}
 use lib.ListN.{length, drop}
 use Rattle.rules.specs.Basics.{Found, at, nothing, firstOf, keep, some, sortedBy}
-use Rattle.rules.specs.Load.{Draw, Limits, limits}
-use Rattle.rules.specs.Charge.{Charge, endOf, drawOf, loadsOf, isBegun, waitingCharges, unfinishedCharges, thenTicket, lateness}
+use Rattle.rules.specs.Load.{Draw, Limits, limits, sound}
+use Rattle.rules.specs.Charge.{Charge, endOf, drawOf, loadsOf, isBegun, waitingCharges, unfinishedCharges, hasTicket, withoutTicket, thenTicket, lateness}
 use Rattle.rules.specs.Search.{earliest}
 use Rattle.rules.specs.Replan.{Proposal, starts, none, latest, Replanned, byLines}
 use Rattle.rules.specs.Judgement.{restarted, judged}
@@ -61,6 +61,8 @@ pub data Answer : Type 0 where
   charging : ℕ → ℕ → ℕ → Answer
   -- a board: "answers how many it looked at"
   looked : ℕ → Answer
+  -- a withdrawal that is not refused
+  withdrawn : Answer
 
 -- an answer, the next station, and the whole of the lent list afterwards (empty where none is lent)
 pub record Result : Type 0 where
@@ -141,6 +143,8 @@ pub data Call : Type 0 where
   enquire : ℕ → Call
   -- the tickets asked for, answer list
   board : List ℕ → List ℕ → Call
+  -- ticket
+  withdraw : ℕ → Call
 
 -- the list that is lent to a call
 abbrev pub lent : Call → List ℕ
@@ -152,6 +156,7 @@ lent replanLatest = []
 lent (replanLines allowance) = []
 lent (enquire ticket) = []
 lent (board asked list) = list
+lent (withdraw ticket) = []
 
 -- An order, previewed or committed
 
@@ -236,12 +241,20 @@ refusals s (replanLines allowance) =
     (ltb allowance 1 || ltb 1000 allowance, 11) ∷ []
 refusals s (enquire ticket) =
     -- "no held charge has this ticket"
-    (not (some (λ c. eqb (c .ticket) ticket) (s .charges)), 15) ∷ []
+    (not (some (hasTicket ticket) (s .charges)), 15) ∷ []
 refusals s (board asked list) =
     -- "tickets not strictly rising or more than 180"
     (not (risesFrom 0 asked) || ltb askedAtMost (length asked), 23)
     -- "answer list shorter than the ticket list"
     ∷ (ltb (length list) (length asked), 24)
+    ∷ []
+refusals s (withdraw ticket) =
+    -- "no held charge has this ticket"
+    (not (some (hasTicket ticket) (s .charges)), 15)
+    -- "after 15, the charge has begun"
+    ∷ (some (λ c. hasTicket ticket c && isBegun (s .clock) c) (s .charges), 25)
+    -- "after 25, the rest would not be sound"
+    ∷ (not (sound (limitsOf s) (s .clock) (loadsOf (withoutTicket ticket (s .charges)))), 26)
     ∷ []
 
 -- Preview
@@ -381,6 +394,14 @@ boarding s asked list =
       list = written (map (startOrNotHeld (s .charges)) asked) list;
     }
 
+-- Withdraw
+
+-- "A waiting charge is removed, and its place is free .. no other start moves." The next ticket stays, so its own is not given
+-- again.
+unfoldable pub withdrawing : State → ℕ → Result
+withdrawing s ticket =
+    record { answer = withdrawn; state = holding s (s .clock) (withoutTicket ticket (s .charges)); list = [] }
+
 -- One call
 
 -- what comes of a call that is not refused
@@ -393,6 +414,7 @@ granted s replanLatest = replanningLatest s
 granted s (replanLines allowance) = replanningLines s allowance
 granted s (enquire ticket) = enquiring s ticket
 granted s (board asked list) = boarding s asked list
+granted s (withdraw ticket) = withdrawing s ticket
 
 -- "Each gets its number and changes neither the station nor any lent list. No other call is refused, and every call returns."
 abbrev pub step : State → Call → Result

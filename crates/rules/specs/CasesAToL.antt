@@ -5,7 +5,7 @@ use Rattle.rules.specs.Calls.{settings, refused, opened, previewed, comm
 use Rattle.rules.specs.Entry.{Given, gives, givesWith, Minute, Case, lentList, startsFrom, reports, opens, case}
 
 -- the orders of case e, with what they give
-abbrev ordersE : List Call
+abbrev pub ordersE : List Call
 ordersE =
     commit 1 10 60 1 0
     ∷ commit 3 10 60 1 0
@@ -15,18 +15,18 @@ ordersE =
     ∷ commit 1 10 60 1 0
     ∷ []
 
-abbrev givenE : List Given
+abbrev pub givenE : List Given
 givenE = startsFrom 1 (0 ∷ 0 ∷ 0 ∷ 0 ∷ 5 ∷ 0 ∷ [])
 
 -- case f: the list holds five pairs, and then what it held
-abbrev givenF : Given
+abbrev pub givenF : Given
 givenF = reports (moved 5 0) (1 ∷ 0 ∷ 2 ∷ 0 ∷ 3 ∷ 0 ∷ 4 ∷ 0 ∷ 6 ∷ 0 ∷ [])
 
 -- what is called in case g before the replan
 abbrev pub callsG : List Call
 callsG = ordersE ++ (move 1 lentList ∷ preview 3 3 10 1 ∷ commit 3 3 10 1 1 ∷ [])
 
-abbrev minuteG : ℕ → Minute
+abbrev pub minuteG : ℕ → Minute
 minuteG t = record { without = 5; minute = t; one = 2; two = 0; three = 1 }
 
 -- the orders of case h, with what they give

@@ -74,6 +74,13 @@ isFinished clock c = leb (activeUntil c) clock
 abbrev pub unfinishedCharges : ℕ → List Charge → List Charge
 unfinishedCharges clock cs = keep (λ c. not (isFinished clock c)) cs
 
+abbrev pub hasTicket : ℕ → Charge → Bool
+hasTicket ticket c = eqb (c .ticket) ticket
+
+-- the charges but for that of a ticket
+abbrev pub withoutTicket : ℕ → List Charge → List Charge
+withoutTicket ticket cs = keep (λ c. not (hasTicket ticket c)) cs
+
 -- An order of charges "by" a number of theirs, x and y, "then ticket".
 abbrev pub thenTicket : ℕ → ℕ → Charge → Charge → Bool
 thenTicket x y a b = ltb x y || (eqb x y && ltb (a .ticket) (b .ticket))

@@ -1,12 +1,9 @@
 -- An entry of the array of cases, and what the rules give for it.
 use Prim.Native.Nat.{ℕ, zero, suc, _-_}
-use mathlib.Core.Bool.{not}
 use mathlib.Core.List.{List, [], _∷_, _++_, map}
-use lib.Dec.{eqb}
 use lib.ListN.{length, replicate}
-use Rattle.rules.specs.Basics.{keep}
 use Rattle.rules.specs.Load.{count}
-use Rattle.rules.specs.Charge.{Charge, loadsOf}
+use Rattle.rules.specs.Charge.{Charge, loadsOf, withoutTicket}
 use Rattle.rules.specs.Calls.{Settings, settings, State, Answer, opened, committed, waiting, Result, opening, Call, enquire, run}
 
 -- what a call gave: the answer, and the lent list whole
@@ -47,7 +44,7 @@ stateAfter s (r ∷ rs) = stateAfter (r .state) rs
 
 abbrev pub countedIn : List Charge → Minute → Minute
 countedIn cs m =
-    let left : List Charge = keep (λ c. not (eqb (c .ticket) (m .without))) cs in
+    let left : List Charge = withoutTicket (m .without) cs in
     record {
       without = m .without;
       minute = m .minute;

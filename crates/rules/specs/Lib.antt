@@ -18,3 +18,4 @@ pub mod CasesOfPriority
 pub mod CasesOnBusyEvenings
 pub mod CasesOfTails
 pub mod CasesOnTheBoard
+pub mod CasesOfWithdrawals

@@ -107,6 +107,10 @@ impl Station {
         Profile::of(charges.map(|charge| charge.load(self.tail)), self.clock)
     }
 
+    fn place_of(&self, ticket: u32) -> Result<usize, Refusal> {
+        self.charges.binary_search_by_key(&ticket, |charge| charge.ticket).map_err(|_| 15)
+    }
+
     pub fn waiting(&self) -> impl Iterator<Item = &Charge> {
         let clock = self.clock;
         self.charges.iter().filter(move |charge| charge.start >= clock)
@@ -199,8 +203,7 @@ impl Yard for Station {
     }
 
     fn enquire(&self, ticket: u32) -> Result<Found, Refusal> {
-        let place = self.charges.binary_search_by_key(&ticket, |charge| charge.ticket);
-        let charge = &self.charges[place.map_err(|_| 15u32)?];
+        let charge = &self.charges[self.place_of(ticket)?];
         let (start, rate) = (u64::from(charge.start), u32::from(charge.rate));
         Ok(if charge.start >= self.clock {
             Found::Waiting { start, rate }
@@ -229,5 +232,18 @@ impl Yard for Station {
             }
         }
         Ok(looked)
+    }
+
+    fn withdraw(&mut self, ticket: u32) -> Result<(), Refusal> {
+        let place = self.place_of(ticket)?;
+        if self.charges[place].start < self.clock {
+            return Err(25);
+        }
+        let rest = self.charges[..place].iter().chain(&self.charges[place + 1..]);
+        if !self.profile(rest).is_sound(self.rules) {
+            return Err(26);
+        }
+        self.charges.remove(place);
+        Ok(())
     }
 }

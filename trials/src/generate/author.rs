@@ -124,6 +124,10 @@ impl Author {
         self.call(Call::Board { places, tickets });
     }
 
+    pub fn withdraw(&mut self, ticket: u32) {
+        self.call(Call::Withdraw { ticket });
+    }
+
     pub fn clock(&self) -> u32 {
         self.station().clock as u32
     }

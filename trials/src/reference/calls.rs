@@ -155,4 +155,16 @@ impl Yard for Station {
         let asked = |charge: &&Charge| tickets.iter().any(|ticket| charge.ticket <= *ticket);
         Ok(self.charges.iter().filter(asked).count())
     }
+
+    /// "A waiting charge is removed, and its place is free, exactly when the remaining plan is
+    /// sound; no other start moves. Refused: 25, after 15, the charge has begun; 26, after
+    /// 25, the rest would not be sound" (N11).
+    fn withdraw(&mut self, ticket: u32) -> Result<(), Refusal> {
+        let begun = self.charge(ticket).ok_or(15u32)?.begun(self.clock);
+        let mut rest = self.charges.clone();
+        rest.retain(|charge| charge.ticket != ticket);
+        refuse_first(&[(25, begun), (26, !self.rules().sound(&rest, self.clock))])?;
+        self.charges = rest;
+        Ok(())
+    }
 }

@@ -6,7 +6,7 @@
 //! Counts stand in an array with one place for each minute, the clock's minute
 //! first: minutes themselves can be near 100,000,000.
 
-use super::station::Charge;
+use super::station::{last_clear, Charge};
 
 /// The counts of lines 1, 2 and 3 in one minute.
 pub type Counts = [u64; 3];
@@ -31,6 +31,12 @@ impl Rules {
 
     pub fn sound_in(&self, counts: &Counts) -> bool {
         self.within_limit(counts) && self.balanced(counts)
+    }
+
+    /// Whether a plan is sound: "in every minute from the clock on".
+    pub fn sound(&self, plan: &[Charge], clock: u64) -> bool {
+        let minutes = last_clear(plan).max(clock) - clock;
+        counts(plan, clock, minutes).iter().all(|counts| self.sound_in(counts))
     }
 }
 

@@ -1,12 +1,12 @@
 // Whether the plan of a station is sound from the clock on, by its profile.
+use crate::begun::profile_before;
 use charges::Charges;
-use planner::begun::profile_before;
 use profile::When;
 ghost use mathlib.Core.Path.{_≡_};
 ghost use Rattle.rules.specs.Load.{limits, sound};
 ghost use Rattle.rules.specs.Charge.{loadsOf};
 ghost use Rattle.charges.specs.Arrays.{chargesOf};
-ghost use Rattle.validity.specs.Settled.{Profiled};
+ghost use Rattle.planner.specs.Ready.{Profiled};
 
 pub fn plan_sound(charges: Charges, clock: u32, limit: u32, bound: u32) -> bool
     requires { ⌜ Profiled charges ⌝ }

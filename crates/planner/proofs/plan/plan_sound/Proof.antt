@@ -1,10 +1,10 @@
 use native.Mathlib.Omega.{arith}
 use borrow.Author.Tests.{not-true, not-false}
 use Rattle.profile.proofs.Balances.{limit-shows, unbalanced-shows}
-use Rattle.validity.proofs.Plans.{plan-above, plan-unbalanced, plan-kept}
+use Rattle.planner.proofs.SoundPlans.{plan-above, plan-unbalanced, plan-kept}
 use borrow.Author.Needs.{needs}
-use Rattle.validity.proofs.plan.plan_sound.Statement.{statement}
-use Rattle.validity.proofs.plan.plan_sound.Tie as tie
+use Rattle.planner.proofs.plan.plan_sound.Statement.{statement}
+use Rattle.planner.proofs.plan.plan_sound.Tie as tie
 
 profile-before-requires : tie.Need-profile-before-requires
 profile-before-requires c κs = search needs

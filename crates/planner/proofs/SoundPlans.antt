@@ -14,9 +14,9 @@ use Rattle.profile.specs.declared.When.{When}
 use Rattle.profile.specs.declared.When.the-variants.{Minute, Never}
 use Rattle.profile.specs.Shows.{Shows, foundAt}
 use Rattle.profile.specs.Balance.{WithinLimit, Unbalanced}
 use Rattle.planner.proofs.Causes.{none-unbalanced, some-unbalanced}
 use Rattle.planner.proofs.Showing.{all-before}
-use Rattle.validity.specs.Settled.{Profiled}
+use Rattle.planner.specs.Ready.{Profiled}
 
 module _ (y : Limits) (clock : ℕ) (xs : List Load) where
   sound-limit : sound y clock xs ≡ true → fromOn clock xs (limitAt y xs) ≡ true
