@@ -1,2 +1,4 @@
 pub mod Aligning
 pub mod Paging
+pub mod Walling
+pub mod Lining

@@ -24,4 +24,4 @@ Character b = (32 ≤ b) × (b ≤ 122)
 -- n lines, "exactly 37 characters and a line feed" each
 pub data Lined : ℕ → List ℕ → Type 0 where
   no-line : Lined 0 []
-  one-more : {n : ℕ} (line rest : List ℕ) → length line ≡ 37 → Each Character line → Lined n rest → Lined (suc n) (line ++ (10 ∷ rest))
+  one-more : (n : ℕ) (line rest : List ℕ) → length line ≡ 37 → Each Character line → Lined n rest → Lined (suc n) (line ++ (10 ∷ rest))

@@ -27,10 +27,23 @@ lineOf ticket line start end state =
     column 6 ticket ++ (column 1 line ++ (column 9 start ++ (column 9 end ++ (atLeft 8 state ++ (10 ∷ [])))))
 
 -- "Heading words, aligned as their columns: ticket, l, start, end, state."
+abbrev pub ticketWord : List ℕ
+ticketWord = 116 ∷ 105 ∷ 99 ∷ 107 ∷ 101 ∷ 116 ∷ []
+
+abbrev pub lineWord : List ℕ
+lineWord = 108 ∷ []
+
+abbrev pub startWord : List ℕ
+startWord = 115 ∷ 116 ∷ 97 ∷ 114 ∷ 116 ∷ []
+
+abbrev pub endWord : List ℕ
+endWord = 101 ∷ 110 ∷ 100 ∷ []
+
+abbrev pub stateWord : List ℕ
+stateWord = 115 ∷ 116 ∷ 97 ∷ 116 ∷ 101 ∷ []
+
 abbrev pub heading : List ℕ
-heading =
-    lineOf (116 ∷ 105 ∷ 99 ∷ 107 ∷ 101 ∷ 116 ∷ []) (108 ∷ []) (115 ∷ 116 ∷ 97 ∷ 114 ∷ 116 ∷ []) (101 ∷ 110 ∷ 100 ∷ [])
-    (115 ∷ 116 ∷ 97 ∷ 116 ∷ 101 ∷ [])
+heading = lineOf ticketWord lineWord startWord endWord stateWord
 
 -- "States: waiting, charging." A charge in its tail has begun too.
 abbrev pub stateOf : Bool → List ℕ
@@ -49,5 +62,8 @@ abbrev pub blank : List ℕ
 blank = lineOf [] [] [] [] []
 
 -- "the row \"no station\", padded on the right"
+abbrev pub noStationWords : List ℕ
+noStationWords = 110 ∷ 111 ∷ 32 ∷ 115 ∷ 116 ∷ 97 ∷ 116 ∷ 105 ∷ 111 ∷ 110 ∷ []
+
 abbrev pub noStation : List ℕ
-noStation = atLeft 37 (110 ∷ 111 ∷ 32 ∷ 115 ∷ 116 ∷ 97 ∷ 116 ∷ 105 ∷ 111 ∷ 110 ∷ []) ++ (10 ∷ [])
+noStation = atLeft 37 noStationWords ++ (10 ∷ [])
