@@ -1,7 +1,9 @@
 -- Texts at the right of a column, digit by digit, and how long they are.
 use mathlib.Core.Path.{_≡_, refl, sym, ap, _∙_}
+use mathlib.Core.Logic.{⊎-elim}
 use mathlib.Core.List.{List, [], _∷_, _++_, append-assoc}
-use Prim.Native.Nat.{ℕ, zero, suc, _+_, _-_, _/_, _%_, _^_, _≤_, _<_}
+use Prim.Native.Nat.{ℕ, zero, suc, _+_, _-_, _/_, _%_, _*_, _^_, _≤_, _<_}
+use native.Mathlib.Nat.{pow-succ'}
 use native.Mathlib.Numerals.{add-one}
 use native.Mathlib.Omega.{arith}
 use lib.ListN.{length, set, length-append}
@@ -9,7 +11,9 @@ use Rattle.text.specs.Numbers.{decimal}
 use Rattle.text.specs.Printed.{Printed}
 use Rattle.text.proofs.Values.{decimal-small, decimal-more, decimal-longer}
 use Rattle.text.proofs.Printing.{printed-byte, printed-then}
+use Rattle.rules.proofs.Ranges.{below-or-not}
 use Rattle.page.specs.Lines.{spaces, atRight, atLeft, column}
+use Rattle.page.specs.Lined.{Fits}
 
 -- what was printed is the text that was to be printed: a function's proof ends in this equation of two texts
 pub printed-as :
@@ -50,6 +54,16 @@ length-column width text h =
 
 -- Digits
 
+-- a number below 10 ^ k has at most k digits
+pub few-digits : (k n : ℕ) → n < 10 ^ suc k → n < 2 ^ 64 → length (decimal n) ≤ suc k
+few-digits zero n h l = let small : n < 10 = omega arith in omega (arith, ap length (decimal-small n small))
+few-digits (suc k) n h l =
+    let e : n < 10 * 10 ^ suc k = rw (pow-succ' 10 (suc k)) at h in
+    ⊎-elim
+    (λ small. omega (arith, ap length (decimal-small n small)))
+    (λ large. omega (arith, decimal-longer n large l, few-digits k (n / 10) (omega arith) (omega arith)))
+    (below-or-not n 10)
+
 module _ (n width : ℕ) where
   pub some-digit : n < 10 → length (decimal n) ≤ width → 1 ≤ width
   some-digit h k = omega (arith, ap length (decimal-small n h))
@@ -81,3 +95,17 @@ module _ (n width : ℕ) where
       → Printed (atRight width (decimal n)) before at (set after next (48 + n % 10)) (next + 1)
   printed-more before at after next h l r p =
       printed-as (printed-then p (printed-byte (48 + n % 10) after next r)) (right-more h l)
+
+-- the numbers of a row have no more digits than their columns have places
+module _ {ticket line start end : ℕ} (f : Fits ticket line start end) where
+  pub ticket-digits : length (decimal ticket) ≤ 6
+  ticket-digits = few-digits 5 ticket (f .ticket-fits) (omega (arith, f .ticket-fits))
+
+  pub line-digits : length (decimal line) ≤ 1
+  line-digits = few-digits 0 line (f .line-fits) (omega (arith, f .line-fits))
+
+  pub start-digits : length (decimal start) ≤ 9
+  start-digits = few-digits 8 start (f .start-fits) (omega (arith, f .start-fits))
+
+  pub end-digits : length (decimal end) ≤ 9
+  end-digits = few-digits 8 end (f .end-fits) (omega (arith, f .end-fits))

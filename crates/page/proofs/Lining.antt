@@ -20,9 +20,9 @@ use Rattle.layout.proofs.Rising.{each-place}
 use Rattle.text.specs.Numbers.{digitsWithin, decimal}
 use Rattle.page.specs.Lines.{spaces, atRight, atLeft, column, lineOf, ticketWord, lineWord, startWord, endWord, stateWord, heading, stateOf, rowOf, row, blank, noStationWords, noStation}
 use Rattle.page.specs.Pages.{texts, rowAt, rows, page, pageCount, pages, pagesOf}
-use Rattle.page.specs.Lined.{ChargeFits, Character, Lined, no-line, one-more}
-use Rattle.page.proofs.Aligning.{length-column, length-left}
-use Rattle.page.proofs.Paging.{row-held, row-unused}
+use Rattle.page.specs.Lined.{Fits, ChargeFits, Character, Lined, no-line, one-more}
+use Rattle.page.proofs.Aligning.{length-column, length-left, ticket-digits, line-digits, start-digits, end-digits}
+use Rattle.page.proofs.Paging.{row-held, row-unused, row-fits}
 use Rattle.page.proofs.Walling.{valid-fits}
 
 pub lined-join : (m : ℕ) (ys : List ℕ) {n : ℕ} {xs : List ℕ} → Lined n xs → Lined m ys → Lined (n + m) (xs ++ ys)
@@ -124,7 +124,7 @@ state-shown : (begun : Bool) → Each Character (stateOf begun)
 state-shown true = characters (stateOf true) refl
 state-shown false = characters (stateOf false) refl
 
-heading-lined : Lined 1 heading
+pub heading-lined : Lined 1 heading
 heading-lined =
     line-lined ticketWord lineWord startWord endWord stateWord
     (record {
@@ -132,7 +132,7 @@ heading-lined =
       shown = (characters ticketWord refl, characters lineWord refl, characters startWord refl, characters endWord refl, characters stateWord refl);
     })
 
-blank-lined : Lined 1 blank
+pub blank-lined : Lined 1 blank
 blank-lined =
     line-lined [] [] [] [] []
     (record { long = (omega arith, omega arith, omega arith, omega arith, omega arith); shown = (tt, tt, tt, tt, tt) })
@@ -141,24 +141,25 @@ blank-lined =
 pub no-station-lined : Lined 1 noStation
 no-station-lined = one-line (atLeft 37 noStationWords) refl (characters (atLeft 37 noStationWords) refl)
 
-row-lined : (clock : ℕ) (c : Charge) → ChargeFits c → Lined 1 (row clock c)
+pub row-lined : (clock : ℕ) (c : Charge) → ChargeFits c → Lined 1 (row clock c)
 unfolding rowOf
 row-lined clock c f =
+    let g : Fits (c .ticket) (c .line) (c .start) (endOf c) = row-fits f in
     line-lined (decimal (c .ticket)) (decimal (c .line)) (decimal (c .start)) (decimal (endOf c)) (stateOf (isBegun clock c))
     (record {
-      long = (f .ticket-fits, f .line-fits, f .start-fits, f .end-fits, state-fits (isBegun clock c));
+      long = (ticket-digits g, line-digits g, start-digits g, end-digits g, state-fits (isBegun clock c));
       shown = (decimal-shown (c .ticket), decimal-shown (c .line), decimal-shown (c .start), decimal-shown (endOf c), state-shown (isBegun clock c));
     })
 
 -- Pages
 
-texts-lined : (f : ℕ → List ℕ) (m n : ℕ) → ((i : ℕ) → Lined m (f i)) → Lined (n * m) (texts f n)
+pub texts-lined : (f : ℕ → List ℕ) (m n : ℕ) → ((i : ℕ) → Lined m (f i)) → Lined (n * m) (texts f n)
 unfolding texts
 texts-lined f m zero h = let e : 0 * m ≡ 0 = omega arith in rw e no-line
 texts-lined f m (suc n) h = rw (suc-mul n m) (lined-join m (f n) (texts-lined f m n h) (h n))
 
 module _ (clock : ℕ) (cs : List Charge) (f : Each ChargeFits cs) where
-  row-at-lined : (q : ℕ) → Lined 1 (rowAt clock cs q)
+  pub row-at-lined : (q : ℕ) → Lined 1 (rowAt clock cs q)
   row-at-lined q =
       ⊎-elim
       (λ h. rw (row-held clock cs q h) (row-lined clock (getD cs q noCharge) (each-place ChargeFits cs f q h)))

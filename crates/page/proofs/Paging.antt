@@ -16,7 +16,7 @@ use Rattle.charges.specs.Arrays.{chargeAt, chargesOf, Columns}
 use Rattle.layout.specs.Image.{noCharge}
 use Rattle.page.specs.Lines.{heading, rowOf, row, blank}
 use Rattle.page.specs.Pages.{texts, rowAt, rows, page, pageCount, pages}
-use Rattle.page.specs.Lined.{ChargeFits}
+use Rattle.page.specs.Lined.{Fits, ChargeFits}
 
 pub texts-none : (f : ℕ → List ℕ) → texts f 0 ≡ []
 unfolding texts
@@ -60,6 +60,15 @@ module _ (clock : ℕ) {held : Charges} (columns : Columns held) (q : ℕ) where
 
 pub fits-at : {held : Charges} → Columns held → (q : ℕ) → Each ChargeFits (chargesOf held) → q < held .held → ChargeFits (chargeAt held q)
 fits-at {held} columns q e h = tabulate-each ChargeFits (chargeAt held) (held .held) 0 e q (omega arith) (omega arith)
+
+pub row-fits : {c : Charge} → ChargeFits c → Fits (c .ticket) (c .line) (c .start) (endOf c)
+row-fits f =
+    record {
+      ticket-fits = f .ticket-small;
+      line-fits = f .line-small;
+      start-fits = omega (arith, f .start-small);
+      end-fits = omega (arith, f .start-small, f .time-small);
+    }
 
 -- Pages
 

@@ -4,7 +4,6 @@ use mathlib.Core.Path.{_≡_, refl, sym, ap, _∙_}
 use mathlib.Core.Bool.{cond}
 use mathlib.Core.List.{List, [], _∷_, _++_}
 use Prim.Native.Nat.{ℕ, zero, suc, _+_, _-_, _*_, _/_, _^_, _≤_, _<_, max}
-use native.Mathlib.Nat.{pow-succ'}
 use native.Mathlib.Omega.{arith}
 use lib.Dec.{eqb}
 use lib.ListN.{length, take, length-append}
@@ -19,31 +18,20 @@ use Rattle.layout.specs.Image.{imageOf}
 use Rattle.layout.specs.Reading.{restoreRefusal, restoring}
 use Rattle.layout.proofs.Refusing.{refused-length}
 use Rattle.layout.proofs.RoundTrip.{restored-saved, image-accepted}
-use Rattle.text.specs.Numbers.{decimal}
-use Rattle.text.proofs.Values.{decimal-small, decimal-longer}
 use Rattle.page.specs.Lines.{noStation}
 use Rattle.page.specs.Pages.{pagesOf, wall}
-use Rattle.page.specs.Lined.{Fits, ChargeFits}
-
--- a number below 10 ^ k has at most k digits
-pub few-digits : (k n : ℕ) → n < 10 ^ suc k → n < 2 ^ 64 → length (decimal n) ≤ suc k
-few-digits zero n h l = let small : n < 10 = omega arith in omega (arith, ap length (decimal-small n small))
-few-digits (suc k) n h l =
-    let e : n < 10 * 10 ^ suc k = rw (pow-succ' 10 (suc k)) at h in
-    ⊎-elim
-    (λ small. omega (arith, ap length (decimal-small n small)))
-    (λ large. omega (arith, decimal-longer n large l, few-digits k (n / 10) (omega arith) (omega arith)))
-    (below-or-not n 10)
+use Rattle.page.specs.Lined.{ChargeFits}
 
 module _ (s : State) (v : ValidState s) where
-  charge-fits : (c : Charge) → ValidCharge (limitsOf s) (s .tail) (s .clock) (s .next) c → endOf c ≤ s .clock + 1445 * (s .next - 1) → ChargeFits c
+  charge-fits :
+      (c : Charge) → ValidCharge (limitsOf s) (s .tail) (s .clock) (s .next) c → endOf c ≤ s .clock + 1445 * (s .next - 1) → ChargeFits c
   charge-fits c w e =
-      let high : endOf c < 1000000000 = omega (arith, e, v .clock-high, v .next-high) in
       record {
-        ticket-fits = few-digits 5 (c .ticket) (omega (arith, w .ticket-given, v .next-high)) (omega (arith, w .ticket-given, v .next-high));
-        line-fits = few-digits 0 (c .line) (omega (arith, w .line)) (omega (arith, w .line));
-        start-fits = few-digits 8 (c .start) (omega (arith, high)) (omega (arith, high));
-        end-fits = few-digits 8 (endOf c) high (omega (arith, high));
+        ticket-small = omega (arith, w .ticket-given, v .next-high);
+        line-small = omega (arith, w .line);
+        start-small = omega (arith, e, v .clock-high, v .next-high);
+        time-small = w .time-high;
+        active-small = omega (arith, w .active, w .time-high, v .tail-high);
       }
 
   each-fits : (cs : List Charge) → Each (ValidCharge (limitsOf s) (s .tail) (s .clock) (s .next)) cs → lastEnd cs ≤ s .clock + 1445 * (s .next - 1) → Each ChargeFits cs

@@ -1,3 +1,4 @@
 pub mod Lines
 pub mod Pages
 pub mod Lined
+pub mod Cases

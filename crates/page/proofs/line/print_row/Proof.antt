@@ -2,22 +2,22 @@
 use native.Mathlib.Omega.{arith}
 use Rattle.text.proofs.Printing.{printed-then}
 use Rattle.page.specs.Lines.{rowOf}
-use Rattle.page.proofs.Aligning.{printed-as}
+use Rattle.page.proofs.Aligning.{printed-as, ticket-digits, line-digits, start-digits, end-digits}
 use borrow.Author.Needs.{needs}
 use Rattle.page.proofs.line.print_row.Statement.{statement}
 use Rattle.page.proofs.line.print_row.Tie as tie
 
 print-column-requires : tie.Need-print-column-requires
-print-column-requires c κs = search needs
+print-column-requires c κs = (ticket-digits (c .before .before .pre .0), search needs)
 
 print-column-requires-2 : tie.Need-print-column-requires-2
-print-column-requires-2 c κs = search needs
+print-column-requires-2 c κs = (line-digits (c .before .before .before .before .before .before .pre .0), search needs)
 
 print-column-requires-3 : tie.Need-print-column-requires-3
-print-column-requires-3 c κs = search needs
+print-column-requires-3 c κs = (start-digits (c .before .before .before .before .before .before .before .before .before .before .pre .0), search needs)
 
 print-column-requires-4 : tie.Need-print-column-requires-4
-print-column-requires-4 c κs = search needs
+print-column-requires-4 c κs = (end-digits (c .before .before .before .before .before .before .before .before .before .before .before .before .before .before .pre .0), search needs)
 
 slice-aggregate-print-text : tie.Need-slice-aggregate-print-text
 slice-aggregate-print-text c = search needs

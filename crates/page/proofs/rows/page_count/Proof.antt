@@ -13,7 +13,7 @@ add-result : tie.Need-add-result
 add-result c = search needs
 
 returns-2 : tie.Need-returns-2
-returns-2 c = (sym (some-pages (c .before .args .held) (c .if1 .left)), omega arith)
+returns-2 c = (omega (arith, some-pages (c .before .args .held) (c .if1 .left)), omega arith)
 
 pub page-count-spec : {M : Type 1} → statement M
 page-count-spec = tie.close (tie.spec returns add-result returns-2)

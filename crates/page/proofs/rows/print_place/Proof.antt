@@ -49,7 +49,7 @@ print-row-requires : tie.Need-print-row-requires
 print-row-requires c κs =
     let s = c .before .before .before .before .before .before .before .before in
     let f = fits-at (s .pre .0) (s .args .q) (s .pre .1) (omega arith) in
-    (record { ticket-fits = f .ticket-fits; line-fits = f .line-fits; start-fits = f .start-fits; end-fits = rw (c .before .before .before .end-of .ensures .0) (f .end-fits) }, omega arith)
+    (record { ticket-fits = f .ticket-small; line-fits = f .line-small; start-fits = omega (arith, f .start-small); end-fits = omega (arith, f .start-small, f .time-small, f .active-small, c .before .before .before .end-of .ensures .0) }, omega arith)
 
 same-length-2 : tie.Need-same-length-2
 same-length-2 c = search needs
