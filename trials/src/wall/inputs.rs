@@ -2,6 +2,7 @@
 //! damaged ones, inputs that are too short or too long, and all of them in several ways.
 
 use super::stations;
+use crate::damage::{self, Trial};
 use crate::feed::Way;
 use crate::image::blocks::{sealed, Contents, CONTENT};
 use crate::image::{contents_of, image_of, BYTES};
@@ -172,6 +173,14 @@ pub fn drawn(seed: u64, number: u64) -> Input {
         damage = ", damaged";
     }
     input(format!("image {number} of seed {seed}{damage}"), bytes, Way::Pipe)
+}
+
+/// Images that a bus is tried with, some of each sort.
+pub fn of_a_bus(seed: u64) -> impl Iterator<Item = Input> {
+    let each = |(number, trial): (usize, Trial)| {
+        input(format!("{number}: {}", trial.title), trial.image, Way::Pipe)
+    };
+    damage::trials(seed, 1).enumerate().step_by(17).map(each)
 }
 
 #[cfg(test)]

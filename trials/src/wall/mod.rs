@@ -14,9 +14,13 @@ use crate::program::{Answering, Program};
 use crate::script;
 use inputs::Input;
 
-/// The named inputs, and so many that are drawn by lot.
+/// The named inputs, and so many that are drawn by lot; every second one of these is an image
+/// that a bus is tried with, damaged or from elsewhere.
 pub fn inputs(seed: u64, images: u64) -> impl Iterator<Item = Input> {
-    inputs::named().into_iter().chain((0..images).map(move |number| inputs::drawn(seed, number)))
+    let own = (0..images.div_ceil(2)).map(move |number| inputs::drawn(seed, number));
+    // They are made only once it comes to them.
+    let others = std::iter::once(seed).flat_map(inputs::of_a_bus).take((images / 2) as usize);
+    inputs::named().into_iter().chain(own).chain(others)
 }
 
 /// Every input's pages, line by line; the lines are counted as answers.
