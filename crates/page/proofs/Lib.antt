@@ -4,3 +4,4 @@ pub mod Paging
 pub mod Walling
 pub mod Lining
 pub mod Rowing
+pub mod Showing
