@@ -4,7 +4,7 @@
 mod common;
 
 use common::faulty::{Error, Faulty};
-use common::{caught, expect, fast, lines, reference};
+use common::{breaks_demand_3, caught, expect, fast, lines, reference};
 use std::collections::BTreeSet;
 use trials::interpret::Interpreter;
 use trials::protocol::{read_call, Call};
@@ -109,6 +109,18 @@ fn boards_shown_otherwise() {
     caught(Error::StopsAtNotHeld, &text, right, stopped);
     let text = format!("{YARD}board 2 3 4");
     caught(Error::LookedIsAsked, &text, "board 3 10 20", "board 2 10 20");
+}
+
+/// What a board shows or counts otherwise than enquiries would is found without the
+/// reference; what it lets through is not.
+#[test]
+fn demand_3_finds_what_it_should() {
+    for error in [Error::ZeroForNotHeld, Error::LookedIsAsked, Error::StopsAtNotHeld] {
+        assert!(breaks_demand_3("boards", error), "{error:?}");
+    }
+    for error in [Error::None, Error::OneTooManyAsked, Error::PlacesBeforeOrder] {
+        assert!(!breaks_demand_3("boards", error), "{error:?}");
+    }
 }
 
 /// The checker of demand 3 knows the reported starts, and learns the others from the board

@@ -6,7 +6,8 @@
 //! Counts stand in an array with one place for each minute, the clock's minute
 //! first: minutes themselves can be near 100,000,000.
 
-use super::station::{last_clear, Charge};
+use super::station::Charge;
+use std::collections::BTreeSet;
 
 /// The counts of lines 1, 2 and 3 in one minute.
 pub type Counts = [u64; 3];
@@ -33,10 +34,13 @@ impl Rules {
         self.within_limit(counts) && self.balanced(counts)
     }
 
-    /// Whether a plan is sound: "in every minute from the clock on".
+    /// Whether a plan is sound: "in every minute from the clock on". Counts change where a
+    /// charge begins or ends to draw and nowhere else, so these minutes stand for all; the
+    /// others may be a hundred million.
     pub fn sound(&self, plan: &[Charge], clock: u64) -> bool {
-        let minutes = last_clear(plan).max(clock) - clock;
-        counts(plan, clock, minutes).iter().all(|counts| self.sound_in(counts))
+        let changes = plan.iter().flat_map(|charge| [charge.start, charge.clear()]);
+        let minutes: BTreeSet<u64> = changes.map(|minute| minute.max(clock)).collect();
+        minutes.iter().all(|minute| self.sound_in(&counts(plan, *minute, 1)[0]))
     }
 }
 
