@@ -1,0 +1,4 @@
+pub mod Placings
+pub mod Lowerings
+pub mod Endings
+pub mod Allowance
