@@ -39,9 +39,9 @@ everywhere s =
           rw (
             none-firstOf (refusals s (replanLines a)) q,
             none-firstOf (refusals s (replanLines b)) (allowed s b (omega arith) j),
-            byLines-same (limitsOf s) (s .clock) a b (s .charges) h p,
+            byLines-same (limitsOf s) (s .clock) a b (s .charges) (omega (arith, h)) p,
           );
-      lower = λ cap i t v e. lowered-below (limitsOf s) (s .clock) (s .charges) cap i t v e;
+      lower = λ cap i t v e. omega (arith, lowered-below (limitsOf s) (s .clock) (s .charges) cap i t v e);
       nowhere-higher = lowered-most;
       few-rounds = few-rounds (limitsOf s) (s .clock) (s .charges);
       never-spent = never-spent (limitsOf s) (s .clock) (s .charges);
