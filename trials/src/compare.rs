@@ -2,12 +2,14 @@
 //! The answers of the program are also given to the checker of demand 3, which
 //! knows neither station nor reference.
 
+use crate::bus::FILE_ERROR;
 use crate::demand;
 use crate::fill::{fill, unfill};
 use crate::generate;
 use crate::loops;
 use crate::program::{Answering, Outcome};
 use crate::reference::Station;
+use crate::role::{Role, Trial};
 use crate::script::{self, Line, Script};
 use crate::shrink::shrink;
 
@@ -25,6 +27,8 @@ pub struct Choice<'a> {
     pub kind: Option<&'a str>,
     /// All but this kind.
     pub without: Option<&'a str>,
+    /// What the program is to be.
+    pub role: Role,
 }
 
 impl Choice<'_> {
@@ -72,39 +76,30 @@ pub struct Failure {
 }
 
 pub fn compare(program: &dyn Answering, choice: &Choice) -> Result<Summary, Failure> {
+    let trial = Trial::new(program, choice.role);
     let mut summary = Summary::default();
     if choice.wants_loops() {
-        summary = loops::compare(program)?;
+        summary = loops::compare(&trial)?;
     }
     let mut number = 0;
     while number < choice.scripts && choice.kind != Some(LOOPS) {
         let (batch, until) = choice.batch(number);
         // "A last line without a line feed counts": every other batch ends so.
         let unended = number / BATCH % 2 == 1;
-        summary.answers += compare_batch(program, &batch, unended)?;
         summary.scripts += batch.len() as u64;
+        summary.answers += compare_batch(&trial, batch, unended)?;
         number = until;
     }
     Ok(summary)
 }
 
-fn compare_batch(
-    program: &dyn Answering,
-    batch: &[Script],
-    unended: bool,
-) -> Result<usize, Failure> {
-    let lines: Vec<Line> = batch.iter().flat_map(|script| script.lines.clone()).collect();
-    let expected: Vec<Line> = batch.iter().flat_map(|script| script.answers.clone()).collect();
-    let mut input = script::join(&lines);
-    if unended {
-        input.pop();
-    }
-    let outcome = program.answers(&input);
-    if let Some(difference) = difference(&expected, &outcome) {
-        return Err(difference_found(program, batch, difference.place));
-    }
-    check_demand(batch, &outcome.answers)?;
-    Ok(expected.len())
+fn compare_batch(trial: &Trial, batch: Vec<Script>, unended: bool) -> Result<usize, Failure> {
+    let batch = trial.prepared(batch);
+    let answers = trial
+        .run(&batch, unended)
+        .map_err(|difference| difference_found(trial, &batch.scripts, difference.place))?;
+    check_demand(trial.role, &batch.scripts, &answers)?;
+    Ok(answers.len())
 }
 
 /// Where answers differ first, and how.
@@ -116,7 +111,7 @@ pub struct Difference {
 pub fn difference(expected: &[Line], outcome: &Outcome) -> Option<Difference> {
     let found = &outcome.answers;
     let length = expected.len().max(found.len());
-    let place = (0..length).find(|place| expected.get(*place) != found.get(*place));
+    let place = (0..length).find(|place| !same(expected.get(*place), found.get(*place)));
     if place.is_none() && outcome.trouble.is_none() {
         return None;
     }
@@ -134,14 +129,15 @@ pub fn difference(expected: &[Line], outcome: &Outcome) -> Option<Difference> {
     Some(Difference { place: place.unwrap_or(length), what: what.join("\n# ") })
 }
 
-fn differs(program: &dyn Answering, lines: &[Line]) -> Option<Difference> {
-    let expected = script::reference_answers(lines);
-    difference(&expected, &program.answers(&script::join(lines)))
+/// The reason of an error with a file is the program's own.
+fn same(expected: Option<&Line>, found: Option<&Line>) -> bool {
+    let any_error = expected.is_some_and(|expected| expected == FILE_ERROR);
+    expected == found || (any_error && found.is_some_and(|found| found.starts_with(b"error ")))
 }
 
 /// Names the script with the first difference and shrinks it. Should it be
 /// right on its own, the scripts before it are needed too.
-fn difference_found(program: &dyn Answering, batch: &[Script], place: usize) -> Failure {
+fn difference_found(trial: &Trial, batch: &[Script], place: usize) -> Failure {
     let mut before = 0;
     let mut number = 0;
     while number + 1 < batch.len() && before + batch[number].answers.len() <= place {
@@ -149,11 +145,11 @@ fn difference_found(program: &dyn Answering, batch: &[Script], place: usize) -> 
         number += 1;
     }
     let mut lines = batch[number].lines.clone();
-    if differs(program, &lines).is_none() {
+    if trial.differs(&lines).is_none() {
         lines = batch[..=number].iter().flat_map(|script| script.lines.clone()).collect();
     }
-    let lines = shrunk(program, lines);
-    let what = differs(program, &lines).map_or_else(
+    let lines = shrunk(trial, lines);
+    let what = trial.differs(&lines).map_or_else(
         || "the difference is gone when the script is run again".to_string(),
         |difference| difference.what,
     );
@@ -163,9 +159,9 @@ fn difference_found(program: &dyn Answering, batch: &[Script], place: usize) -> 
 /// The shortest script that still differs. Where a line goes, the starts of the
 /// commits after it are not the earliest any more, so they are filled in anew, unless
 /// the difference lies in how a start is written.
-fn shrunk(program: &dyn Answering, lines: Vec<Line>) -> Vec<Line> {
+fn shrunk(trial: &Trial, lines: Vec<Line>) -> Vec<Line> {
     let filled = |lines: &[Line]| fill(Station::fresh(1, 100, 0), lines);
-    let fails = |lines: &[Line]| differs(program, lines).is_some();
+    let fails = |lines: &[Line]| trial.differs(lines).is_some();
     let open = unfill(&lines);
     match fails(&filled(&open)) {
         true => filled(&shrink(&open, |lines| fails(&filled(lines)))),
@@ -178,12 +174,13 @@ fn title(script: &Script) -> String {
 }
 
 /// Demand 3 for each script on its own: each begins with a fresh station.
-fn check_demand(batch: &[Script], answers: &[Line]) -> Result<(), Failure> {
+fn check_demand(role: Role, batch: &[Script], answers: &[Line]) -> Result<(), Failure> {
     let mut rest = answers;
     for script in batch {
         let (own, others) = rest.split_at(script.answers.len());
         rest = others;
-        if let Err(broken) = demand::check(&script.lines, own) {
+        let Some((lines, own)) = role.list_of_calls(&script.lines, own) else { continue };
+        if let Err(broken) = demand::check(&lines, &own) {
             let title = title(script);
             return Err(Failure { title, lines: script.lines.clone(), what: broken.to_string() });
         }

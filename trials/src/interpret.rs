@@ -46,7 +46,8 @@ impl<Y: Yard> Interpreter<Y> {
         }
     }
 
-    fn try_call(&mut self, call: &Call, out: &mut Vec<u8>) -> Result<(), Refusal> {
+    /// Appends the answer to a call, or nothing beside a refusal.
+    pub fn try_call(&mut self, call: &Call, out: &mut Vec<u8>) -> Result<(), Refusal> {
         let yard = &mut self.yard;
         match call {
             Call::Open { limit, percent, tail } => {
@@ -73,10 +74,20 @@ impl<Y: Yard> Interpreter<Y> {
     }
 }
 
-/// The yard as a program. Answers go out after each piece of input read, so a
-/// caller who waits for an answer before the next call gets it.
-pub fn serve<Y: Yard>(yard: Y, mut input: impl Read, mut output: impl Write) -> io::Result<()> {
+/// The yard as a program.
+pub fn serve<Y: Yard>(yard: Y, input: impl Read, output: impl Write) -> io::Result<()> {
     let mut interpreter = Interpreter::new(yard);
+    serve_lines(|line, out| interpreter.answer(line, out), input, output)
+}
+
+/// Anything that answers lines as a program: it appends the answer to a line and says
+/// whether there was one. Answers go out after each piece of input read, so a caller who
+/// waits for an answer before the next call gets it.
+pub fn serve_lines(
+    mut answer: impl FnMut(&[u8], &mut Vec<u8>) -> bool,
+    mut input: impl Read,
+    mut output: impl Write,
+) -> io::Result<()> {
     let mut piece = vec![0; 1 << 16];
     let mut line = Vec::with_capacity(LONGEST_LINE + 1);
     let mut out = Vec::with_capacity(1 << 17);
@@ -85,22 +96,22 @@ pub fn serve<Y: Yard>(yard: Y, mut input: impl Read, mut output: impl Write) -> 
         if read == 0 {
             break;
         }
-        take_lines(&mut interpreter, &piece[..read], &mut line, &mut out);
+        take_lines(&mut answer, &piece[..read], &mut line, &mut out);
         output.write_all(&out)?;
         output.flush()?;
         out.clear();
     }
     // A last line without a line feed counts.
     if !line.is_empty() {
-        answer_line(&mut interpreter, &line, &mut out);
+        answer_line(&mut answer, &line, &mut out);
     }
     output.write_all(&out)?;
     output.flush()
 }
 
 /// Splits a piece of input at its line feeds; `line` keeps what is unfinished.
-fn take_lines<Y: Yard>(
-    interpreter: &mut Interpreter<Y>,
+fn take_lines(
+    answer: &mut impl FnMut(&[u8], &mut Vec<u8>) -> bool,
     piece: &[u8],
     line: &mut Vec<u8>,
     out: &mut Vec<u8>,
@@ -108,10 +119,10 @@ fn take_lines<Y: Yard>(
     let mut rest = piece;
     while let Some(feed) = rest.iter().position(|byte| *byte == b'\n') {
         if line.is_empty() && feed <= LONGEST_LINE {
-            answer_line(interpreter, &rest[..feed], out);
+            answer_line(answer, &rest[..feed], out);
         } else {
             keep(line, &rest[..feed]);
-            answer_line(interpreter, line, out);
+            answer_line(answer, line, out);
             line.clear();
         }
         rest = &rest[feed + 1..];
@@ -125,8 +136,12 @@ fn keep(line: &mut Vec<u8>, more: &[u8]) {
     line.extend_from_slice(&more[..more.len().min(room)]);
 }
 
-fn answer_line<Y: Yard>(interpreter: &mut Interpreter<Y>, line: &[u8], out: &mut Vec<u8>) {
-    if interpreter.answer(line, out) {
+fn answer_line(
+    answer: &mut impl FnMut(&[u8], &mut Vec<u8>) -> bool,
+    line: &[u8],
+    out: &mut Vec<u8>,
+) {
+    if answer(line, out) {
         out.push(b'\n');
     }
 }

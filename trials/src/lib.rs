@@ -5,20 +5,26 @@
 //! "further trials are executed against another implementation of these rules"
 
 pub mod benchmark;
+pub mod bus;
 pub mod compare;
 pub mod coverage;
+pub mod damage;
 pub mod demand;
 pub mod fast;
 pub mod feed;
 pub mod fill;
+pub mod folder;
 pub mod generate;
+pub mod image;
 pub mod interpret;
+pub mod kills;
 pub mod listen;
 pub mod loops;
 pub mod program;
 pub mod protocol;
 pub mod random;
 pub mod reference;
+pub mod role;
 pub mod script;
 pub mod shrink;
 pub mod yard;

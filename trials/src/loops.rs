@@ -6,10 +6,10 @@ use crate::compare::{difference, Failure, Summary};
 use crate::feed::Way;
 use crate::fill::fill;
 use crate::generate;
-use crate::program::Answering;
 use crate::protocol::LONGEST_LINE;
 use crate::random::Random;
 use crate::reference::Station;
+use crate::role::{self, Role};
 use crate::script::{self, Line};
 
 /// Blocks that a program may read are of this length, or this is a multiple of it.
@@ -19,6 +19,27 @@ pub struct Trial {
     pub title: String,
     pub input: Vec<u8>,
     pub way: Way,
+}
+
+impl Trial {
+    /// For a bus, which holds no station before an opening: one in front, and comments up
+    /// to the end of its block, so that all else comes to stand where it stood.
+    fn opened(mut self) -> Trial {
+        let mut input = b"open 1 100 0\n".to_vec();
+        while input.len() < BLOCK {
+            let comment = (BLOCK - input.len() - 1).min(1_000);
+            input.resize(input.len() + comment, b'#');
+            input.push(b'\n');
+        }
+        // Sizes that are as long as the input all told are not begun anew.
+        if let Way::Pieces(sizes) = &mut self.way {
+            if sizes.iter().sum::<usize>() >= self.input.len() {
+                sizes.insert(0, BLOCK);
+            }
+        }
+        input.append(&mut self.input);
+        Trial { input, ..self }
+    }
 }
 
 /// Cheap ones first.
@@ -32,11 +53,12 @@ pub fn trials() -> Vec<Trial> {
     trials
 }
 
-pub fn compare(program: &dyn Answering) -> Result<Summary, Failure> {
+pub fn compare(of: &role::Trial) -> Result<Summary, Failure> {
     let mut summary = Summary::default();
     for trial in trials() {
-        let expected = script::reference_answers(&script::split(&trial.input));
-        let outcome = program.answers_to(&trial.input, &trial.way);
+        let trial = if of.role == Role::Bus { trial.opened() } else { trial };
+        let expected = of.role.answers(&script::split(&trial.input));
+        let outcome = of.program.answers_to(&trial.input, &trial.way);
         if let Some(difference) = difference(&expected, &outcome) {
             let title = format!("the loop; 'trials loops \"{}\"' prints the input", trial.title);
             return Err(Failure { title, lines: Vec::new(), what: difference.what });

@@ -2,24 +2,38 @@
 
 use std::collections::HashMap;
 use std::io::{self, Read, Write};
+use std::path::Path;
 use std::process::ExitCode;
 use std::time::{Duration, Instant};
-use trials::compare::{compare, Choice, Failure, LOOPS};
+use trials::bus::files::Disk;
+use trials::bus::images::{Images, Reference};
+use trials::bus::keep::Kept;
+use trials::bus::Bus;
+use trials::compare::{compare, Choice, Failure, Summary, LOOPS};
+use trials::fast::Fast;
+use trials::kills::Tally;
 use trials::program::Program;
+use trials::role::Role;
 use trials::{
-    benchmark, coverage, demand, fast, fill, generate, interpret, loops, reference, script,
+    benchmark, coverage, damage, demand, fast, fill, generate, interpret, kills, loops, reference,
+    script,
 };
 
 const USAGE: &str = "\
 trials answers < SCRIPT                      answers of the reference
 trials fast < SCRIPT                         answers of the fast program
+trials bus [FILE] < SCRIPT                   answers of a bus over an image, kept in FILE
+trials fast-bus [FILE] < SCRIPT              the same of the fast program
 trials fill < SCRIPT                         the script with a start for each commit's '?'
 trials generate [--kind KIND] [--seed S] [--scripts K]
 trials compare PROGRAM [--scripts K] [--seed S] [--kind KIND] [--without KIND]
-                       [--patience SECONDS]
+                       [--patience SECONDS] [--as bus]
+trials images BUS [--seed S] [--times T]     damaged images and images from elsewhere
+trials kills BUS [--stops K] [--seed S] [--seconds T]
+                                             stops at random moments, the image in a file
 trials loops [TITLE]                         titles of the trials of the loop, or an input
 trials coverage [--scripts K] [--seed S] [--kind KIND] [--without KIND]
-trials benchmark PROGRAM [--repeat R] [--days D]
+trials benchmark PROGRAM [--bus BUS] [--repeat R] [--days D] [--only bus]
                                              run times beside those of the fast program
 trials demand SCRIPT ANSWERS                 demand 3 from calls and answers alone";
 
@@ -61,7 +75,17 @@ impl Words {
             seed: self.number("seed", 1)?,
             kind: self.kind("kind")?,
             without: self.kind("without")?,
+            role: self.role()?,
         })
+    }
+
+    /// A console, unless it is said to be a bus.
+    fn role(&self) -> Result<Role, String> {
+        match self.named.get("as").map(String::as_str) {
+            None | Some("console") => Ok(Role::Console),
+            Some("bus") => Ok(Role::Bus),
+            Some(other) => Err(format!("--as {other}: there are console and bus")),
+        }
     }
 
     /// The kind of scripts that a named word gives.
@@ -90,9 +114,13 @@ fn run(words: &Words) -> Outcome {
     match words.others.first().map(String::as_str) {
         Some("answers") => serve(reference::Station::fresh(1, 100, 0)),
         Some("fast") => serve(fast::Station::fresh(1, 100, 0)),
+        Some("bus") => serve_bus(Reference, words.others.get(1)),
+        Some("fast-bus") => serve_bus(Fast, words.others.get(1)),
         Some("fill") => fill_script(),
         Some("generate") => print_scripts(&words.choice(1)?),
         Some("compare") => run_comparison(words),
+        Some("images") => run_images(words),
+        Some("kills") => run_kills(words),
         Some("loops") => print_loops(words.others.get(1)),
         Some("coverage") => print_coverage(&words.choice(1_000)?),
         Some("benchmark") => run_benchmark(words),
@@ -104,6 +132,20 @@ fn run(words: &Words) -> Outcome {
 fn serve(yard: impl trials::yard::Yard) -> Outcome {
     let (input, output) = (io::stdin().lock(), io::stdout().lock());
     interpret::serve(yard, input, output).map_err(|error| error.to_string())
+}
+
+/// A bus, with its image in a file if there is one named.
+fn serve_bus(images: impl Images, file: Option<&String>) -> Outcome {
+    let (input, output) = (io::stdin().lock(), io::stdout().lock());
+    let mut bus = Bus::new(images, Disk);
+    let served = match file {
+        None => interpret::serve_lines(|line, out| bus.answer(line, out), input, output),
+        Some(file) => {
+            let mut kept = Kept::new(bus, Path::new(file));
+            interpret::serve_lines(|line, out| kept.answer(line, out), input, output)
+        }
+    };
+    served.map_err(|error| error.to_string())
 }
 
 fn fill_script() -> Outcome {
@@ -146,7 +188,12 @@ fn print_coverage(choice: &Choice) -> Outcome {
 
 fn run_benchmark(words: &Words) -> Outcome {
     let command = words.others.get(1).or(words.named.get("program")).ok_or(USAGE)?;
-    benchmark::run(command, words.number("repeat", 5)? as usize, words.number("days", 5)?)
+    let bus = words.named.get("bus").map(String::as_str);
+    let (repeat, days) = (words.number("repeat", 5)? as usize, words.number("days", 5)?);
+    match (bus, words.named.get("only").map(String::as_str)) {
+        (Some(bus), Some("bus")) => benchmark::run_bus(command, bus, repeat),
+        _ => benchmark::run(command, bus, repeat, days),
+    }
 }
 
 fn run_comparison(words: &Words) -> Outcome {
@@ -166,6 +213,47 @@ fn run_comparison(words: &Words) -> Outcome {
         Err(failure) => {
             print_failure(&failure)?;
             Err(format!("the comparison failed, seed {}", choice.seed))
+        }
+    }
+}
+
+/// Damaged images and images from elsewhere, read by a bus.
+fn run_images(words: &Words) -> Outcome {
+    let command = words.others.get(1).or(words.named.get("program")).ok_or(USAGE)?;
+    let (seed, times) = (words.number("seed", 1)?, words.number("times", 1)?);
+    let patience = Duration::from_secs(words.number("patience", 60)?);
+    let program = Program::new(command, patience);
+    let begun = Instant::now();
+    match damage::compare(&program, damage::trials(seed, times)) {
+        Ok(Summary { scripts, answers }) => {
+            let seconds = begun.elapsed().as_secs_f64();
+            println!("{scripts} images, {answers} answers, all as they should be ({seconds:.1} s)");
+            Ok(())
+        }
+        Err(failure) => {
+            print_failure(&failure)?;
+            Err(format!("a trial of images failed, seed {seed}"))
+        }
+    }
+}
+
+/// A bus that keeps its image in a file, stopped and started again.
+fn run_kills(words: &Words) -> Outcome {
+    let command = words.others.get(1).or(words.named.get("program")).ok_or(USAGE)?;
+    let program: Vec<String> = command.split_whitespace().map(String::from).collect();
+    let (seed, stops) = (words.number("seed", 1)?, words.number("stops", 300)? as usize);
+    let longest = Duration::from_secs(words.number("seconds", 25)?);
+    let begun = Instant::now();
+    match kills::compare(&program, seed, stops, longest) {
+        Ok(Tally { stops, answers, after }) => {
+            let seconds = begun.elapsed().as_secs_f64();
+            println!("{stops} stops, {after} of them after the call in hand was kept,");
+            println!("{answers} answers, no answered call lost ({seconds:.1} s)");
+            Ok(())
+        }
+        Err(failure) => {
+            print_failure(&failure)?;
+            Err(format!("the trial of stops failed, seed {seed}"))
         }
     }
 }

@@ -44,6 +44,6 @@ fn a_program_that_does_not_end_in_time() {
 
 #[test]
 fn a_benchmark_of_a_program_that_is_not_there() {
-    let trouble = trials::benchmark::run("./no-such-program", 1, 1);
+    let trouble = trials::benchmark::run("./no-such-program", None, 1, 1);
     assert!(trouble.is_err_and(|trouble| trouble.contains("cannot be started")));
 }

@@ -9,7 +9,6 @@ use Rattle.rules.specs.Calls.{Settings, State, Answer, refused, opened, preview
 use Rattle.layout.specs.Image.{imageOf}
 use Rattle.layout.specs.Reading.{RestoreResult, restoring}
 use Rattle.layout.specs.Saving.{SaveResult, saving}
-use Rattle.image.specs.Answers.{saved}
 
 -- an answer in numbers: the one returned, and those that go behind references
 pub record Told : Type 0 where
@@ -64,11 +63,14 @@ unfoldable pub openedOver : List ℕ → List ℕ → Settings → Left
 openedOver numbers image x =
     left numbers image (answering (saving (opening x .state) image .refusal) (opening x .state) [] (opening x))
 
+abbrev pub copying : ℕ → List ℕ → SaveResult
+copying refusal image = record { refusal = refusal; image = image }
+
 -- an image restored and saved to another list: the restore's refusals come first
 unfoldable pub copied : List ℕ → List ℕ → SaveResult
 copied image list =
     cond (eqb (restoring image .refusal) 0) (saving (restoring image .state) list)
-    (saved (restoring image .refusal) list)
+    (copying (restoring image .refusal) list)
 
 -- What the contracts say
 
@@ -80,7 +82,7 @@ pub record Opens (numbers image : List ℕ) (x : Settings) (number : ℕ) (behin
   pub result : leaving number behind after [] ≡ openedOver numbers image x
 
 pub record Copies (image list : List ℕ) (refusal : ℕ) (after : List ℕ) : Type 0 where
-  pub result : saved refusal after ≡ copied image list
+  pub result : copying refusal after ≡ copied image list
 
 -- how a call ends with an answer: its number, the numbers behind the references and the image
 pub record Ends (a : Answer) (s : State) (numbers image : List ℕ) (number : ℕ) (behind after : List ℕ) : Type 0 where

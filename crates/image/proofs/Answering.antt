@@ -95,12 +95,13 @@ open-least a s e = ap (λ (r : Result). r .state) e
 
 module _ (xs : List ℕ) where
   pub restores-refused :
-      (n : ℕ) (r : Restored)
+      (n k : ℕ) (r : Restored)
       → eqb n 0 ≡ false
-      → (r .answer ≡ n) × (view (r .station) ≡ fresh (settings 1 100 0)) × Valid (r .station)
+      → (r .answer ≡ k) × (view (r .station) ≡ fresh (settings 1 100 0)) × Valid (r .station)
+      → k ≡ n
       → restoreRefusal xs ≡ n
       → Restores xs r
-  restores-refused n r z p e = record { result = rw (p .0, p .1, e, z); valid = p .2 }
+  restores-refused n k r z p d e = record { result = rw (p .0, d, p .1, e, z); valid = p .2 }
 
   pub restores-accepted :
       (s : Station) → ReadFrom xs s → restoreRefusal xs ≡ 0 → Restores xs (record { answer = 0; station = s })

@@ -72,8 +72,8 @@ put-length e = rw (e .result) (simp length-set)
 
 -- A block
 
-pub weight-small : (i v : ℕ) → i < 508 → v < 256 → (i + 1) * v ≤ 129540
-weight-small i v h l = mul-le-mul {n₁ = i + 1} {m₁ = v} {n₂ = 508} {m₂ = 255} (omega arith) (omega arith)
+pub weight-small : (factor v : ℕ) → factor ≤ 508 → v < 256 → factor * v ≤ 129540
+weight-small factor v h l = mul-le-mul {n₁ = factor} {m₁ = v} {n₂ = 508} {m₂ = 255} h (omega arith)
 
 module _ (s : State) (b : ℕ) (inside : b < 9) where
   pub block-begun :

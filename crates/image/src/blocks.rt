@@ -2,18 +2,18 @@
 use crate::bytes::number_at;
 use crate::bytes::wide;
 ghost use mathlib.Core.Path.{_≡_};
-ghost use Prim.Native.Nat.{_+_, _*_, _<_, _≤_};
+ghost use Prim.Native.Nat.{_*_, _<_, _≤_};
 ghost use lib.ListN.{length};
 ghost use Rattle.layout.specs.Lists.{every};
 ghost use Rattle.layout.specs.Image.{checkOf};
 ghost use Rattle.layout.specs.Reading.{inBlock, checked};
 
-// What the byte at place i of a block counts for.
-pub fn weight(i: usize, byte: u8) -> u32
-    requires { ⌜ i < 508 ⌝ }
-    ensures { λ r. ⌜ (r ≡ (i + 1) * byte) × (r ≤ 129540) ⌝ }
+// What a byte of a block counts for: the factor is its place + 1.
+pub fn weight(factor: u32, byte: u8) -> u32
+    requires { ⌜ factor ≤ 508 ⌝ }
+    ensures { λ r. ⌜ (r ≡ factor * byte) × (r ≤ 129540) ⌝ }
 {
-    (i as u32 + 1) * wide(byte)
+    factor * wide(byte)
 }
 
 // The check of a block, counted from its 508 bytes.
@@ -23,7 +23,7 @@ fn check_of(image: &[u8], block: usize) -> u32
 {
     let mut sum: u32 = 0;
     for i in 0..508 {
-        sum += weight(i, image[512 * block + i]);
+        sum += weight(i as u32 + 1, image[512 * block + i]);
     }
     sum
 }

@@ -29,7 +29,7 @@ fn write_block<'a>(
     for i in 0..508 {
         let byte = content(header, records, held, block, i);
         image[512 * block + i] = byte;
-        sum += weight(i, byte);
+        sum += weight(i as u32 + 1, byte);
     }
     put_number(image, 512 * block + 508, sum);
 }

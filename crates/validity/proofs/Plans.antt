@@ -3,6 +3,7 @@ use mathlib.Core.Path.{_≡_, ap, sym, _∙_}
 use Prim.Native.Nat.{ℕ, _-_}
 use mathlib.Core.Bool.{Bool, true, false, true≢false}
 use mathlib.Core.List.{List}
+use native.Mathlib.Omega.{arith}
 use Rattle.rules.specs.Load.{Load, lastUntil, Limits, limits, limitAt, balanceAt, soundAt, fromOn, sound}
 use Rattle.rules.specs.Charge.{loadsOf, begunCharges}
 use Rattle.rules.proofs.Ranges.{and-left, and-right, and-both, fails, throughout-at, throughout-all}
@@ -41,21 +42,27 @@ module _ (y : Limits) (clock : ℕ) (xs : List Load) where
 -- The same by a profile of the charges
 
 module _ (c : Charges) (clock limit bound : ℕ) (profiled : Profiled c) (p : Profile)
-    (shows : Shows p clock (loadsOf (begunCharges 4294967295 (chargesOf c)))) where
+    (before : ℕ) (shows : Shows p clock (loadsOf (begunCharges before (chargesOf c)))) (latest : before ≡ 4294967295) where
   abbrev loads : List Load
   loads = loadsOf (chargesOf c)
 
   all-shown : Shows p clock loads
-  all-shown = rw (all-before c 4294967295 (profiled .below)) at shows
+  all-shown = rw (all-before c before (λ i h. omega (arith, profiled .below i h))) at shows
 
-  module _ (within : Bool) (kept : WithinLimit p limit within) where
+  module _ (within : Bool) (n : ℕ) (kept-by : WithinLimit p n within) (own-limit : n ≡ limit) where
+    kept : WithinLimit p limit within
+    kept = rw own-limit at kept-by
+
     pub plan-above : within ≡ false → false ≡ sound (limits limit bound) clock loads
     plan-above e =
         sym
         (fails (sound (limits limit bound) clock loads)
         (λ h. true≢false (sym (sound-limit (limits limit bound) clock loads h) ∙ sym (kept clock loads bound all-shown) ∙ e)))
 
-    module _ (first : When) (found : Unbalanced p bound first) where
+    module _ (first : When) (d : ℕ) (found-by : Unbalanced p d first) (own-bound : d ≡ bound) where
+      found : Unbalanced p bound first
+      found = rw own-bound at found-by
+
       pub plan-unbalanced : {t : ℕ} → first ≡ Minute t → false ≡ sound (limits limit bound) clock loads
       plan-unbalanced {t} e =
           sym

@@ -1,14 +1,14 @@
 -- What the test of a station's settings tells.
 use mathlib.Core.Path.{_≡_}
-use Prim.Native.Nat.{ℕ, _*_, _≤_}
-use mathlib.Core.Bool.{true}
+use Prim.Native.Nat.{ℕ, _+_, _-_, _*_, _≤_, _<_}
+use mathlib.Core.Bool.{Bool, true, false}
 use native.Mathlib.Omega.{arith}
 use lib.Dec.{leb}
-use borrow.Author.Tests.{leb-true}
+use borrow.Author.Tests.{eq-eqb, leb-true, le-leb, lt-leb, lt-ltb, le-ltb}
 use Rattle.rules.specs.Calls.{boundOf}
 use Rattle.rules.proofs.Ranges.{and-left, and-right}
 use Rattle.station.proofs.Opened.{product-most}
-use Rattle.layout.specs.Validity.{between, settingsRanged}
+use Rattle.layout.specs.Validity.{between, settingsRanged, timesRight}
 use Rattle.layout.proofs.Judging.{five-hold, between-low, between-high}
 use Rattle.validity.specs.Settled.{settingsValid}
 
@@ -46,3 +46,31 @@ module _ (limit percent tail clock next : ℕ) where
   valid-bound e =
       leb-true 1 (boundOf limit percent)
       (and-right (settingsRanged limit percent tail clock next) (leb 1 (boundOf limit percent)) e)
+
+-- The times of a charge, test by test
+
+module _ (tail clock next order start time active : ℕ) (e : active ≡ time + tail) where
+  pub ordered-late : clock < order → false ≡ timesRight tail clock next order start time active
+  unfolding timesRight
+  ordered-late h = rw (eq-eqb active (time + tail) e, lt-leb order clock h)
+
+  pub started-early : order ≤ clock → start < order → false ≡ timesRight tail clock next order start time active
+  unfolding timesRight
+  started-early h l = rw (eq-eqb active (time + tail) e, le-leb order clock h, lt-leb order start l)
+
+  pub is-finished :
+      order ≤ clock → order ≤ start → start + active ≤ clock → false ≡ timesRight tail clock next order start time active
+  unfolding timesRight
+  is-finished h l f =
+      rw (eq-eqb active (time + tail) e, le-leb order clock h, le-leb order start l, le-ltb clock (start + active) f)
+
+  pub times-told :
+      (r : Bool)
+      → order ≤ clock
+      → order ≤ start
+      → clock < start + active
+      → r ≡ leb (start + time) (clock + 1445 * (next - 1))
+      → r ≡ timesRight tail clock next order start time active
+  unfolding timesRight
+  times-told r h l f g =
+      rw (eq-eqb active (time + tail) e, le-leb order clock h, le-leb order start l, lt-ltb clock (start + active) f) g

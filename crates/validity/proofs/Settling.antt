@@ -8,7 +8,7 @@ use native.Mathlib.Omega.{arith}
 use lib.Dec.{ltb}
 use lib.ListN.{length, getD}
 use borrow.Author.Tests.{lt-ltb, le-ltb, lt-leb, le-leb, eq-eqb}
-use Rattle.rules.specs.Load.{sound}
+use Rattle.rules.specs.Load.{limits, sound}
 use Rattle.rules.specs.Charge.{Charge, loadsOf}
 use Rattle.rules.specs.Calls.{boundOf, limitsOf}
 use Rattle.rules.proofs.Ranges.{and-right, below-or-not}
@@ -33,13 +33,14 @@ module _ (tickets : List ℕ) (held next q : ℕ) where
   rises-low t e h = rw (← e, lt-leb 1 t h)
 
   pub rises-is :
-      (t u : ℕ)
+      (t u : ℕ) (r : Bool)
       → t ≡ ticketOrNext tickets held next q
       → u ≡ ticketOrNext tickets held next (q + 1)
       → 1 ≤ t
-      → ltb t u ≡ ticketRises tickets held next q
+      → r ≡ ltb t u
+      → r ≡ ticketRises tickets held next q
   unfolding ticketRises
-  rises-is t u e f h = rw (← e, ← f, le-leb 1 t h)
+  rises-is t u r e f h d = rw (← e, ← f, le-leb 1 t h) d
 
 module _ (s : Station) where
   abbrev held : ℕ
@@ -118,12 +119,14 @@ module _ (s : Station) where
     valid-fails r e f = sym (valid-is r (sound (limitsOf (view s)) (s .clock) (loadsOf (view s .charges))) e refl ∙ rw f)
 
     pub valid-told :
-        (r t : Bool)
+        (r t : Bool) (limit bound : ℕ)
         → r ≡ every (recordRight (view s)) held
         → r ≡ true
-        → t ≡ sound (limitsOf (view s)) (s .clock) (loadsOf (view s .charges))
+        → t ≡ sound (limits limit bound) (s .clock) (loadsOf (view s .charges))
+        → limit ≡ s .limit
+        → bound ≡ s .bound
         → t ≡ isValid (view s)
-    valid-told r t e f g = sym (valid-is r t e g ∙ rw f)
+    valid-told r t limit bound e f g a b = sym (valid-is r t e (rw (a, b) at g) ∙ rw f)
 
     pub settled-ranged : Ranged (s .limit) (s .percent) (s .tail) (s .clock) (s .next)
     settled-ranged = ranged (s .limit) (s .percent) (s .tail) (s .clock) (s .next) (valid-ranged (s .limit) (s .percent) (s .tail) (s .clock) (s .next) (h .settings))

@@ -63,8 +63,10 @@ impl Measured {
     /// So many turns that the program is busy for long enough.
     fn turns(&self, pair: &Pair) -> Result<usize, String> {
         let mut turns = 1;
+        // What makes the station once is not what is measured.
+        let first = if self.anew { 0.0 } else { pair.once(&self.first)? };
         for _ in 0..3 {
-            let seconds = pair.once(&self.scripts(turns)[0])?.max(1e-4);
+            let seconds = (pair.once(&self.scripts(turns)[0])? - first).max(1e-4);
             turns = (turns as f64 * LONG_ENOUGH / seconds).ceil() as usize;
             turns = turns.clamp(1, MOST_TURNS);
         }
@@ -73,6 +75,11 @@ impl Measured {
 
     pub fn cost(&self, pair: &Pair) -> Result<Cost, String> {
         pair.answers(&self.scripts(1)[0])?;
+        self.times(pair)
+    }
+
+    /// The same of programs whose answers need not be alike.
+    pub fn times(&self, pair: &Pair) -> Result<Cost, String> {
         let turns = self.turns(pair)?;
         let [with, without] = self.scripts(turns);
         let calls = (turns * self.calls) as f64;
@@ -130,6 +137,23 @@ pub fn typical_offer(held: usize) -> Measured {
 pub fn worst_commit(held: usize) -> Measured {
     let last = held / 6;
     Measured::last_commits(states::dense(held - last).0, states::behind_dense(last as u32))
+}
+
+/// An opening, whatever stood there before.
+pub fn opening() -> Measured {
+    Measured::repeatable(states::lasting(1), states::opening())
+}
+
+/// A move that goes nowhere.
+pub fn typical_move(held: usize) -> Measured {
+    let call = Call::Move { target: 0, places: 360 };
+    Measured::repeatable(states::lasting(held), write_call(&call).into_bytes())
+}
+
+/// For the middle one of the charges held.
+pub fn typical_enquiry(held: usize) -> Measured {
+    let call = Call::Enquire { ticket: held as u32 / 2 };
+    Measured::repeatable(states::lasting(held), write_call(&call).into_bytes())
 }
 
 /// Unlike a commit it can be asked for again on the same full plan.

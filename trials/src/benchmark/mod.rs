@@ -4,8 +4,10 @@
 //! - `day`, `lateness`: a day of the source's benchmark as a script, and its worth
 //! - `states`, `calls`: stations with so many charges, and single calls on them
 //! - `stopwatch`, `sample`, `pair`: one time, several of them, two programs in turn
+//! - `bus`: calls over an image (N8)
 //! - `days`, `single`, `stack`, `plans`: the tables; `table`: their layout
 
+mod bus;
 mod calls;
 mod day;
 mod days;
@@ -24,7 +26,8 @@ use std::time::Instant;
 
 /// Prints the tables as the last part of docs/BENCHMARKS.md, which says more about
 /// each of them. `days` is how many days of each class are valued; the source has 30.
-pub fn run(program: &str, repeat: usize, days: u64) -> Result<(), String> {
+/// With a bus its calls are measured too.
+pub fn run(program: &str, bus: Option<&str>, repeat: usize, days: u64) -> Result<(), String> {
     let begun = Instant::now();
     let pair = Pair::new(program, repeat)?;
     // A program that is not there, or does not speak the protocol, is told at once.
@@ -36,6 +39,10 @@ pub fn run(program: &str, repeat: usize, days: u64) -> Result<(), String> {
     single::print(&pair)?;
     println!("### Growth with the charges held\n");
     single::print_growth(&pair)?;
+    if let Some(bus) = bus {
+        println!("### Calls over an image\n");
+        bus::print(&pair, bus, repeat)?;
+    }
     println!("### Deepest stack\n");
     stack::print(&pair)?;
     println!("### What the plans are worth\n");
@@ -57,4 +64,11 @@ fn print_method(pair: &Pair, repeat: usize) -> Result<(), String> {
         "brackets. {cores} cores. Noise: the Rust program against itself has ratio {noise}.\n"
     );
     Ok(())
+}
+
+/// The tables of a bus alone.
+pub fn run_bus(program: &str, bus: &str, repeat: usize) -> Result<(), String> {
+    let pair = Pair::new(program, repeat)?;
+    print_method(&pair, repeat)?;
+    bus::print(&pair, bus, repeat)
 }

@@ -55,7 +55,8 @@ impl Pair {
         Pair::of_words(program, rust, repeat, "pair")
     }
 
-    fn of_words(
+    /// The second in the place of the Rust program; the name is for the folder.
+    pub fn of_words(
         program: Vec<String>,
         rust: Vec<String>,
         repeat: usize,

@@ -60,10 +60,14 @@ pub fn all_equal() -> Vec<Line> {
 /// So many minutes pass before a charge of `lasting` ends.
 pub const PASSING: u32 = 1_000;
 
+pub fn opening() -> Line {
+    line(&Call::Open { limit: 20, percent: 40, tail: 0 })
+}
+
 /// Charges that last and leave a point of line 3 free from the clock on, with ends in
 /// minutes of their own. Few go to line 3; the bound makes most of the others wait.
 pub fn lasting(held: usize) -> Vec<Line> {
-    let mut lines = vec![line(&Call::Open { limit: 20, percent: 40, tail: 0 })];
+    let mut lines = vec![opening()];
     for place in 0..held as u32 {
         let on = if place % 9 == 8 { 3 } else { 1 + place % 2 };
         lines.push(order(on, PASSING + 100 + 37 * place % 300, LOOSE));

@@ -9,7 +9,9 @@
 //! - `plan`: the common test of a plan, and the replan by latest start
 //! - `lines`: the replan by lines with caps as arrays of minutes
 //! - `priority`: which charge of a line is taken at a start
+//! - `image`: save and restore (N8)
 
+mod image;
 mod lines;
 mod plan;
 mod priority;
@@ -17,4 +19,5 @@ mod profile;
 mod search;
 mod station;
 
+pub use image::Fast;
 pub use station::Station;

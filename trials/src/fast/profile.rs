@@ -181,6 +181,10 @@ impl Profile {
         })
     }
 
+    pub fn is_sound(&self, rules: Rules) -> bool {
+        self.counts[..self.steps].iter().all(|counts| rules.sound(*counts))
+    }
+
     pub fn within_limit(&self, rules: Rules) -> bool {
         self.counts[..self.steps].iter().all(|counts| rules.within_limit(*counts))
     }

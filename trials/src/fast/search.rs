@@ -86,6 +86,7 @@ mod tests {
         let charge = |ticket| Charge {
             ticket: ticket as u32,
             line: random.below(3) as usize,
+            order: 0,
             time: random.between(21, 60) as u32,
             due: 0,
             rate: random.between(1, 2) as u16,
@@ -95,7 +96,7 @@ mod tests {
     }
 
     fn slow(charge: &Charge) -> reference::Charge {
-        let Charge { ticket, line, time, due, rate, start } = *charge;
+        let Charge { ticket, line, time, due, rate, start, .. } = *charge;
         let (line, rate) = (line as u32 + 1, rate.into());
         let (time, due, start) = (time.into(), due.into(), start.into());
         reference::Charge { ticket, line, order: 0, time, due, rate, start, tail: TAIL.into() }

@@ -6,14 +6,15 @@ use super::profile::{Load, Profile, Rules, Wanted};
 use super::search::earliest;
 use crate::yard::{Committed, Found, Moved, Order, Planned, Refusal, Yard};
 
-const PLACES: usize = 180;
-const LAST_TICKET: u32 = 65_535;
-const LAST_CLOCK: u32 = 1_000_000;
+pub const PLACES: usize = 180;
+pub const LAST_TICKET: u32 = 65_535;
+pub const LAST_CLOCK: u32 = 1_000_000;
 
 #[derive(Clone, Copy)]
 pub struct Charge {
     pub ticket: u32,
     pub line: usize,
+    pub order: u32,
     pub time: u32,
     pub due: u32,
     pub rate: u16,
@@ -38,7 +39,7 @@ impl Charge {
 }
 
 /// c × N / 100 rounded to the nearest whole number, an exact half to the even one.
-fn bound(limit: u32, percent: u32) -> u32 {
+pub fn bound(limit: u32, percent: u32) -> u32 {
     let (whole, rest) = (limit * percent / 100, limit * percent % 100);
     let up = rest > 50 || (rest == 50 && whole % 2 == 1);
     whole + u32::from(up)
@@ -46,10 +47,11 @@ fn bound(limit: u32, percent: u32) -> u32 {
 
 pub struct Station {
     pub rules: Rules,
+    pub percent: u32,
     /// r: contactors open so many minutes late.
     pub tail: u32,
     pub clock: u32,
-    next_ticket: u32,
+    pub next_ticket: u32,
     pub charges: Vec<Charge>,
 }
 
@@ -57,6 +59,7 @@ impl Station {
     pub fn fresh(limit: u32, percent: u32, tail: u32) -> Station {
         Station {
             rules: Rules { limit: limit as u16, bound: bound(limit, percent) as u16 },
+            percent,
             tail,
             clock: 0,
             next_ticket: 1,
@@ -142,7 +145,9 @@ impl Yard for Station {
             return Err(16);
         }
         let (ticket, line, rate) = (self.next_ticket, order.line as usize - 1, order.rate as u16);
-        self.charges.push(Charge { ticket, line, time: order.time, due: order.due, rate, start });
+        let Order { time, due, .. } = order;
+        let order = self.clock;
+        self.charges.push(Charge { ticket, line, order, time, due, rate, start });
         self.next_ticket += 1;
         Ok(Committed { ticket, start: u64::from(start) })
     }

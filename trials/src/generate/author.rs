@@ -9,7 +9,7 @@ use crate::interpret::Interpreter;
 use crate::protocol::{read_call, write_call, Call};
 use crate::random::Random;
 use crate::reference::Station;
-use crate::script::Script;
+use crate::script::{Line, Script};
 use crate::yard::Order;
 
 /// Enough places for every move that is meant to succeed.
@@ -28,6 +28,16 @@ impl Author {
     pub fn new(kind: &'static str, number: u64, random: Random) -> Author {
         let interpreter = Interpreter::new(Station::fresh(1, 100, 0));
         Author { random, interpreter, script: Script { kind, number, ..Script::default() } }
+    }
+
+    /// With this station in the place of the first.
+    pub fn from_station(station: Station, random: Random) -> Author {
+        let interpreter = Interpreter::new(station);
+        Author { random, interpreter, script: Script::default() }
+    }
+
+    pub fn lines_so_far(self) -> Vec<Line> {
+        self.script.lines
     }
 
     pub fn station(&self) -> &Station {

@@ -29,7 +29,8 @@ mod unopened;
 mod weights;
 
 use crate::random::Random;
-use crate::script::Script;
+use crate::reference::Station;
+use crate::script::{Line, Script};
 use author::Author;
 
 /// A kind of script: its name, its share among the shares of all kinds, and who
@@ -84,6 +85,16 @@ pub fn script(seed: u64, number: u64) -> Script {
 /// A script of one kind.
 pub fn script_of_kind(name: &str, seed: u64, number: u64) -> Option<Script> {
     Some(write(named(name)?, number, Random::of_script(seed, number)))
+}
+
+/// So many calls of all sorts from a station on, without an opening.
+pub fn continuing(station: Station, random: &mut Random, calls: u64) -> Vec<Line> {
+    let mut author = Author::from_station(station, Random::new(random.draw()));
+    let longest = random.pick(&[3, 12, 60, 400]);
+    for _ in 0..calls {
+        mixed::one_call(&mut author, longest);
+    }
+    author.lines_so_far()
 }
 
 fn named(name: &str) -> Option<&'static Kind> {

@@ -21,4 +21,4 @@ mod station;
 
 pub use judge::List;
 pub use latest::{in_ticket_order, latest_start_order};
-pub use station::{last_clear, last_end, Charge, Station};
+pub use station::{bound, last_clear, last_end, Charge, Station, PLACES};

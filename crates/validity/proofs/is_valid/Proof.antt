@@ -15,7 +15,7 @@ plan-sound-requires : tie.Need-plan-sound-requires
 plan-sound-requires c κs = all-profiled _ (c .before .before .before .pre) (sym (c .before .before .records-right .ensures) ∙ not-false _ (c .before .if1 .left))
 
 returns-2 : tie.Need-returns-2
-returns-2 c = valid-told _ (c .before .before .before .before .pre) _ _ (c .before .before .before .records-right .ensures) (not-false _ (c .before .before .if1 .left)) (c .plan-sound .ensures)
+returns-2 c = valid-told _ (c .before .before .before .before .pre) _ _ _ _ (c .before .before .before .records-right .ensures) (not-false _ (c .before .before .if1 .left)) (c .plan-sound .ensures) (search needs) (search needs)
 
 pub is-valid-spec : {M : Type 1} → statement M
 is-valid-spec = tie.close (tie.spec records-right-requires returns plan-sound-requires returns-2)

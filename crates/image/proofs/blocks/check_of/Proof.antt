@@ -16,11 +16,17 @@ abbrev μ-loop : tie.MeasureT-loop
 loop-holds : tie.Need-loop-holds Inv-loop μ-loop
 loop-holds c = (omega arith, omega arith, sym (weighed-none _))
 
-mul-weight : tie.Need-mul-weight Inv-loop μ-loop
-mul-weight c = omega arith
+cast-weight : tie.Need-cast-weight Inv-loop μ-loop
+cast-weight c = omega arith
 
 add-weight : tie.Need-add-weight Inv-loop μ-loop
 add-weight c = omega arith
+
+mul-weight : tie.Need-mul-weight Inv-loop μ-loop
+mul-weight c = omega arith
+
+add-weight-2 : tie.Need-add-weight-2 Inv-loop μ-loop
+add-weight-2 c = omega arith
 
 shared-slice-read-weight : tie.Need-shared-slice-read-weight Inv-loop μ-loop
 shared-slice-read-weight c = omega arith
@@ -57,8 +63,10 @@ check-of-spec =
     Inv-loop
     μ-loop
     loop-holds
-    mul-weight
+    cast-weight
     add-weight
+    mul-weight
+    add-weight-2
     shared-slice-read-weight
     weight-requires
     add-sum

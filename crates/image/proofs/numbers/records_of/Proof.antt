@@ -16,6 +16,12 @@ abbrev μ-loop : tie.MeasureT-loop
 loop-holds : tie.Need-loop-holds Inv-loop μ-loop
 loop-holds c = (omega arith, filling-none _ 900 _ (length-replicate {A = ℕ} 900 0))
 
+mul-time : tie.Need-mul-time Inv-loop μ-loop
+mul-time c = omega arith
+
+element-copy-out-time : tie.Need-element-copy-out-time Inv-loop μ-loop
+element-copy-out-time c = omega arith
+
 mul-joined : tie.Need-mul-joined Inv-loop μ-loop
 mul-joined c = omega arith
 
@@ -28,17 +34,11 @@ mul-joined-2 c = omega arith
 element-copy-out-joined-2 : tie.Need-element-copy-out-joined-2 Inv-loop μ-loop
 element-copy-out-joined-2 c = omega arith
 
-mul-joined-3 : tie.Need-mul-joined-3 Inv-loop μ-loop
-mul-joined-3 c = omega arith
-
-element-copy-out-joined-3 : tie.Need-element-copy-out-joined-3 Inv-loop μ-loop
-element-copy-out-joined-3 c = omega arith
-
 joined-requires : tie.Need-joined-requires Inv-loop μ-loop
 joined-requires c κs =
     let l = c .before .before .before .before in
     let x = l .before .pre .1 (l .loop .q) (c .before .before .before .loop-test .taken) in
-    (x .time-fits, x .line-fits, x .rate-fits)
+    omega (arith, x .time-fits, x .line-fits, x .rate-fits)
 
 mul-numbers : tie.Need-mul-numbers Inv-loop μ-loop
 mul-numbers c = omega arith
@@ -131,7 +131,10 @@ loop-again : tie.Need-loop-again Inv-loop μ-loop
 loop-again c =
     let j = c .before .before .before .before in
     let l = j .before .before .before .before .before in
-    (omega arith, record-filled (l .before .args .t1) (l .loop .q) (j .joined .result) (l .loop .inv .1) (omega arith) (j .joined .ensures))
+    let x = l .before .pre .1 (l .loop .q) (j .before .before .before .before .loop-test .taken) in (
+      omega arith,
+      record-filled (l .before .args .t1) (l .loop .q) (j .joined .result) (l .loop .inv .1) (omega arith) (omega (arith, j .joined .ensures, x .time-fits)),
+    )
 
 returns : tie.Need-returns Inv-loop μ-loop
 returns c =
@@ -145,12 +148,12 @@ records-of-spec =
     Inv-loop
     μ-loop
     loop-holds
+    mul-time
+    element-copy-out-time
     mul-joined
     element-copy-out-joined
     mul-joined-2
     element-copy-out-joined-2
-    mul-joined-3
-    element-copy-out-joined-3
     joined-requires
     mul-numbers
     element-copy-out-numbers

@@ -13,7 +13,7 @@ refused-requires c κs = search needs
 returns : tie.Need-returns
 returns c =
     let x = c .before .before .before .args .image .now in
-    restores-refused x 20 _ refl (c .refused .ensures) (refused-length x (c .before .if1 .taken))
+    restores-refused x 20 _ _ refl (c .refused .ensures) (search needs) (refused-length x (c .before .if1 .taken))
 
 all-checked-requires : tie.Need-all-checked-requires
 all-checked-requires c κs = search needs
@@ -24,7 +24,7 @@ refused-requires-2 c κs = search needs
 returns-2 : tie.Need-returns-2
 returns-2 c =
     let x = c .before .before .before .before .before .args .image .now in
-    restores-refused x 21 _ refl (c .refused2 .ensures)
+    restores-refused x 21 _ _ refl (c .refused2 .ensures) (search needs)
     (refused-check x (c .before .before .before .if1 .left) (sym (c .before .before .all-checked .ensures) ∙ not-true _ (c .before .if2 .taken)))
 
 header-right-requires : tie.Need-header-right-requires
@@ -36,7 +36,7 @@ refused-requires-3 c κs = search needs
 returns-3 : tie.Need-returns-3
 returns-3 c =
     let x = c .before .before .before .before .before .before .before .args .image .now in
-    restores-refused x 22 _ refl (c .refused3 .ensures)
+    restores-refused x 22 _ _ refl (c .refused3 .ensures) (search needs)
     (refused-contents x (c .before .before .before .before .before .if1 .left) (sym (c .before .before .before .before .all-checked .ensures) ∙ not-false _ (c .before .before .before .if2 .left))
     (header-wrong x (sym (c .before .before .header-right .ensures) ∙ not-true _ (c .before .if3 .taken))))
 
@@ -52,7 +52,7 @@ refused-requires-4 c κs = search needs
 returns-4 : tie.Need-returns-4
 returns-4 c =
     let x = c .before .before .before .before .before .before .before .before .before .before .args .image .now in
-    restores-refused x 22 _ refl (c .refused4 .ensures)
+    restores-refused x 22 _ _ refl (c .refused4 .ensures) (search needs)
     (refused-contents x (c .before .before .before .before .before .before .before .before .if1 .left) (sym (c .before .before .before .before .before .before .before .all-checked .ensures) ∙ not-false _ (c .before .before .before .before .before .before .if2 .left))
     (ap (isOf x) (sym (c .before .before .before .read .ensures .state)) ∙ sym (c .before .before .is-of .ensures) ∙ not-true _ (c .before .if4 .taken)))
 

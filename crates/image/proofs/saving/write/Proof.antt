@@ -20,7 +20,7 @@ same-length c = search needs
 returns : tie.Need-returns
 returns c =
     let b = c .before .before .before .before .before .before .before .before .before in
-    c .before .before .write-blocks .ensures (view (b .args .station)) (numbers-of (b .args .station) (b .pre .0) _ _ _ refl refl (c .before .before .before .before .before .before .records-of .ensures))
+    c .before .before .write-blocks .ensures (view (b .args .station)) (numbers-of (b .args .station) (b .pre .0) _ _ _ (search needs) (search needs) (c .before .before .before .before .before .before .records-of .ensures))
 
 pub write-spec : {M : Type 1} → statement M
 write-spec =

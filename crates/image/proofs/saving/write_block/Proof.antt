@@ -1,4 +1,4 @@
-use mathlib.Core.Path.{_≡_, sym, _∙_}
+use mathlib.Core.Path.{_≡_}
 use Prim.Native.Nat.{_+_, _-_, _*_, _≤_}
 use lib.ListN.{length, length-set}
 use Rattle.rules.specs.Calls.{State}
@@ -38,6 +38,12 @@ add-image c = omega arith
 slice-write-image : tie.Need-slice-write-image Inv-loop μ-loop
 slice-write-image c = omega arith
 
+cast-weight : tie.Need-cast-weight Inv-loop μ-loop
+cast-weight c = omega arith
+
+add-weight : tie.Need-add-weight Inv-loop μ-loop
+add-weight c = omega arith
+
 weight-requires : tie.Need-weight-requires Inv-loop μ-loop
 weight-requires c κs = omega arith
 
@@ -61,7 +67,7 @@ loop-again c =
           let g = l .loop .inv .3 s n f in
           let e = c .before .content .ensures s n in (
             content-more s (b .args .block) (b .pre .1) (g .0) _ (omega arith) e,
-            weighed-next s (b .args .block) (b .pre .1) (l .loop .i) (l .loop .sum) _ _ (g .1) (c .weight .ensures .0) e,
+            weighed-next s (b .args .block) (b .pre .1) (l .loop .i) (l .loop .sum) _ _ (g .1) (omega (arith, c .weight .ensures .0)) e,
           ),
     )
 
@@ -94,6 +100,8 @@ write-block-spec =
     mul-image
     add-image
     slice-write-image
+    cast-weight
+    add-weight
     weight-requires
     add-sum
     add-i

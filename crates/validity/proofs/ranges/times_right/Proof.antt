@@ -1,23 +1,29 @@
-use borrow.Author.Tests.{eq-eqb, le-leb, lt-leb, lt-ltb, le-ltb}
-use Rattle.layout.specs.Validity.{timesRight}
+use native.Mathlib.Omega.{arith}
+use Rattle.validity.proofs.Ranging.{ordered-late, started-early, is-finished, times-told}
 use borrow.Author.Needs.{needs}
 use Rattle.validity.proofs.ranges.times_right.Statement.{statement}
 use Rattle.validity.proofs.ranges.times_right.Tie as tie
 
 returns : tie.Need-returns
-unfolding timesRight
-returns c = simp (eq-eqb _ _ (c .before .pre .1), lt-leb _ _ (c .if1 .taken))
+returns c =
+    let s = c .before in
+    let a = s .args in
+    ordered-late (a .tail) (a .clock) (a .next) (a .order-minute) (a .start) (a .time) (a .active-time) (s .pre .1) (omega arith)
 
 returns-2 : tie.Need-returns-2
-unfolding timesRight
-returns-2 c = simp (eq-eqb _ _ (c .before .before .pre .1), le-leb _ _ (c .before .if1 .left), lt-leb _ _ (c .if2 .taken))
+returns-2 c =
+    let s = c .before .before in
+    let a = s .args in
+    started-early (a .tail) (a .clock) (a .next) (a .order-minute) (a .start) (a .time) (a .active-time) (s .pre .1) (omega arith) (omega arith)
 
 add-if3 : tie.Need-add-if3
 add-if3 c = search needs
 
 returns-3 : tie.Need-returns-3
-unfolding timesRight
-returns-3 c = simp (eq-eqb _ _ (c .before .before .before .pre .1), le-leb _ _ (c .before .before .if1 .left), le-leb _ _ (c .before .if2 .left), le-ltb _ _ (c .if3 .taken))
+returns-3 c =
+    let s = c .before .before .before in
+    let a = s .args in
+    is-finished (a .tail) (a .clock) (a .next) (a .order-minute) (a .start) (a .time) (a .active-time) (s .pre .1) (omega arith) (omega arith) (omega arith)
 
 add-result : tie.Need-add-result
 add-result c = search needs
@@ -32,8 +38,10 @@ add-result-2 : tie.Need-add-result-2
 add-result-2 c = search needs
 
 returns-4 : tie.Need-returns-4
-unfolding timesRight
-returns-4 c = simp (eq-eqb _ _ (c .before .before .before .pre .1), le-leb _ _ (c .before .before .if1 .left), le-leb _ _ (c .before .if2 .left), lt-ltb _ _ (c .if3 .left))
+returns-4 c =
+    let s = c .before .before .before in
+    let a = s .args in
+    times-told (a .tail) (a .clock) (a .next) (a .order-minute) (a .start) (a .time) (a .active-time) (s .pre .1) _ (omega arith) (omega arith) (omega arith) (search needs)
 
 pub times-right-spec : {M : Type 1} → statement M
 times-right-spec =

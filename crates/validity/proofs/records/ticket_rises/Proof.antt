@@ -16,7 +16,7 @@ ticket-or-next-requires-2 : tie.Need-ticket-or-next-requires-2
 ticket-or-next-requires-2 c κs = search needs
 
 returns-2 : tie.Need-returns-2
-returns-2 c = rises-is _ _ _ _ _ _ (c .before .before .ticket-or-next .ensures) (c .ticket-or-next2 .ensures) (c .before .if1 .left)
+returns-2 c = rises-is _ _ _ _ _ _ _ (c .before .before .ticket-or-next .ensures) (c .ticket-or-next2 .ensures) (c .before .if1 .left) (search needs)
 
 pub ticket-rises-spec : {M : Type 1} → statement M
 ticket-rises-spec =

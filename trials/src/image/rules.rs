@@ -1,0 +1,136 @@
+//! "stations whose fields are in range and meet neither refusal 3 nor 18, whose tickets,
+//! the next one last, are 1 or more and rise, whose charges are unfinished with starts not
+//! before order minutes, nor those after the clock, no end above the clock plus 1,445 for
+//! each ticket given, and whose plan is sound".
+
+use crate::reference::{minutes, Charge, Station, PLACES};
+use std::collections::BTreeSet;
+
+/// What can be wrong with the contents of an image.
+#[derive(Clone, Copy, Debug, PartialEq, Eq, PartialOrd, Ord)]
+pub enum Rule {
+    // Fields in range.
+    Limit,
+    Percent,
+    Tail,
+    Clock,
+    NextTicket,
+    Held,
+    Time,
+    Due,
+    Line,
+    Rate,
+    /// Refusal 3.
+    Bound,
+    /// Refusal 18.
+    RateAbove,
+    /// "tickets, the next one last, are 1 or more and rise"
+    Tickets,
+    /// "unfinished"
+    Finished,
+    /// "starts not before order minutes"
+    StartBeforeOrder,
+    /// "nor those after the clock"
+    OrderAfterClock,
+    /// "no end above the clock plus 1,445 for each ticket given"
+    EndTooLate,
+    /// "whose plan is sound"
+    Unsound,
+}
+
+/// Minutes by which an order moves the last end at most, tail included.
+const FOR_A_TICKET: u64 = 1_445;
+
+/// Every rule that a station breaks.
+pub fn broken(station: &Station) -> BTreeSet<Rule> {
+    let charges = station.charges.iter().flat_map(|charge| of_charge(charge, station));
+    let all = settings(station).into_iter().chain(charges);
+    let mut broken: BTreeSet<Rule> =
+        all.filter(|(_, holds)| !holds).map(|(rule, _)| rule).collect();
+    // A line that there is not has no count.
+    if !broken.contains(&Rule::Line) && !sound(station) {
+        broken.insert(Rule::Unsound);
+    }
+    broken
+}
+
+fn settings(station: &Station) -> [(Rule, bool); 8] {
+    let Station { limit, percent, bound, tail, clock, next_ticket, charges } = station;
+    let tickets: Vec<u32> =
+        charges.iter().map(|charge| charge.ticket).chain([*next_ticket]).collect();
+    let rising = tickets.windows(2).all(|pair| pair[0] < pair[1]);
+    // Without a limit or a percentage in range there is no bound to speak of.
+    let unbounded = !(1..=60).contains(limit) || *percent > 100;
+    [
+        (Rule::Limit, (1..=60).contains(limit)),
+        (Rule::Percent, *percent <= 100),
+        (Rule::Tail, *tail <= 5),
+        (Rule::Clock, *clock <= 1_000_000),
+        (Rule::NextTicket, (1..=65_536).contains(next_ticket)),
+        (Rule::Held, charges.len() <= PLACES),
+        (Rule::Bound, unbounded || *bound > 0),
+        (Rule::Tickets, tickets[0] >= 1 && rising),
+    ]
+}
+
+fn of_charge(charge: &Charge, station: &Station) -> [(Rule, bool); 9] {
+    let Station { limit, bound, clock, next_ticket, .. } = station;
+    let given = u64::from(next_ticket.saturating_sub(1));
+    let weight = charge.weight();
+    [
+        (Rule::Time, (1..=1_440).contains(&charge.time)),
+        (Rule::Due, charge.due <= 2_000_000),
+        (Rule::Line, (1..=3).contains(&charge.line)),
+        (Rule::Rate, weight == 1 || weight == 2),
+        (Rule::RateAbove, weight <= *limit && weight <= *bound),
+        (Rule::Finished, !charge.finished(*clock)),
+        (Rule::StartBeforeOrder, charge.start >= charge.order),
+        (Rule::OrderAfterClock, charge.order <= *clock),
+        (Rule::EndTooLate, charge.end() <= clock + FOR_A_TICKET * given),
+    ]
+}
+
+/// Counts change where a charge begins or ends to draw and nowhere else, so these minutes
+/// stand for all from the clock on. The others may be a hundred million.
+fn sound(station: &Station) -> bool {
+    let Station { clock, charges, .. } = station;
+    let changes = charges.iter().flat_map(|charge| [charge.start, charge.clear()]);
+    let minutes: BTreeSet<u64> = changes.map(|minute| minute.max(*clock)).collect();
+    let rules = station.rules();
+    minutes.iter().all(|minute| rules.sound_in(&minutes::counts(charges, *minute, 1)[0]))
+}
+
+#[cfg(test)]
+mod tests {
+    use super::*;
+    use crate::random::Random;
+    use crate::reference::last_clear;
+
+    fn drawn(random: &mut Random) -> Station {
+        let clock = 50;
+        let mut station = Station { clock, ..Station::fresh(random.between(1, 4), 60, 2) };
+        for ticket in 1..=random.between(0, 6) as u32 {
+            let (line, rate) = (random.between(1, 3) as u32, random.between(1, 2) as u32);
+            let (start, time) = (random.between(30, 70), random.between(1, 30));
+            let charge = Charge { ticket, line, order: 30, time, due: 0, rate, start, tail: 2 };
+            station.charges.push(charge);
+        }
+        station
+    }
+
+    /// The minutes of change say what all minutes say.
+    #[test]
+    fn sound_in_every_minute() {
+        let mut random = Random::new(4);
+        let mut unsound = 0;
+        for _ in 0..2_000 {
+            let station = drawn(&mut random);
+            let minutes = last_clear(&station.charges).saturating_sub(station.clock);
+            let counts = minutes::counts(&station.charges, station.clock, minutes);
+            let all = counts.iter().all(|counts| station.rules().sound_in(counts));
+            assert_eq!(sound(&station), all, "{station:?}");
+            unsound += usize::from(!all);
+        }
+        assert!((400..1_600).contains(&unsound), "{unsound}");
+    }
+}

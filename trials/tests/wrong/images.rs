@@ -1,0 +1,104 @@
+//! Images with a fault in how they are written or in what is accepted.
+
+use super::Fault;
+use trials::bus::images::Images;
+use trials::image::blocks::{self, Contents, BLOCK, CONTENT};
+use trials::image::rules::{self, Rule};
+use trials::image::{contents_of, refuse_size, station_in, CHECK, CONTENTS};
+use trials::reference::Station;
+use trials::yard::Refusal;
+
+pub struct Wrong(pub Fault);
+
+impl Wrong {
+    fn check(&self, content: &[u8]) -> u32 {
+        match self.0 {
+            Fault::CheckWithoutPlace => content.iter().map(|byte| u32::from(*byte)).sum(),
+            Fault::CheckOf507Bytes => blocks::check(&content[..CONTENT - 1]),
+            _ => blocks::check(content),
+        }
+    }
+
+    /// There and back again.
+    fn turned(&self, mut contents: Contents) -> Contents {
+        if self.0 == Fault::BigEndian {
+            contents[0][..24].chunks_mut(4).for_each(<[u8]>::reverse);
+            for record in contents[1..].iter_mut().flat_map(|block| block[..500].chunks_mut(20)) {
+                record[..16].chunks_mut(4).for_each(<[u8]>::reverse);
+                record[16..18].reverse();
+            }
+        }
+        contents
+    }
+
+    fn checks_are_right(&self, image: &[u8]) -> bool {
+        let right = |block: &[u8]| {
+            let (content, written) = block.split_at(CONTENT);
+            written == self.check(content).to_le_bytes()
+        };
+        self.0 == Fault::AnyCheck || image.chunks(BLOCK).all(right)
+    }
+
+    fn accepts(&self, station: &Station) -> bool {
+        let mut broken = rules::broken(station);
+        let tickets: Vec<u32> = station.charges.iter().map(|charge| charge.ticket).collect();
+        let end = |start: u64, time: u64| u64::from((start as u32).wrapping_add(time as u32));
+        let ceiling = station.clock + 1_445 * u64::from(station.next_ticket.saturating_sub(1));
+        let mut ends = station.charges.iter().map(|charge| end(charge.start, charge.time));
+        let ignored = match self.0 {
+            Fault::UnsoundTaken => Some(Rule::Unsound),
+            Fault::FinishedTaken => Some(Rule::Finished),
+            Fault::TicketsRepeat if tickets.windows(2).all(|pair| pair[0] <= pair[1]) => {
+                Some(Rule::Tickets)
+            }
+            Fault::EndIn32Bits if ends.all(|end| end <= ceiling) => Some(Rule::EndTooLate),
+            _ => None,
+        };
+        ignored.map(|rule| broken.remove(&rule));
+        broken.is_empty() && !self.refuses_more(station)
+    }
+
+    fn refuses_more(&self, station: &Station) -> bool {
+        let past = Station { clock: 0, ..station.clone() };
+        match self.0 {
+            Fault::SoundInThePast => rules::broken(&past).contains(&Rule::Unsound),
+            Fault::DueRefused => {
+                station.charges.iter().any(|charge| charge.due < charge.order + charge.time)
+            }
+            Fault::Only180Tickets => station.next_ticket > 181,
+            _ => false,
+        }
+    }
+}
+
+impl Images for Wrong {
+    type Yard = Station;
+
+    fn fresh(&self) -> Station {
+        Station::fresh(1, 100, 0)
+    }
+
+    fn restore(&self, image: &[u8]) -> Result<Station, Refusal> {
+        refuse_size(image)?;
+        let contents = self.turned(blocks::contents(image));
+        let station = station_in(&contents);
+        let same = self.0 == Fault::SpareByteTaken || contents_of(&station) == contents;
+        let in_order = same && self.accepts(&station);
+        match (self.checks_are_right(image), in_order) {
+            (true, true) => Ok(station),
+            (false, false) if self.0 == Fault::ContentsBeforeChecks => Err(CONTENTS),
+            (false, _) => Err(CHECK),
+            (true, false) => Err(CONTENTS),
+        }
+    }
+
+    fn save(&self, yard: &Station, image: &mut [u8]) -> Result<(), Refusal> {
+        refuse_size(image)?;
+        let contents = self.turned(contents_of(yard));
+        for (block, content) in image.chunks_mut(BLOCK).zip(&contents) {
+            block[..CONTENT].copy_from_slice(content);
+            block[CONTENT..].copy_from_slice(&self.check(content).to_le_bytes());
+        }
+        Ok(())
+    }
+}
