@@ -30,9 +30,9 @@ refused-left Refused p q = refl
 
 -- nothing of the lent list is printed
 pub enquiry-line :
-    (a : EnquiryAnswer) (list : List ℕ) {before : List ℕ} {at : ℕ} {after : List ℕ} {next : ℕ}
-    → Printed (answerText (enquiryAnswer a) []) before at after next → Printed (answerText (enquiryAnswer a) list) before at after next
+    (a : EnquiryAnswer) (asked : ℕ) (list : List ℕ) {before : List ℕ} {at : ℕ} {after : List ℕ} {next : ℕ}
+    → Printed (answerText (enquiryAnswer a) 0 []) before at after next → Printed (answerText (enquiryAnswer a) asked list) before at after next
 unfolding answerText
-enquiry-line (Waiting start rate) list p = p
-enquiry-line (Charging start end rate) list p = p
-enquiry-line Refused list p = p
+enquiry-line (Waiting start rate) asked list p = p
+enquiry-line (Charging start end rate) asked list p = p
+enquiry-line Refused asked list p = p

@@ -1,15 +1,16 @@
-// The answers as text, each with its line feed. A buffer has room for an answer where 96 bytes are left, and 42 more for each pair
-// that a clock move reports.
+// The answers as text, each with its line feed. A buffer has room for an answer where 96 bytes are left, and 21 more for each number
+// of the lent list that is printed with it.
 ghost use Prim.Native.Nat.{_+_, _*_, _≤_};
 ghost use mathlib.Core.List.{[]};
 ghost use lib.ListN.{length};
-ghost use Rattle.rules.specs.Calls.{refused, moved as movedAnswer};
+ghost use Rattle.rules.specs.Calls.{refused, moved as movedAnswer, looked as lookedAnswer};
 ghost use Rattle.station.specs.Answers.{openAnswer, enquiryAnswer};
 ghost use Rattle.calls.specs.Applied.{answerOf};
 ghost use Rattle.text.specs.Printed.{Printed};
-ghost use Rattle.answers.specs.Answers.{one, two, three, four, answerText, pairsOf, errorText};
+ghost use Rattle.answers.specs.Answers.{one, two, three, four, answerText, listedOf, errorText};
 use calls::Answer;
 use requests::Reason;
+use station::board::BoardAnswer;
 use station::clock::MoveAnswer;
 use station::enquiry::EnquiryAnswer;
 use station::open::OpenAnswer;
@@ -73,15 +74,15 @@ fn print_four(
 
 fn print_refused(number: u32, buffer: &mut [u8], at: usize) -> usize
     requires { ⌜ at + 96 ≤ length (now buffer) ⌝ }
-    ensures { λ r. ⌜ Printed (answerText (refused number) []) (now (buffer .entry)) at (now (buffer .exit)) r ⌝ }
+    ensures { λ r. ⌜ Printed (answerText (refused number) 0 []) (now (buffer .entry)) at (now (buffer .exit)) r ⌝ }
 {
     print_one(b"refused ", number as u64, buffer, at)
 }
 
 // The reported pairs stand at the front of the list that was lent to the move.
 fn print_moved(reported: usize, dropped: usize, list: &[u32], buffer: &mut [u8], at: usize) -> usize
-    requires { ⌜ (2 * reported ≤ length (now list)) × (at + (96 + 42 * reported) ≤ length (now buffer)) ⌝ }
-    ensures { λ r. ⌜ Printed (answerText (movedAnswer reported dropped) (now (list .entry))) (now (buffer .entry)) at (now (buffer .exit)) r ⌝ }
+    requires { ⌜ (2 * reported ≤ length (now list)) × (at + (96 + 21 * (2 * reported)) ≤ length (now buffer)) ⌝ }
+    ensures { λ r. ⌜ Printed (answerText (movedAnswer reported dropped) 0 (now (list .entry))) (now (buffer .entry)) at (now (buffer .exit)) r ⌝ }
 {
     let a = print_field(b"moved ", reported as u64, buffer, at);
     let b = print_field(b" dropped ", dropped as u64, buffer, a);
@@ -90,9 +91,19 @@ fn print_moved(reported: usize, dropped: usize, list: &[u32], buffer: &mut [u8],
     print_text(b"\n", buffer, d)
 }
 
+// The answers of the tickets asked for stand at the front of the list that was lent to the board.
+fn print_board(looked: usize, asked: usize, list: &[u32], buffer: &mut [u8], at: usize) -> usize
+    requires { ⌜ (asked ≤ length (now list)) × (at + (96 + 21 * asked) ≤ length (now buffer)) ⌝ }
+    ensures { λ r. ⌜ Printed (answerText (lookedAnswer looked) asked (now (list .entry))) (now (buffer .entry)) at (now (buffer .exit)) r ⌝ }
+{
+    let a = print_field(b"board ", looked as u64, buffer, at);
+    let b = print_list(list, asked, buffer, a);
+    print_text(b"\n", buffer, b)
+}
+
 fn print_enquiry(answer: EnquiryAnswer, buffer: &mut [u8], at: usize) -> usize
     requires { ⌜ at + 96 ≤ length (now buffer) ⌝ }
-    ensures { λ r. ⌜ Printed (answerText (enquiryAnswer answer) []) (now (buffer .entry)) at (now (buffer .exit)) r ⌝ }
+    ensures { λ r. ⌜ Printed (answerText (enquiryAnswer answer) 0 []) (now (buffer .entry)) at (now (buffer .exit)) r ⌝ }
 {
     if let EnquiryAnswer::Waiting { start, rate } = answer {
         return print_two(b"waiting ", start as u64, b" ", rate as u64, buffer, at);
@@ -112,7 +123,7 @@ fn print_enquiry(answer: EnquiryAnswer, buffer: &mut [u8], at: usize) -> usize
 
 pub fn print_opening(answer: OpenAnswer, buffer: &mut [u8], at: usize) -> usize
     requires { ⌜ at + 96 ≤ length (now buffer) ⌝ }
-    ensures { λ r. ⌜ Printed (answerText (openAnswer answer) []) (now (buffer .entry)) at (now (buffer .exit)) r ⌝ }
+    ensures { λ r. ⌜ Printed (answerText (openAnswer answer) 0 []) (now (buffer .entry)) at (now (buffer .exit)) r ⌝ }
 {
     match answer {
         OpenAnswer::Opened(bound) => print_one(b"open 0 ", bound as u64, buffer, at),
@@ -120,10 +131,16 @@ pub fn print_opening(answer: OpenAnswer, buffer: &mut [u8], at: usize) -> usize
     }
 }
 
-// The answer of any call, with the list that was lent for its report.
-pub fn print_answer(answer: Answer, list: &[u32], buffer: &mut [u8], at: usize) -> usize
-    requires { ⌜ (2 * pairsOf (answerOf answer) ≤ length (now list)) × (at + (96 + 42 * pairsOf (answerOf answer)) ≤ length (now buffer)) ⌝ }
-    ensures { λ r. ⌜ Printed (answerText (answerOf answer) (now (list .entry))) (now (buffer .entry)) at (now (buffer .exit)) r ⌝ }
+// The answer of any call, with the number of tickets that were asked for and the list that was lent for writing.
+pub fn print_answer(
+    answer: Answer,
+    asked: usize,
+    list: &[u32],
+    buffer: &mut [u8],
+    at: usize,
+) -> usize
+    requires { ⌜ (listedOf (answerOf answer) asked ≤ length (now list)) × (at + (96 + 21 * listedOf (answerOf answer) asked) ≤ length (now buffer)) ⌝ }
+    ensures { λ r. ⌜ Printed (answerText (answerOf answer) asked (now (list .entry))) (now (buffer .entry)) at (now (buffer .exit)) r ⌝ }
 {
     match answer {
         Answer::Preview(preview) => match preview {
@@ -169,6 +186,10 @@ pub fn print_answer(answer: Answer, list: &[u32], buffer: &mut [u8], at: usize) 
             PlanAnswer::Refused(number) => print_refused(number, buffer, at),
         },
         Answer::Enquiry(enquiry) => print_enquiry(enquiry, buffer, at),
+        Answer::Board(board) => match board {
+            BoardAnswer::Looked(looked) => print_board(looked, asked, list, buffer, at),
+            BoardAnswer::Refused(number) => print_refused(number, buffer, at),
+        },
     }
 }
 

@@ -3,13 +3,13 @@ use mathlib.Core.Path.{_≡_}
 use Prim.Native.Nat.{ℕ}
 use mathlib.Core.List.{List, []}
 use Rattle.rules.specs.Calls as rules
-use Rattle.rules.specs.Calls.{State, preview, commit, move, offer, replanLatest, replanLines, enquire, step}
+use Rattle.rules.specs.Calls.{State, preview, commit, move, offer, replanLatest, replanLines, enquire, board, step}
 use Rattle.station.specs.declared.Station.{Station}
 use Rattle.calls.specs.declared.Call.{Call}
-use Rattle.calls.specs.declared.Call.the-variants.{Preview, Commit, Move, Offer, ReplanLatest, ReplanLines, Enquire}
+use Rattle.calls.specs.declared.Call.the-variants.{Preview, Commit, Move, Offer, ReplanLatest, ReplanLines, Enquire, Board}
 use Rattle.calls.specs.declared.Answer.{Answer}
-use Rattle.calls.specs.declared.Answer.the-variants.{Preview as PreviewOf, Commit as CommitOf, Move as MoveOf, Plan as PlanOf, Enquiry as EnquiryOf}
-use Rattle.station.specs.Answers.{Gives, previewAnswer, commitAnswer, moveAnswer, planAnswer, enquiryAnswer}
+use Rattle.calls.specs.declared.Answer.the-variants.{Preview as PreviewOf, Commit as CommitOf, Move as MoveOf, Plan as PlanOf, Enquiry as EnquiryOf, Board as BoardOf}
+use Rattle.station.specs.Answers.{Gives, previewAnswer, commitAnswer, moveAnswer, planAnswer, enquiryAnswer, boardAnswer}
 
 -- the call of the rules, with the lists that are lent to it
 abbrev pub callOf : Call → List ℕ → List ℕ → rules.Call
@@ -20,12 +20,14 @@ callOf Offer numbers list = offer numbers
 callOf ReplanLatest numbers list = replanLatest
 callOf (ReplanLines allowance) numbers list = replanLines allowance
 callOf (Enquire ticket) numbers list = enquire ticket
+callOf Board numbers list = board numbers list
 
--- Which of the two lists is lent to a call, as the rules have it: none of them, the one that it reads, or the one that it writes.
+-- Which of the two lists a call takes: none of them, the one that it reads, the one that it writes, or both.
 pub data Lends : Type 0 where
   none : Lends
   reads : Lends
   writes : Lends
+  both : Lends
 
 abbrev pub lends : Call → Lends
 lends (Preview line time due rate) = none
@@ -35,21 +37,24 @@ lends Offer = reads
 lends ReplanLatest = none
 lends (ReplanLines allowance) = none
 lends (Enquire ticket) = none
+lends Board = both
 
--- the list lent to the call as it is afterwards
+-- the list lent to the call, as the rules have it, afterwards: the one that it writes, or else the one that it reads
 abbrev pub lentOf : Lends → List ℕ → List ℕ → List ℕ
 lentOf none read written = []
 lentOf reads read written = read
 lentOf writes read written = written
+lentOf both read written = written
 
 abbrev pub listAfter : Call → List ℕ → List ℕ → List ℕ
 listAfter call read written = lentOf (lends call) read written
 
--- a list for writing that is not lent to the call stays
+-- a list for writing that the call does not take stays
 abbrev pub ListStays : Lends → List ℕ → List ℕ → Type 0
 ListStays none before after = after ≡ before
 ListStays reads before after = after ≡ before
 ListStays writes before after = Unit {0}
+ListStays both before after = Unit {0}
 
 abbrev pub answerOf : Answer → rules.Answer
 answerOf (PreviewOf a) = previewAnswer a
@@ -57,6 +62,7 @@ answerOf (CommitOf a) = commitAnswer a
 answerOf (MoveOf a) = moveAnswer a
 answerOf (PlanOf a) = planAnswer a
 answerOf (EnquiryOf a) = enquiryAnswer a
+answerOf (BoardOf a) = boardAnswer a
 
 -- exactly what one step of the rules gives
 pub record Applies (s : State) (call : Call) (numbers before after : List ℕ) (answer : Answer) (next : Station) : Type 0 where

@@ -1,5 +1,6 @@
 // Any call of a station that stands, given as a value, with the lists lent beside it.
 use station::Station;
+use station::board::BoardAnswer;
 use station::clock::MoveAnswer;
 use station::enquiry::EnquiryAnswer;
 use station::order::CommitAnswer;
@@ -33,6 +34,7 @@ pub enum Call {
     Enquire {
         ticket: u32,
     },
+    Board,
 }
 
 pub enum Answer {
@@ -41,6 +43,7 @@ pub enum Answer {
     Move(MoveAnswer),
     Plan(PlanAnswer),
     Enquiry(EnquiryAnswer),
+    Board(BoardAnswer),
 }
 
 pub struct Applied {
@@ -48,8 +51,8 @@ pub struct Applied {
     pub station: Station,
 }
 
-// One call: an offer reads its starts from `numbers`, a clock move writes its report to `list`, and no other call touches
-// either.
+// One call. An offer reads its starts from `numbers`, and a board its tickets; a clock move writes its report to `list`, and a
+// board its answers. No other call touches either.
 pub fn apply(station: Station, call: Call, numbers: &[u32], list: &mut [u32]) -> Applied
     requires { ⌜ Valid station ⌝ }
     ensures { λ r. ⌜ Applies (view station) call (now (numbers .entry)) (now (list .entry)) (now (list .exit)) (r .answer) (r .station) ⌝ }
@@ -126,6 +129,15 @@ pub fn apply(station: Station, call: Call, numbers: &[u32], list: &mut [u32]) ->
             let after = done.station;
             Applied {
                 answer: Answer::Enquiry(answer),
+                station: after,
+            }
+        }
+        Call::Board => {
+            let done = station.board(numbers, list);
+            let answer = done.answer;
+            let after = done.station;
+            Applied {
+                answer: Answer::Board(answer),
                 station: after,
             }
         }

@@ -9,4 +9,6 @@ pub mod Comparing
 pub mod Passing
 pub mod Latest
 pub mod Reporting
+pub mod Ascending
+pub mod Boarding
 pub mod Holding

@@ -8,7 +8,6 @@ use Rattle.rules.specs.Load.{limited, balanced, sound}
 use Rattle.rules.specs.Search.{earliest}
 use Rattle.rules.specs.Replan.{placeAll, latest}
 use Rattle.rules.specs.Judgement.{judged}
-use Rattle.rules.specs.CasesAToL.{ordersE}
 use Rattle.rules.specs.Entry.{lentList}
 use Rattle.rules.specs.Calls.{refused, waiting, charging, preview, commit, move, offer, replanLatest, board, withdraw, opening, previewing, committing, moving, offering, replanningLatest, enquiring, boarding, withdrawing}
 use Rattle.guarantee.specs.DemandThree.{DemandThree}
@@ -222,10 +221,10 @@ clock-lost d = let h : _≡_ {A = ℕ} 2 1 = d .orders .0 .reported (omega arith
 
 -- Withdrawn orders
 
--- `balance`: in minute 5 two charges of line 1, none of line 2
-balance-untested : DemandThree balanceUntested two (ordersE ++ (withdraw 5 ∷ [])) → ⊥
+-- `balance`: in minute 0 two charges of line 1, none of line 2
+balance-untested : DemandThree balanceUntested two (fourOrders 0 ++ (withdraw 2 ∷ [])) → ⊥
 unfolding limited balanced sound earliest opening committing enquiring withdrawing
-balance-untested d = let h : 2 ≤ 1 = d .balance 1 2 5 line-one line-two in omega arith
+balance-untested d = let h : 2 ≤ 1 = d .balance 1 2 0 line-one line-two in omega arith
 
 -- `gone`: ticket 1 has been reported
 begun-withdrawn : DemandThree begunWithdrawn one (single ∷ move 1 lentList ∷ withdraw 1 ∷ []) → ⊥

@@ -2,7 +2,6 @@
 use Prim.Native.Nat.{ℕ}
 use mathlib.Core.Bool.{Bool}
 use mathlib.Core.List.{List, [], _∷_, _++_, map}
-use Rattle.rules.specs.CasesAToL.{ordersE}
 use Rattle.rules.specs.Entry.{lentList}
 use Rattle.rules.specs.Calls.{settings, State, Call, preview, commit, move, offer, replanLatest, board, withdraw, opening, step}
 use Rattle.guarantee.specs.Past.{Gives}
@@ -110,8 +109,8 @@ wrongEntries =
     ∷ only endWithTail oneTailed (single ∷ to 1 ∷ []) (charges ∷ [])
     ∷ only droppedLate one (single ∷ to 10 ∷ []) (finished ∷ [])
     ∷ only neverDropped one (single ∷ to 99 ∷ []) (finished ∷ [])
-    -- without ticket 5 minutes 5 to 9 count 2, 0, 1
-    ∷ only balanceUntested two (ordersE ++ (withdraw 5 ∷ [])) (balance ∷ [])
+    -- without ticket 2 minutes 0 to 9 count 2, 0, 1
+    ∷ only balanceUntested two (fourOrders 0 ++ (withdraw 2 ∷ [])) (balance ∷ [])
     ∷ only begunWithdrawn one (single ∷ to 1 ∷ withdraw 1 ∷ []) (gone-not-reported ∷ [])
     ∷ only withdrawnHeld one (single ∷ withdraw 1 ∷ []) (gone-not-held ∷ [])
     -- the second order has ticket 1 again, which is withdrawn

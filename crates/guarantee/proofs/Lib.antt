@@ -1,4 +1,5 @@
 pub mod Each
+pub mod Counted
 pub mod Tables
 pub mod History
 pub mod Reports

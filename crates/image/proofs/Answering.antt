@@ -17,25 +17,32 @@ use Rattle.layout.specs.Lists.{every}
 use Rattle.layout.specs.Image.{imageOf}
 use Rattle.layout.specs.Validity.{settingsRanged, boundRight, isValid}
 use Rattle.layout.specs.Reading.{headerAt, chargeIn, stateIn, checked, same, isOf, restoreRefusal, restoring}
-use Rattle.layout.specs.Saving.{saving}
+use Rattle.layout.specs.Blocks.{differing}
 use Rattle.layout.proofs.Testing.{Tested, valid-tested}
 use Rattle.layout.proofs.Validity.{valid-by-test}
+use Rattle.layout.proofs.Refusing.{saving-written, saving-refused}
 use Rattle.layout.proofs.RoundTrip.{restoring-valid}
 use Rattle.validity.specs.Settled.{settingsValid, Settled}
 use Rattle.image.specs.Columns.{headerRight, ReadFrom}
-use Rattle.image.specs.Answers.{saved, Saves, restored, Restores}
+use Rattle.image.specs.Answers.{Saves, restored, Restores}
 use Rattle.image.specs.declared.restoring.Restored.{Restored}
 
 -- Saving
 
-module _ (s : State) (xs : List ℕ) where
-  pub saves-refused : (length xs ≡ 4608 → ⊥) → Saves s xs xs 20
-  unfolding saving
-  saves-refused n = record { result = rw (ne-eqb (length xs) 4608 n) }
+module _ (s : State) (previous xs : List ℕ) where
+  pub saves-refused :
+      (n : ℕ) → (length previous ≡ 4608 → length xs ≡ 4608 → ⊥) → n ≡ 20 → Saves s previous xs xs (record { answer = n; blocks = 0 })
+  saves-refused n h e = record { result = rw e (sym (saving-refused s previous xs h)) }
 
-  pub saves-done : (ys : List ℕ) → length xs ≡ 4608 → ys ≡ imageOf s → Saves s xs ys 0
-  unfolding saving
-  saves-done ys e w = record { result = rw (eq-eqb (length xs) 4608 e, w) }
+  pub saves-done :
+      (ps ys : List ℕ) (n : ℕ)
+      → length previous ≡ 4608
+      → length xs ≡ 4608
+      → ps ≡ previous
+      → ys ≡ imageOf s
+      → n ≡ differing ps ys
+      → Saves s previous xs ys (record { answer = 0; blocks = n })
+  saves-done ps ys n h l p w e = record { result = rw (e, p, w) (sym (saving-written s previous xs h l)) }
 
 -- The contents of an image
 

@@ -6,7 +6,7 @@ use mathlib.Core.List.{List}
 use native.Mathlib.Omega.{arith}
 use native.Mathlib.Nat.{mul-le-mul}
 use lib.ListN.{length, getD, set, length-set}
-use lib.Seq.{getD-set-same, getD-set-other}
+use lib.Seq.{ext-getD, getD-set-same, getD-set-other}
 use Rattle.rules.specs.Calls.{State}
 use Rattle.rules.proofs.Ranges.{below-or-not}
 use Rattle.layout.specs.Lists.{listed}
@@ -49,6 +49,10 @@ filling-at r p v m e g h i = rw (e, g) (filling-more r v h i)
 
 pub filling-all : {f : ℕ → ℕ} {n k : ℕ} {xs : List ℕ} → Filling f n k xs → n ≤ k → xs ≡ listed f n
 filling-all {f} {n} {k} {xs} r h = is-listed f n xs (r .long) (λ j l. r .done j (omega arith))
+
+-- filled by the places of another list of the same length
+pub filling-same : {n k : ℕ} (xs ys : List ℕ) → Filling (λ j. getD ys j 0) n k xs → length ys ≡ n → n ≤ k → xs ≡ ys
+filling-same xs ys r e h = ext-getD 0 xs ys (r .long ∙ sym e) (λ j l. r .done j (omega (arith, r .long)))
 
 -- the four bytes of a number
 pub filling-put :

@@ -7,13 +7,14 @@ use Rattle.station.specs.View.{view, Valid}
 use Rattle.layout.specs.Reading.{RestoreResult, restoring}
 use Rattle.layout.specs.Saving.{SaveResult, saving}
 use Rattle.image.specs.declared.restoring.Restored.{Restored}
-
-abbrev pub saved : ℕ → List ℕ → SaveResult
-saved refusal image = record { refusal = refusal; image = image }
+use Rattle.image.specs.declared.saving.Saved.{Saved}
 
 -- the answer and the whole of the lent list afterwards
-pub record Saves (s : State) (before after : List ℕ) (r : ℕ) : Type 0 where
-  pub result : saved r after ≡ saving s before
+abbrev pub saved : Saved → List ℕ → SaveResult
+saved r image = record { refusal = r .answer; blocks = r .blocks; image = image }
+
+pub record Saves (s : State) (previous before after : List ℕ) (r : Saved) : Type 0 where
+  pub result : saved r after ≡ saving s previous before
 
 abbrev pub restored : Restored → RestoreResult
 restored r = record { refusal = r .answer; state = view (r .station) }

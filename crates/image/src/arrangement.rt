@@ -4,25 +4,25 @@ ghost use Prim.Native.Nat.{_<_};
 ghost use Rattle.layout.specs.Arrangement.{numberOf, recordOf, byteIn, placeOf};
 
 // How many of the numbers a block has.
-pub const PER_BLOCK: usize = 500;
+pub const PER_BLOCK: usize = 508;
 
 pub fn number_of(q: usize, j: usize) -> usize
     requires { ⌜ (q < 200) × (j < 20) ⌝ }
     ensures { λ r. ⌜ (r ≡ numberOf q j) × (r < 4000) ⌝ }
 {
-    20 * q + j
+    200 * j + q
 }
 
 pub fn record_of(z: usize) -> usize
     ensures { λ r. ⌜ r ≡ recordOf z ⌝ }
 {
-    z / 20
+    z % 200
 }
 
 pub fn byte_in(z: usize) -> usize
     ensures { λ r. ⌜ r ≡ byteIn z ⌝ }
 {
-    z % 20
+    z / 200
 }
 
 pub fn place_of(z: usize) -> usize

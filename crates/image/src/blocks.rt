@@ -1,4 +1,4 @@
-// The checks of the blocks.
+// The checks of the blocks, and how many blocks of two images differ.
 use crate::bytes::number_at;
 use crate::bytes::wide;
 ghost use mathlib.Core.Path.{_≡_};
@@ -7,6 +7,7 @@ ghost use lib.ListN.{length};
 ghost use Rattle.layout.specs.Lists.{every};
 ghost use Rattle.layout.specs.Image.{checkOf};
 ghost use Rattle.layout.specs.Reading.{inBlock, checked};
+ghost use Rattle.layout.specs.Blocks.{sameBlock, differing};
 
 // What a byte of a block counts for: the factor is its place + 1.
 pub fn weight(factor: u32, byte: u8) -> u32
@@ -39,4 +40,31 @@ pub fn all_checked(image: &[u8]) -> bool
         }
     }
     true
+}
+
+// Whether a block has the same 512 bytes in two images.
+fn same_block(a: &[u8], b: &[u8], block: usize) -> bool
+    requires { ⌜ (block < 9) × (length (now a) ≡ 4608) × (length (now b) ≡ 4608) ⌝ }
+    ensures { λ r. ⌜ r ≡ sameBlock (now (a .entry)) (now (b .entry)) block ⌝ }
+{
+    for i in 0..512 {
+        if a[512 * block + i] != b[512 * block + i] {
+            return false;
+        }
+    }
+    true
+}
+
+// How many of the nine blocks differ.
+pub fn differing_blocks(a: &[u8], b: &[u8]) -> u32
+    requires { ⌜ (length (now a) ≡ 4608) × (length (now b) ≡ 4608) ⌝ }
+    ensures { λ r. ⌜ r ≡ differing (now (a .entry)) (now (b .entry)) ⌝ }
+{
+    let mut count: u32 = 0;
+    for number in 0..9 {
+        if !same_block(a, b, number) {
+            count += 1;
+        }
+    }
+    count
 }

@@ -1,4 +1,5 @@
 // A station written as an image, block by block.
+use crate::blocks::differing_blocks;
 use crate::blocks::weight;
 use crate::bytes::put_number;
 use crate::contents::content;
@@ -13,6 +14,12 @@ ghost use Rattle.layout.specs.Image.{imageOf};
 ghost use Rattle.station.specs.View.{view, Valid};
 ghost use Rattle.image.specs.Numbers.{BlockWritten, Written};
 ghost use Rattle.image.specs.Answers.{Saves};
+
+// 0 and how many blocks differ from the previous image, or the refusal.
+pub struct Saved {
+    pub answer: u32,
+    pub blocks: u32,
+}
 
 // The 508 bytes of a block, then its check.
 fn write_block<'a>(
@@ -67,14 +74,53 @@ pub fn write(station: Station, image: &mut [u8])
     write_blocks(&header, &records, held, image);
 }
 
-// 0, or the refusal 20, and then nothing is written.
-pub fn save(station: Station, image: &mut [u8]) -> u32
-    requires { ⌜ Valid station ⌝ }
-    ensures { λ r. ⌜ Saves (view station) (now (image .entry)) (now (image .exit)) r ⌝ }
+// A copy of an image.
+fn copied(image: &[u8]) -> [u8; 4608]
+    requires { ⌜ length (now image) ≡ 4608 ⌝ }
+    ensures { λ r. ⌜ r ≡ now (image .entry) ⌝ }
 {
+    let mut copy = [0u8; 4608];
+    for k in 0..4608 {
+        copy[k] = image[k];
+    }
+    copy
+}
+
+// How many blocks differ from the previous image; or the refusal 20, and then nothing is written.
+pub fn save(station: Station, previous: &[u8], image: &mut [u8]) -> Saved
+    requires { ⌜ Valid station ⌝ }
+    ensures { λ r. ⌜ Saves (view station) (now (previous .entry)) (now (image .entry)) (now (image .exit)) r ⌝ }
+{
+    if previous.len() != 4608 {
+        return Saved {
+            answer: 20,
+            blocks: 0,
+        };
+    }
     if image.len() != 4608 {
-        return 20;
+        return Saved {
+            answer: 20,
+            blocks: 0,
+        };
     }
     write(station, image);
-    0
+    let blocks = differing_blocks(previous, image);
+    Saved { answer: 0, blocks }
+}
+
+// The same where the previous image is the one that is lent: how many of its blocks change.
+pub fn save_back(station: Station, image: &mut [u8]) -> Saved
+    requires { ⌜ Valid station ⌝ }
+    ensures { λ r. ⌜ Saves (view station) (now (image .entry)) (now (image .entry)) (now (image .exit)) r ⌝ }
+{
+    if image.len() != 4608 {
+        return Saved {
+            answer: 20,
+            blocks: 0,
+        };
+    }
+    let before = copied(image);
+    write(station, image);
+    let blocks = differing_blocks(&before, image);
+    Saved { answer: 0, blocks }
 }

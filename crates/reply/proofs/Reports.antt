@@ -1,6 +1,6 @@
--- How much a call reports: only a clock move does, and the lent list is printed nowhere else.
+-- How much of the lent list is printed: a report or the answers of a board, and nothing with any other answer.
 use mathlib.Core.Path.{_≡_, refl}
-use mathlib.Core.Bool.{Bool, true, false, cond}
+use mathlib.Core.Bool.{Bool, true, false, cond, not, _||_}
 use mathlib.Core.List.{List, [], _∷_}
 use Prim.Native.Nat.{ℕ, zero, suc, _*_, _≤_}
 use native.Mathlib.Omega.{arith}
@@ -13,100 +13,123 @@ use Rattle.rules.specs.Replan as replan
 use Rattle.rules.specs.Replan.{Proposal, latest, byLines}
 use Rattle.rules.specs.Judgement.{judged}
 use Rattle.rules.specs.Calls as rules
-use Rattle.rules.specs.Calls.{State, Answer, refused, opened, previewed, committed, moved, planned, waiting, charging, preview, commit, move, offer, replanLines, enquire, Result, step, refusals, answering, drawFor, startFor, previewedAt, decided, tested, limitsOf, previewing, committing, moving, offering, replanningLatest, replanningLines, enquiring, isPassed, startBefore}
+use Rattle.rules.specs.Calls.{State, Answer, refused, opened, previewed, committed, moved, planned, waiting, charging, looked, preview, commit, move, offer, replanLines, enquire, board, Result, step, refusals, answering, drawFor, startFor, previewedAt, decided, tested, limitsOf, previewing, committing, moving, offering, replanningLatest, replanningLines, enquiring, boarding, risesFrom, isPassed, startBefore}
 use Rattle.rules.proofs.Lists.{length-keep}
 use Rattle.charges.proofs.Sorting.{length-sorted}
-use Rattle.answers.specs.Answers.{answerText, pairsOf}
+use Rattle.answers.specs.Answers.{answerText, listedOf}
 use Rattle.calls.specs.declared.Call.{Call}
-use Rattle.calls.specs.declared.Call.the-variants.{Preview, Commit, Move, Offer, ReplanLatest, ReplanLines, Enquire}
-use Rattle.calls.specs.Applied.{callOf, Lends, none, reads, writes, lends, lentOf}
+use Rattle.calls.specs.declared.Call.the-variants.{Preview, Commit, Move, Offer, ReplanLatest, ReplanLines, Enquire, Board}
+use Rattle.calls.specs.Applied.{callOf, Lends, none, reads, writes, both, lends, lentOf}
 use Rattle.reply.specs.Reply.{told}
 
--- the lent list is printed where something is reported, and nowhere else
-text-same : (a : Answer) (list other : List ℕ) → pairsOf a ≡ 0 → answerText a list ≡ answerText a other
+-- where nothing of the lent list is printed, any other would do
+text-same : (a : Answer) (asked : ℕ) (list other : List ℕ) → listedOf a asked ≡ 0 → answerText a asked list ≡ answerText a asked other
 unfolding answerText
-text-same (refused k) list other e = refl
-text-same (opened d) list other e = refl
-text-same (previewed u) list other e = refl
-text-same (committed t u) list other e = refl
-text-same (moved k d) list other e = rw e
-text-same (planned c b a k) list other e = refl
-text-same (waiting u w) list other e = refl
-text-same (charging u v w) list other e = refl
+text-same (refused k) asked list other e = refl
+text-same (opened d) asked list other e = refl
+text-same (previewed u) asked list other e = refl
+text-same (committed t u) asked list other e = refl
+text-same (moved k d) asked list other e = rw e
+text-same (planned c b a k) asked list other e = refl
+text-same (waiting u w) asked list other e = refl
+text-same (charging u v w) asked list other e = refl
+text-same (looked n) asked list other e = rw e
 
-refused-none : (i : ℕ) (s : State) (list : List ℕ) (r : Result) → pairsOf (r .answer) ≡ 0 → pairsOf (answering i s list r .answer) ≡ 0
-refused-none zero s list r e = e
-refused-none (suc k) s list r e = refl
+-- Whatever numbers were read, nothing is printed of the list with any answer but a move's and a board's
 
-previewed-none : (s : State) (f : Found) → pairsOf (previewedAt s f .answer) ≡ 0
-previewed-none s (at start) = refl
-previewed-none s nothing = refl
+module _ (asked : ℕ) where
+  refused-none : (i : ℕ) (s : State) (list : List ℕ) (r : Result) → listedOf (r .answer) asked ≡ 0 → listedOf (answering i s list r .answer) asked ≡ 0
+  refused-none zero s list r e = e
+  refused-none (suc k) s list r e = refl
 
-decided-none : (s : State) (rounds : ℕ) (ss list : List ℕ) (cause : ℕ) → pairsOf (decided s rounds ss list cause .answer) ≡ 0
-decided-none s rounds ss list zero = refl
-decided-none s rounds ss list (suc k) = refl
+  previewed-none : (s : State) (f : Found) → listedOf (previewedAt s f .answer) asked ≡ 0
+  previewed-none s (at start) = refl
+  previewed-none s nothing = refl
 
-tested-none : (s : State) (rounds : ℕ) (p : Proposal) (list : List ℕ) → pairsOf (tested s rounds p list .answer) ≡ 0
-tested-none s rounds (replan.starts ss) list = decided-none s rounds ss list (judged (limitsOf s) (s .clock) (s .charges) ss)
-tested-none s rounds (replan.none cause) list = refl
+  decided-none : (s : State) (rounds : ℕ) (ss list : List ℕ) (cause : ℕ) → listedOf (decided s rounds ss list cause .answer) asked ≡ 0
+  decided-none s rounds ss list zero = refl
+  decided-none s rounds ss list (suc k) = refl
 
-enquired-none : (clock : ℕ) (cs : List Charge) (ticket : ℕ) → pairsOf (rules.told clock cs ticket) ≡ 0
-enquired-none clock [] ticket = refl
-enquired-none clock (c ∷ cs) ticket = go (eqb (c .ticket) ticket) (isBegun clock c) (enquired-none clock cs ticket)
-  where
-    go :
-        (a b : Bool) → pairsOf (rules.told clock cs ticket) ≡ 0
-        → pairsOf (cond a (cond b (charging (c .start) (endOf c) (c .rate)) (waiting (c .start) (c .rate))) (rules.told clock cs ticket)) ≡ 0
-    go true true h = refl
-    go true false h = refl
-    go false b h = h
+  tested-none : (s : State) (rounds : ℕ) (p : Proposal) (list : List ℕ) → listedOf (tested s rounds p list .answer) asked ≡ 0
+  tested-none s rounds (replan.starts ss) list = decided-none s rounds ss list (judged (limitsOf s) (s .clock) (s .charges) ss)
+  tested-none s rounds (replan.none cause) list = refl
+
+  enquired-none : (clock : ℕ) (cs : List Charge) (ticket : ℕ) → listedOf (rules.told clock cs ticket) asked ≡ 0
+  enquired-none clock [] ticket = refl
+  enquired-none clock (c ∷ cs) ticket = go (eqb (c .ticket) ticket) (isBegun clock c) (enquired-none clock cs ticket)
+    where
+      go :
+          (a b : Bool) → listedOf (rules.told clock cs ticket) asked ≡ 0
+          → listedOf (cond a (cond b (charging (c .start) (endOf c) (c .rate)) (waiting (c .start) (c .rate))) (rules.told clock cs ticket)) asked ≡ 0
+      go true true h = refl
+      go true false h = refl
+      go false b h = h
 
 -- "report list under 360 places" is refused, and no more charges are reported than are held
 few-moved :
-    (s : State) (target : ℕ) (list : List ℕ) → length (s .charges) ≤ 180
-    → (pairsOf (step s (move target list) .answer) ≤ 180) × (2 * pairsOf (step s (move target list) .answer) ≤ length list)
+    (s : State) (target asked : ℕ) (list : List ℕ) → length (s .charges) ≤ 180
+    → (listedOf (step s (move target list) .answer) asked ≤ 360) × (listedOf (step s (move target list) .answer) asked ≤ length list)
 unfolding moving
-few-moved s target list few = go (ltb 1000000 target) refl (ltb (length list) 360) refl (ltb target (s .clock)) refl
+few-moved s target asked list few = go (ltb 1000000 target) refl (ltb (length list) 360) refl (ltb target (s .clock)) refl
   where
     go :
         (a : Bool) → ltb 1000000 target ≡ a → (b : Bool) → ltb (length list) 360 ≡ b → (d : Bool) → ltb target (s .clock) ≡ d
-        → (pairsOf (step s (move target list) .answer) ≤ 180) × (2 * pairsOf (step s (move target list) .answer) ≤ length list)
+        → (listedOf (step s (move target list) .answer) asked ≤ 360) × (listedOf (step s (move target list) .answer) asked ≤ length list)
     go true p b q d u = rw p (omega arith)
     go false p true q d u = rw (p, q) (omega arith)
     go false p false q true u = rw (p, q, u) (omega arith)
     go false p false q false u =
         rw (p, q, u) (omega (arith, length-sorted startBefore (keep (isPassed (s .clock) target) (s .charges)), length-keep (isPassed (s .clock) target) (s .charges), few, ltb-false (length list) 360 q))
 
--- what a call reports: nothing, but for a clock move
+-- an answer list that is too short is refused, and so are more tickets than 180
+few-boarded :
+    (s : State) (ss list : List ℕ)
+    → (listedOf (step s (board ss list) .answer) (length ss) ≤ 360) × (listedOf (step s (board ss list) .answer) (length ss) ≤ length list)
+unfolding boarding
+few-boarded s ss list = go (risesFrom 0 ss) refl (ltb 180 (length ss)) refl (ltb (length list) (length ss)) refl
+  where
+    go :
+        (a : Bool) → risesFrom 0 ss ≡ a → (b : Bool) → ltb 180 (length ss) ≡ b → (d : Bool) → ltb (length list) (length ss) ≡ d
+        → (listedOf (step s (board ss list) .answer) (length ss) ≤ 360) × (listedOf (step s (board ss list) .answer) (length ss) ≤ length list)
+    go false p b q d u = rw p (omega arith)
+    go true p true q d u = rw (p, q) (omega arith)
+    go true p false q true u = rw (p, q, u) (omega arith)
+    go true p false q false u = rw (p, q, u) (omega (arith, ltb-false 180 (length ss) q, ltb-false (length list) (length ss) u))
+
+-- how many numbers of the list are printed with what a call answers
 abbrev pub Reports : Lends → ℕ → ℕ → Type 0
 Reports none n places = n ≡ 0
 Reports reads n places = n ≡ 0
-Reports writes n places = (n ≤ 180) × (2 * n ≤ places)
+Reports writes n places = (n ≤ 360) × (n ≤ places)
+Reports both n places = (n ≤ 360) × (n ≤ places)
 
 pub reports :
     (s : State) (c : Call) (ss list : List ℕ) → length (s .charges) ≤ 180
-    → Reports (lends c) (pairsOf (step s (callOf c ss list) .answer)) (length list)
+    → Reports (lends c) (listedOf (step s (callOf c ss list) .answer) (length ss)) (length list)
 unfolding previewing committing offering replanningLatest replanningLines enquiring
 reports s (Preview line time due rate) ss list few =
-    refused-none (firstOf (refusals s (preview line time due rate))) s [] (previewing s line time due rate) (previewed-none s (startFor s (drawFor s line time rate)))
+    refused-none (length ss) (firstOf (refusals s (preview line time due rate))) s [] (previewing s line time due rate) (previewed-none (length ss) s (startFor s (drawFor s line time rate)))
 reports s (Commit line time due rate shown) ss list few =
-    refused-none (firstOf (refusals s (commit line time due rate shown))) s [] (committing s line time due rate shown) refl
-reports s (Move target) ss list few = few-moved s target list few
-reports s Offer ss list few = refused-none (firstOf (refusals s (offer ss))) s ss (offering s ss) (tested-none s 0 (replan.starts ss) ss)
-reports s ReplanLatest ss list few = tested-none s 0 (latest (limitsOf s) (s .clock) (s .charges)) []
+    refused-none (length ss) (firstOf (refusals s (commit line time due rate shown))) s [] (committing s line time due rate shown) refl
+reports s (Move target) ss list few = few-moved s target (length ss) list few
+reports s Offer ss list few = refused-none (length ss) (firstOf (refusals s (offer ss))) s ss (offering s ss) (tested-none (length ss) s 0 (replan.starts ss) ss)
+reports s ReplanLatest ss list few = tested-none (length ss) s 0 (latest (limitsOf s) (s .clock) (s .charges)) []
 reports s (ReplanLines allowance) ss list few =
-    refused-none (firstOf (refusals s (replanLines allowance))) s [] (replanningLines s allowance) (tested-none s (byLines (limitsOf s) (s .clock) allowance (s .charges) .rounds) (byLines (limitsOf s) (s .clock) allowance (s .charges) .proposal) [])
+    refused-none (length ss) (firstOf (refusals s (replanLines allowance))) s [] (replanningLines s allowance) (tested-none (length ss) s (byLines (limitsOf s) (s .clock) allowance (s .charges) .rounds) (byLines (limitsOf s) (s .clock) allowance (s .charges) .proposal) [])
 reports s (Enquire ticket) ss list few =
-    refused-none (firstOf (refusals s (enquire ticket))) s [] (enquiring s ticket) (enquired-none (s .clock) (s .charges) ticket)
+    refused-none (length ss) (firstOf (refusals s (enquire ticket))) s [] (enquiring s ticket) (enquired-none (length ss) (s .clock) (s .charges) ticket)
+reports s Board ss list few = few-boarded s ss list
 
-pub few-reports : (l : Lends) (n places : ℕ) → Reports l n places → (n ≤ 180) × (2 * n ≤ places)
+pub few-reports : (l : Lends) (n places : ℕ) → Reports l n places → (n ≤ 360) × (n ≤ places)
 few-reports none n places h = omega arith
 few-reports reads n places h = omega arith
 few-reports writes n places h = h
+few-reports both n places h = h
 
 pub text-after :
-    (l : Lends) (a : Answer) (ss list : List ℕ) (places : ℕ) → Reports l (pairsOf a) places
-    → answerText a list ≡ answerText a (lentOf l ss list)
-text-after none a ss list places h = text-same a list [] h
-text-after reads a ss list places h = text-same a list ss h
-text-after writes a ss list places h = refl
+    (l : Lends) (a : Answer) (asked : ℕ) (ss list : List ℕ) (places : ℕ) → Reports l (listedOf a asked) places
+    → answerText a asked list ≡ answerText a asked (lentOf l ss list)
+text-after none a asked ss list places h = text-same a asked list [] h
+text-after reads a asked ss list places h = text-same a asked list ss h
+text-after writes a asked ss list places h = refl
+text-after both a asked ss list places h = refl

@@ -1,8 +1,9 @@
--- A list that is filled place by place.
+-- A list that is filled place by place, and the numbers behind the first.
 use mathlib.Core.Path.{_≡_, refl, ap}
-use mathlib.Core.List.{List, _∷_, _++_}
+use mathlib.Core.List.{List, [], _∷_, _++_}
 use Prim.Native.Nat.{ℕ, zero, suc, _+_, _<_}
 use native.Mathlib.Numerals.{add-one}
+use native.Mathlib.Omega.{arith}
 use lib.ListN.{length, drop, getD, set, replicate, length-replicate}
 use lib.Seq.{drop-cons, set-at}
 
@@ -16,3 +17,8 @@ pub filled-more :
 filled-more list i v h =
     rw (drop-cons list i 0 h, set-at (replicate i v) (getD list i 0) (drop (suc i) list) v i (length-replicate i v), add-one i)
     (filled-first i v (drop (suc i) list))
+
+-- behind the first of none there is none
+pub none-behind : (ns : List ℕ) → length ns < 1 → drop 0 ns ≡ drop 1 ns
+none-behind [] h = refl
+none-behind (n ∷ ns) h = absurd (omega arith)

@@ -194,14 +194,14 @@ front-means :
     → meaning r (take k list) ≡ meaning r list
 front-means k list asked.Nothing h f = refl
 front-means k list (asked.Open x) h f = refl
-front-means k list (asked.Call c starts places) h f =
-    rw (take-take starts k list (omega (arith, length-take-le k list h, f .0)))
+front-means k list (asked.Call c from until places) h f =
+    rw (take-take until k list (omega (arith, length-take-le k list h, f .1 .0)))
 front-means k list (asked.Error reason) h f = refl
 
 fits-more : (k : ℕ) (r : declared.Request) → k ≤ 2048 → Fits k r → Fits 2048 r
 fits-more k asked.Nothing h f = tt
 fits-more k (asked.Open x) h f = tt
-fits-more k (asked.Call c starts places) h f = (omega (arith, f .0), f .1)
+fits-more k (asked.Call c from until places) h f = (f .0, (omega (arith, f .1 .0), f .1 .1))
 fits-more k (asked.Error reason) h f = tt
 
 -- a name that is none, numbers that are wrong, a call

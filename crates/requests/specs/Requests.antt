@@ -4,9 +4,9 @@ use mathlib.Core.Path.{_≡_}
 use mathlib.Core.Bool.{Bool, true, cond}
 use mathlib.Core.List.{List, [], _∷_}
 use lib.Dec.{ltb, eqb}
-use lib.ListN.{length, getD, take, replicate}
-use lib.Seq.{sets}
-use Rattle.rules.specs.Calls.{Settings, settings, Call, preview, commit, move, offer, replanLatest, replanLines, enquire}
+use lib.ListN.{length, getD, take, drop, replicate}
+use lib.Seq.{sets, slice}
+use Rattle.rules.specs.Calls.{Settings, settings, Call, preview, commit, move, offer, replanLatest, replanLines, enquire, board}
 use Rattle.text.specs.Numbers.{numberOf}
 use Rattle.text.specs.Parts.{split}
 use Rattle.text.specs.declared.number.Number.{Number}
@@ -15,7 +15,7 @@ use Rattle.requests.specs.Words.{named}
 use Rattle.requests.specs.declared.request.Reason.{Reason}
 use Rattle.requests.specs.declared.request.Reason.the-variants.{UnknownCall, NotANumber, NumberTooLarge, MissingNumber, ExtraNumber, LineTooLong}
 use Rattle.requests.specs.declared.word.CallName.{CallName}
-use Rattle.requests.specs.declared.word.CallName.the-variants.{Open, Preview, Commit, Move, Offer, Latest, Lines, Enquire, Unknown}
+use Rattle.requests.specs.declared.word.CallName.the-variants.{Open, Preview, Commit, Move, Offer, Latest, Lines, Enquire, Board, Unknown}
 use Rattle.station.specs.Answers.{settingsOf}
 use Rattle.calls.specs.Applied as applied
 use Rattle.requests.specs.declared.request.Request as declared
@@ -37,8 +37,8 @@ pub data Numbers : Type 0 where
   numbers : List ℕ → Numbers
   wrong : Reason → Numbers
 
--- How many numbers a call takes, at least and at most. An offer takes as many as a request can hold: after `offer` 4,091 bytes
--- are left, and a number with the space before it has two at least. Those are 2,045, so that 2,048 are never passed.
+-- How many numbers a call takes, at least and at most. An offer and a board take as many as a request can hold: after `offer` or
+-- `board` 4,091 bytes are left, and a number with the space before it has two at least. Those are 2,045, so that 2,048 are never passed.
 abbrev pub taken : CallName → Takes
 taken Open = Between 3 3
 taken Preview = Between 4 4
@@ -48,6 +48,7 @@ taken Offer = Between 0 2048
 taken Latest = Between 0 0
 taken Lines = Between 1 1
 taken Enquire = Between 1 1
+taken Board = Between 1 2048
 taken Unknown = NoCall
 
 abbrev pub AtMost : ℕ → Takes → Type 0
@@ -78,7 +79,7 @@ valuesRead most [] = []
 valuesRead zero (word ∷ words) = []
 valuesRead (suc most) (word ∷ words) = before (numberOf word) (valuesRead most words)
 
--- the list that is lent to a move: at most 4,096 places
+-- the list that is lent to a move or a board: at most 4,096 places
 abbrev pub lentList : ℕ → List ℕ
 lentList places = replicate (min places 4096) 4294967295
 
@@ -92,6 +93,7 @@ callOf Offer ns = call (offer ns)
 callOf Latest ns = call replanLatest
 callOf Lines ns = call (replanLines (getD ns 0 0))
 callOf Enquire ns = call (enquire (getD ns 0 0))
+callOf Board ns = call (board (drop 1 ns) (lentList (getD ns 0 0)))
 callOf Unknown ns = error UnknownCall
 
 abbrev pub called : CallName → Numbers → Asked
@@ -147,20 +149,21 @@ Within most (count.Wrong reason) = Unit {0}
 abbrev pub meaning : declared.Request → List ℕ → Asked
 meaning request.Nothing list = nothing
 meaning (request.Open x) list = opening (settingsOf x)
-meaning (request.Call c k places) list = call (applied.callOf c (take k list) (lentList places))
+meaning (request.Call c from until places) list = call (applied.callOf c (slice from until list) (lentList places))
 meaning (request.Error reason) list = error reason
 
--- what is lent beside a call: places to a call that reports, and to no other
-abbrev pub Lent : applied.Lends → ℕ → Type 0
-Lent applied.none places = places ≡ 0
-Lent applied.reads places = places ≡ 0
-Lent applied.writes places = Unit {0}
+-- what is lent beside a call: numbers up to `until` to one that reads, places to one that writes, and to no other
+abbrev pub Lent : applied.Lends → ℕ → ℕ → Type 0
+Lent applied.none until places = (until ≡ 0) × (places ≡ 0)
+Lent applied.reads until places = places ≡ 0
+Lent applied.writes until places = until ≡ 0
+Lent applied.both until places = Unit {0}
 
--- a call's starts are among the first k numbers of the list
+-- the numbers that a call reads are among the first k of the list
 abbrev pub Fits : ℕ → declared.Request → Type 0
 Fits k request.Nothing = Unit {0}
 Fits k (request.Open x) = Unit {0}
-Fits k (request.Call c starts places) = (starts ≤ k) × Lent (applied.lends c) places
+Fits k (request.Call c from until places) = (from ≤ until) × ((until ≤ k) × Lent (applied.lends c) until places)
 Fits k (request.Error reason) = Unit {0}
 
 -- The code's call of a name with its numbers: what it means, and what is lent beside it.

@@ -4,7 +4,7 @@ use mathlib.Core.Bool.{cond}
 use mathlib.Core.List.{List, [], _∷_}
 use Rattle.text.specs.Parts.{sameText}
 use Rattle.requests.specs.declared.word.CallName.{CallName}
-use Rattle.requests.specs.declared.word.CallName.the-variants.{Open, Preview, Commit, Move, Offer, Latest, Lines, Enquire, Unknown}
+use Rattle.requests.specs.declared.word.CallName.the-variants.{Open, Preview, Commit, Move, Offer, Latest, Lines, Enquire, Board, Unknown}
 
 -- the call that a word names
 abbrev pub named : List ℕ → CallName
@@ -25,4 +25,6 @@ named word =
     (cond (sameText word (108 ∷ 105 ∷ 110 ∷ 101 ∷ 115 ∷ [])) Lines
     -- "enquire"
     (cond (sameText word (101 ∷ 110 ∷ 113 ∷ 117 ∷ 105 ∷ 114 ∷ 101 ∷ [])) Enquire
-    Unknown)))))))
+    -- "board"
+    (cond (sameText word (98 ∷ 111 ∷ 97 ∷ 114 ∷ 100 ∷ [])) Board
+    Unknown))))))))

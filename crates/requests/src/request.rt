@@ -23,8 +23,9 @@ pub enum Reason {
     LineTooLong,
 }
 
-// What a line of text asks for. The starts of an offer stand at the front of the list that was lent for reading, and a clock
-// move asks for so many places to report to; any other call has none of either.
+// What a line of text asks for. The numbers that an offer or a board reads stand in the list that was lent for reading, in the
+// places from `from` up to `until`; a clock move and a board ask for so many places to write to. Any other call has none of
+// either.
 pub enum Request {
     Nothing,
     Open {
@@ -32,11 +33,15 @@ pub enum Request {
     },
     Call {
         call: Call,
-        starts: usize,
+        from: usize,
+        until: usize,
         places: u32,
     },
     Error(Reason),
 }
+
+// The most numbers that are read: more than a request can hold.
+const MOST: usize = 2048;
 
 // How many numbers a call takes, at least and at most.
 enum Takes {
@@ -50,7 +55,7 @@ enum Numbers {
     Wrong(Reason),
 }
 
-// An offer takes as many numbers as a request can hold.
+// An offer and a board take as many numbers as a request can hold.
 fn taken(name: CallName) -> Takes
     ensures { λ r. ⌜ (r ≡ taken name) × AtMost 2048 r ⌝ }
 {
@@ -61,11 +66,15 @@ fn taken(name: CallName) -> Takes
         CallName::Move => Takes::Between { least: 2, most: 2 },
         CallName::Offer => Takes::Between {
             least: 0,
-            most: 2048,
+            most: MOST,
         },
         CallName::Latest => Takes::Between { least: 0, most: 0 },
         CallName::Lines => Takes::Between { least: 1, most: 1 },
         CallName::Enquire => Takes::Between { least: 1, most: 1 },
+        CallName::Board => Takes::Between {
+            least: 1,
+            most: MOST,
+        },
         CallName::Unknown => Takes::NoCall,
     }
 }
@@ -107,6 +116,13 @@ fn number_at(numbers: &[u32], i: usize) -> u32
     if i < numbers.len() { numbers[i] } else { 0 }
 }
 
+// Where the numbers behind the first begin.
+fn behind_first(numbers: &[u32]) -> usize
+    ensures { λ r. ⌜ (r ≤ length (now (numbers .entry))) × (drop r (now (numbers .entry)) ≡ drop 1 (now (numbers .entry))) ⌝ }
+{
+    if numbers.len() < 1 { 0 } else { 1 }
+}
+
 // The call of a name with its numbers.
 fn call_of(name: CallName, numbers: &[u32]) -> Request
     ensures { λ r. ⌜ Calls name (now (numbers .entry)) r ⌝ }
@@ -131,7 +147,8 @@ fn call_of(name: CallName, numbers: &[u32]) -> Request
                 due: third,
                 rate: fourth,
             },
-            starts: 0,
+            from: 0,
+            until: 0,
             places: 0,
         },
         CallName::Commit => Request::Call {
@@ -142,34 +159,49 @@ fn call_of(name: CallName, numbers: &[u32]) -> Request
                 rate: fourth,
                 shown: fifth,
             },
-            starts: 0,
+            from: 0,
+            until: 0,
             places: 0,
         },
         CallName::Move => Request::Call {
             call: Call::Move { target: first },
-            starts: 0,
+            from: 0,
+            until: 0,
             places: second,
         },
         CallName::Offer => Request::Call {
             call: Call::Offer,
-            starts: numbers.len(),
+            from: 0,
+            until: numbers.len(),
             places: 0,
         },
         CallName::Latest => Request::Call {
             call: Call::ReplanLatest,
-            starts: 0,
+            from: 0,
+            until: 0,
             places: 0,
         },
         CallName::Lines => Request::Call {
             call: Call::ReplanLines { allowance: first },
-            starts: 0,
+            from: 0,
+            until: 0,
             places: 0,
         },
         CallName::Enquire => Request::Call {
             call: Call::Enquire { ticket: first },
-            starts: 0,
+            from: 0,
+            until: 0,
             places: 0,
         },
+        CallName::Board => {
+            let from = behind_first(numbers);
+            Request::Call {
+                call: Call::Board,
+                from,
+                until: numbers.len(),
+                places: first,
+            }
+        }
         CallName::Unknown => Request::Error(Reason::UnknownCall),
     }
 }
@@ -210,14 +242,14 @@ pub fn read_request(text: &[u8], numbers: &mut [u32]) -> Request
     read_call(text, end, name, numbers)
 }
 
-// How many places are lent to a move that asks for this many.
+// How many places are lent to a call that asks for this many.
 pub fn places_lent(places: u32) -> usize
     ensures { λ r. ⌜ (r ≡ min places 4096) × (r ≤ 4096) ⌝ }
 {
     if places < 4096 { places as usize } else { 4096 }
 }
 
-// Fills that many places of a list that is lent to a move.
+// Fills that many places of a list that is lent for writing.
 pub fn fill_lent(list: &mut [u32], places: usize)
     requires { ⌜ places ≤ length (now list) ⌝ }
     ensures { λ _. ⌜ now (list .exit) ≡ replicate places 4294967295 ++ drop places (now (list .entry)) ⌝ }

@@ -15,6 +15,7 @@ pub enum CallName {
     Latest,
     Lines,
     Enquire,
+    Board,
     Unknown,
 }
 
@@ -29,6 +30,7 @@ pub fn call_named(word: &[u8]) -> CallName
     ensures { λ r. ⌜ r ≡ named (now (word .entry)) ⌝ }
 {
     let name = CallName::Unknown;
+    let name = named_or(word, b"board", CallName::Board, name);
     let name = named_or(word, b"enquire", CallName::Enquire, name);
     let name = named_or(word, b"lines", CallName::Lines, name);
     let name = named_or(word, b"latest", CallName::Latest, name);

@@ -2,6 +2,7 @@ pub mod Refusing
 pub mod Listing
 pub mod Opened
 pub mod Enquiring
+pub mod OnTheBoard
 pub mod Ordered
 pub mod Planned
 pub mod Moved

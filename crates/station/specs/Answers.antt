@@ -3,7 +3,7 @@ use Prim.Native.Nat.{ℕ}
 use mathlib.Core.Path.{_≡_}
 use mathlib.Core.List.{List}
 use Rattle.rules.specs.Calls as rules
-use Rattle.rules.specs.Calls.{State, settings, Answer, refused, opened, previewed, committed, moved, planned, waiting, charging, Result, tested}
+use Rattle.rules.specs.Calls.{State, settings, Answer, refused, opened, previewed, committed, moved, planned, waiting, charging, looked, Result, tested}
 use Rattle.rules.specs.Replan.{Proposal}
 use Rattle.charges.specs.Arrays.{Columns}
 use Rattle.station.specs.declared.Station.{Station}
@@ -20,6 +20,8 @@ use Rattle.station.specs.declared.plan.PlanAnswer.{PlanAnswer}
 use Rattle.station.specs.declared.plan.PlanAnswer.the-variants.{Planned, Refused as PlanRefused}
 use Rattle.station.specs.declared.enquiry.EnquiryAnswer.{EnquiryAnswer}
 use Rattle.station.specs.declared.enquiry.EnquiryAnswer.the-variants.{Waiting, Charging, Refused as EnquiryRefused}
+use Rattle.station.specs.declared.board.BoardAnswer.{BoardAnswer}
+use Rattle.station.specs.declared.board.BoardAnswer.the-variants.{Looked, Refused as BoardRefused}
 use Rattle.station.specs.View.{view, Valid}
 
 -- an answer, the station beside it and the lent list, as a result of the rules
@@ -65,3 +67,7 @@ abbrev pub enquiryAnswer : EnquiryAnswer → Answer
 enquiryAnswer (Waiting start rate) = waiting start rate
 enquiryAnswer (Charging start end rate) = charging start end rate
 enquiryAnswer EnquiryRefused = refused 15
+
+abbrev pub boardAnswer : BoardAnswer → Answer
+boardAnswer (Looked n) = looked n
+boardAnswer (BoardRefused number) = refused number

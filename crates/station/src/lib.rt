@@ -1,4 +1,5 @@
 // A charging station by value, and its calls.
+pub mod board;
 pub mod clock;
 pub mod enquiry;
 pub mod open;

@@ -26,9 +26,9 @@ use Rattle.calls.specs.Applied.{callOf, listAfter, answerOf, Applies}
 -- One call made through `apply`: what was passed in, and what came back.
 pub record Made : Type 0 where
   pub call : Call
-  -- the list that an offer reads
+  -- the list that an offer or a board reads
   pub numbers : List ℕ
-  -- the list that a clock move writes, before the call and after it
+  -- the list that a clock move or a board writes, before the call and after it
   pub list : List ℕ
   pub written : List ℕ
   pub answer : Answer

@@ -46,6 +46,12 @@ enum-known-call-5 c = search needs
 enquire-requires : tie.Need-enquire-requires
 enquire-requires c κs = search needs
 
+enum-told-3 : tie.Need-enum-told-3
+enum-told-3 c = search needs
+
+board-requires : tie.Need-board-requires
+board-requires c κs = search needs
+
 same-length : tie.Need-same-length
 same-length c = search needs
 
@@ -70,6 +76,12 @@ returns-6 c = as-found (c .before .before .before .call4 .given .1) (record { gi
 returns-7 : tie.Need-returns-7
 returns-7 c = as-found (c .before .before .before .call5 .given .1) (record { gives = c .before .enquire .ensures; stays = refl })
 
+same-length-2 : tie.Need-same-length-2
+same-length-2 c = search needs
+
+returns-8 : tie.Need-returns-8
+returns-8 c = as-found (c .before .before .before .before .before .enum-told3 .given .1) (record { gives = c .before .before .before .board .ensures; stays = tt })
+
 pub apply-spec : {M : Type 1} → statement M
 apply-spec =
     tie.close
@@ -88,6 +100,8 @@ apply-spec =
     replan-lines-requires
     enum-known-call-5
     enquire-requires
+    enum-told-3
+    board-requires
     returns
     returns-2
     same-length
@@ -95,4 +109,6 @@ apply-spec =
     returns-4
     returns-5
     returns-6
-    returns-7)
+    returns-7
+    same-length-2
+    returns-8)

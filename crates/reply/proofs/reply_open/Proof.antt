@@ -14,7 +14,7 @@ same-length : tie.Need-same-length
 same-length c = search needs
 
 returns : tie.Need-returns
-returns c = replied (c .before .before .before .before .before .«open» .ensures) (c .before .before .print-opening .ensures)
+returns c = replied 0 (c .before .before .before .before .before .«open» .ensures) (c .before .before .print-opening .ensures)
 
 pub reply-open-spec : {M : Type 1} → statement M
 reply-open-spec =

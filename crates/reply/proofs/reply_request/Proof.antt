@@ -1,5 +1,7 @@
 -- `reply::reply_request` meets its contract: what the text asks for is answered, and the lent lists are those of what was read.
 use mathlib.Core.Path.{sym, refl}
+use Prim.Native.Nat.{_≤_}
+use lib.ListN.{length}
 use native.Mathlib.Omega.{arith}
 use lib.Seq.{length-take-le}
 use Rattle.station.specs.View.{view}
@@ -12,7 +14,7 @@ use Rattle.reply.proofs.reply_request.Statement.{statement}
 use Rattle.reply.proofs.reply_request.Tie as tie
 
 -- what is lent beside the call that was read
-fit : (c : tie.After-read2) → Fits 2048 (Call (c .read2 .given .0 .0) (c .read2 .given .0 .1 .0) (c .read2 .given .0 .1 .1 .0))
+fit : (c : tie.After-read2) → Fits 2048 (Call (c .read2 .given .0 .0) (c .read2 .given .0 .1 .0) (c .read2 .given .0 .1 .1 .0) (c .read2 .given .0 .1 .1 .1 .0))
 fit c = rw (c .read2 .given .1) at (c .before .before .before .before .read-request .ensures .fits)
 
 read-request-requires : tie.Need-read-request-requires
@@ -31,13 +33,17 @@ enum-known-read-2 : tie.Need-enum-known-read-2
 enum-known-read-2 c = search needs
 
 slice-reshare-prefix-reply-call : tie.Need-slice-reshare-prefix-reply-call
-slice-reshare-prefix-reply-call c = omega (arith, fit (c .before) .0, c .before .before .before .before .before .read-request .kept .1 .0, c .before .before .before .before .before .before .before .before .before .before .before .pre .1 .0)
+slice-reshare-prefix-reply-call c = omega (arith, fit (c .before) .1 .0, c .before .before .before .before .before .read-request .kept .1 .0, c .before .before .before .before .before .before .before .before .before .before .before .pre .1 .0)
 
 slice-aggregate-reply-call : tie.Need-slice-aggregate-reply-call
-slice-aggregate-reply-call c = sym (length-take-le _ _ (omega (arith, fit (c .before .before) .0, c .before .before .before .before .before .before .read-request .kept .1 .0, c .before .before .before .before .before .before .before .before .before .before .before .before .pre .1 .0)))
+slice-aggregate-reply-call c = sym (length-take-le _ _ (omega (arith, fit (c .before .before) .1 .0, c .before .before .before .before .before .before .read-request .kept .1 .0, c .before .before .before .before .before .before .before .before .before .before .before .before .pre .1 .0)))
 
 reply-call-requires : tie.Need-reply-call-requires
-reply-call-requires c κs = (c .before .before .before .before .before .before .before .before .before .before .before .before .before .before .pre .0, (search needs, (search needs, fit (c .before .before .before .before) .1)))
+reply-call-requires c κs =
+    let s = c .before .before .before .before .before .before .before .before .before .before .before .before .before .before in
+    let f = fit (c .before .before .before .before) in
+    let room : c .before .before .before .before .read2 .given .0 .1 .1 .0 ≤ length (c .before .before .before .before .before .before .before .before .read-request .last .1 .0) = omega (arith, f .1 .0, c .before .before .before .before .before .before .before .before .read-request .kept .1 .0, s .pre .1 .0) in
+    (s .pre .0, (search needs, (search needs, (omega (arith, f .0, length-take-le (c .before .before .before .before .read2 .given .0 .1 .1 .0) (c .before .before .before .before .before .before .before .before .read-request .last .1 .0) room), rw (length-take-le (c .before .before .before .before .read2 .given .0 .1 .1 .0) (c .before .before .before .before .before .before .before .before .read-request .last .1 .0) room) (f .1 .1)))))
 
 enum-known-read-3 : tie.Need-enum-known-read-3
 enum-known-read-3 c = search needs

@@ -98,6 +98,21 @@ enum-known-answer-5 c = search needs
 print-enquiry-requires : tie.Need-print-enquiry-requires
 print-enquiry-requires c κs = search needs
 
+enum-known-answer-6 : tie.Need-enum-known-answer-6
+enum-known-answer-6 c = search needs
+
+enum-known-board : tie.Need-enum-known-board
+enum-known-board c = search needs
+
+print-board-requires : tie.Need-print-board-requires
+print-board-requires c κs = rw (c .before .before .before .before .before .answer6 .given .1, c .before .before .board .given .1) at (c .before .before .before .before .before .before .before .before .before .pre)
+
+enum-known-board-2 : tie.Need-enum-known-board-2
+enum-known-board-2 c = search needs
+
+print-refused-requires-5 : tie.Need-print-refused-requires-5
+print-refused-requires-5 c κs = search needs
+
 same-length : tie.Need-same-length
 same-length c = search needs
 
@@ -158,7 +173,21 @@ same-length-9 : tie.Need-same-length-9
 same-length-9 c = search needs
 
 returns-9 : tie.Need-returns-9
-returns-9 c = rw (c .before .before .before .before .before .answer5 .given .1) (enquiry-line (c .before .before .before .before .before .answer5 .given .0 .0) (c .before .before .before .before .before .before .before .before .before .args .list .now) (c .before .before .print-enquiry .ensures))
+returns-9 c = rw (c .before .before .before .before .before .answer5 .given .1) (enquiry-line (c .before .before .before .before .before .answer5 .given .0 .0) (c .before .before .before .before .before .before .before .before .before .args .asked) (c .before .before .before .before .before .before .before .before .before .args .list .now) (c .before .before .print-enquiry .ensures))
+
+same-length-10 : tie.Need-same-length-10
+same-length-10 c = search needs
+
+returns-10 : tie.Need-returns-10
+unfolding answerText
+returns-10 c = rw (c .before .before .before .before .before .before .before .before .answer6 .given .1, c .before .before .before .before .before .board .given .1) (printed-as (c .before .before .print-board .ensures) (search))
+
+same-length-11 : tie.Need-same-length-11
+same-length-11 c = search needs
+
+returns-11 : tie.Need-returns-11
+unfolding answerText
+returns-11 c = rw (c .before .before .before .before .before .before .before .before .answer6 .given .1, c .before .before .before .before .before .board2 .given .1) (printed-as (c .before .before .print-refused5 .ensures) (search))
 
 pub print-answer-spec : {M : Type 1} → statement M
 print-answer-spec =
@@ -195,6 +224,11 @@ print-answer-spec =
     print-refused-requires-4
     enum-known-answer-5
     print-enquiry-requires
+    enum-known-answer-6
+    enum-known-board
+    print-board-requires
+    enum-known-board-2
+    print-refused-requires-5
     same-length
     returns
     same-length-2
@@ -212,4 +246,8 @@ print-answer-spec =
     same-length-8
     returns-8
     same-length-9
-    returns-9)
+    returns-9
+    same-length-10
+    returns-10
+    same-length-11
+    returns-11)

@@ -48,32 +48,44 @@ enum-told-8 c = search needs
 enum-told-9 : tie.Need-enum-told-9
 enum-told-9 c = search needs
 
+enum-told-10 : tie.Need-enum-told-10
+enum-told-10 c = search needs
+
+behind-first-requires : tie.Need-behind-first-requires
+behind-first-requires c κs = search needs
+
 returns : tie.Need-returns
 returns c = rw (c .enum-told .given .1, c .before .before .before .before .before .before .number-at .ensures, c .before .before .before .before .before .number-at2 .ensures, c .before .before .before .before .number-at3 .ensures) (record { call-is = search; call-fits = tt })
 
 returns-2 : tie.Need-returns-2
-returns-2 c = rw (c .enum-told2 .given .1, c .before .before .before .before .before .before .number-at .ensures, c .before .before .before .before .before .number-at2 .ensures, c .before .before .before .before .number-at3 .ensures, c .before .before .before .number-at4 .ensures) (record { call-is = search; call-fits = (omega arith, refl) })
+returns-2 c = rw (c .enum-told2 .given .1, c .before .before .before .before .before .before .number-at .ensures, c .before .before .before .before .before .number-at2 .ensures, c .before .before .before .before .number-at3 .ensures, c .before .before .before .number-at4 .ensures) (record { call-is = search; call-fits = (omega arith, (omega arith, (refl, refl))) })
 
 returns-3 : tie.Need-returns-3
-returns-3 c = rw (c .enum-told3 .given .1, c .before .before .before .before .before .before .number-at .ensures, c .before .before .before .before .before .number-at2 .ensures, c .before .before .before .before .number-at3 .ensures, c .before .before .before .number-at4 .ensures, c .before .before .number-at5 .ensures) (record { call-is = search; call-fits = (omega arith, refl) })
+returns-3 c = rw (c .enum-told3 .given .1, c .before .before .before .before .before .before .number-at .ensures, c .before .before .before .before .before .number-at2 .ensures, c .before .before .before .before .number-at3 .ensures, c .before .before .before .number-at4 .ensures, c .before .before .number-at5 .ensures) (record { call-is = search; call-fits = (omega arith, (omega arith, (refl, refl))) })
 
 returns-4 : tie.Need-returns-4
-returns-4 c = rw (c .enum-told4 .given .1, c .before .before .before .before .before .before .number-at .ensures, c .before .before .before .before .before .number-at2 .ensures) (record { call-is = search; call-fits = (omega arith, tt) })
+returns-4 c = rw (c .enum-told4 .given .1, c .before .before .before .before .before .before .number-at .ensures, c .before .before .before .before .before .number-at2 .ensures) (record { call-is = search; call-fits = (omega arith, (omega arith, refl)) })
 
 returns-5 : tie.Need-returns-5
-returns-5 c = rw (c .enum-told5 .given .1) (record { call-is = rw (take-length (c .before .before .before .before .before .before .before .before .args .numbers .now)); call-fits = (omega arith, refl) })
+returns-5 c = rw (c .enum-told5 .given .1) (record { call-is = rw (take-length (c .before .before .before .before .before .before .before .before .args .numbers .now)); call-fits = (omega arith, (omega arith, refl)) })
 
 returns-6 : tie.Need-returns-6
-returns-6 c = rw (c .enum-told6 .given .1) (record { call-is = search; call-fits = (omega arith, refl) })
+returns-6 c = rw (c .enum-told6 .given .1) (record { call-is = search; call-fits = (omega arith, (omega arith, (refl, refl))) })
 
 returns-7 : tie.Need-returns-7
-returns-7 c = rw (c .enum-told7 .given .1, c .before .before .before .before .before .before .number-at .ensures) (record { call-is = search; call-fits = (omega arith, refl) })
+returns-7 c = rw (c .enum-told7 .given .1, c .before .before .before .before .before .before .number-at .ensures) (record { call-is = search; call-fits = (omega arith, (omega arith, (refl, refl))) })
 
 returns-8 : tie.Need-returns-8
-returns-8 c = rw (c .enum-told8 .given .1, c .before .before .before .before .before .before .number-at .ensures) (record { call-is = search; call-fits = (omega arith, refl) })
+returns-8 c = rw (c .enum-told8 .given .1, c .before .before .before .before .before .before .number-at .ensures) (record { call-is = search; call-fits = (omega arith, (omega arith, (refl, refl))) })
 
 returns-9 : tie.Need-returns-9
-returns-9 c = rw (c .enum-told9 .given .1) (record { call-is = search; call-fits = tt })
+returns-9 c =
+    let a = c .before .before .before .before .before .before .before .before .before .args in
+    rw (c .before .enum-told9 .given .1, c .before .before .before .before .before .before .before .number-at .ensures)
+    (record { call-is = rw (take-length (a .numbers .now), c .behind-first .ensures .1) refl; call-fits = (omega (arith, c .behind-first .ensures .0), (omega arith, tt)) })
+
+returns-10 : tie.Need-returns-10
+returns-10 c = rw (c .enum-told10 .given .1) (record { call-is = search; call-fits = tt })
 
 pub call-of-spec : {M : Type 1} → statement M
 call-of-spec =
@@ -93,6 +105,8 @@ call-of-spec =
     enum-told-7
     enum-told-8
     enum-told-9
+    behind-first-requires
+    enum-told-10
     returns
     returns-2
     returns-3
@@ -101,4 +115,5 @@ call-of-spec =
     returns-6
     returns-7
     returns-8
-    returns-9)
+    returns-9
+    returns-10)

@@ -51,17 +51,24 @@ slice-aggregate-named-or-8 c = search needs
 named-or-requires-8 : tie.Need-named-or-requires-8
 named-or-requires-8 c κs = search needs
 
+slice-aggregate-named-or-9 : tie.Need-slice-aggregate-named-or-9
+slice-aggregate-named-or-9 c = search needs
+
+named-or-requires-9 : tie.Need-named-or-requires-9
+named-or-requires-9 c κs = search needs
+
 returns : tie.Need-returns
 returns c =
     rw (
-      c .named-or8 .ensures,
-      c .before .before .named-or7 .ensures,
-      c .before .before .before .before .named-or6 .ensures,
-      c .before .before .before .before .before .before .named-or5 .ensures,
-      c .before .before .before .before .before .before .before .before .named-or4 .ensures,
-      c .before .before .before .before .before .before .before .before .before .before .named-or3 .ensures,
-      c .before .before .before .before .before .before .before .before .before .before .before .before .named-or2 .ensures,
-      c .before .before .before .before .before .before .before .before .before .before .before .before .before .before .named-or .ensures,
+      c .named-or9 .ensures,
+      c .before .before .named-or8 .ensures,
+      c .before .before .before .before .named-or7 .ensures,
+      c .before .before .before .before .before .before .named-or6 .ensures,
+      c .before .before .before .before .before .before .before .before .named-or5 .ensures,
+      c .before .before .before .before .before .before .before .before .before .before .named-or4 .ensures,
+      c .before .before .before .before .before .before .before .before .before .before .before .before .named-or3 .ensures,
+      c .before .before .before .before .before .before .before .before .before .before .before .before .before .before .named-or2 .ensures,
+      c .before .before .before .before .before .before .before .before .before .before .before .before .before .before .before .before .named-or .ensures,
     )
     (search)
 
@@ -85,4 +92,6 @@ call-named-spec =
     named-or-requires-7
     slice-aggregate-named-or-8
     named-or-requires-8
+    slice-aggregate-named-or-9
+    named-or-requires-9
     returns)
