@@ -18,8 +18,8 @@ use Rattle.rules.proofs.Ranges.{below-or-not}
 use Rattle.rules.proofs.Counts.{balanced-all}
 use Rattle.rules.proofs.Searches.{unbalanced-first}
 use Rattle.rules.proofs.Rounds.{largest-line, smallest-line}
-use Rattle.allowance.specs.Allowance.{drawnTime}
-use Rattle.allowance.proofs.Placings.{PlacedUnder, under-within, RoundPlaced, round-placed}
+use Rattle.allowance.proofs.Placings.{under-within}
+use Rattle.allowance.proofs.Placed.{RoundPlaced, round-placed}
 
 -- The minute found
 
