@@ -1,7 +1,7 @@
 -- A larger allowance changes nothing that was reached, each lowering is strict, and the rounds end.
 use mathlib.Core.Path.{_≡_, refl}
-use Prim.Native.Nat.{ℕ, _+_, _-_, _*_, max, _≤_, _<_}
-use mathlib.Core.Bool.{Bool, true, false, cond, not, _||_}
+use Prim.Native.Nat.{ℕ, _+_, _-_, _*_, _≤_, _<_}
+use mathlib.Core.Bool.{Bool, true, false, cond, not}
 use mathlib.Core.List.{List, [], _∷_}
 use native.Mathlib.Omega.{arith}
 use native.Mathlib.Nat.{mul-le-mul}
@@ -10,16 +10,16 @@ use lib.ListN.{length}
 use borrow.Author.Tests.{ltb-true, ltb-false, le-ltb}
 use Rattle.rules.specs.Basics.{Each}
 use Rattle.rules.specs.Load.{lastUntil}
-use Rattle.rules.specs.Charge.{Charge, activeUntil, loadsOf, isBegun, begunCharges, waitingCharges}
+use Rattle.rules.specs.Charge.{Charge, loadsOf, isBegun, begunCharges, waitingCharges}
 use Rattle.rules.specs.Replan.{none, byLines}
-use Rattle.rules.specs.Calls.{State, limitsOf, replanLines, refusals, replanningLines, step}
-use Rattle.rules.specs.Valid.{ValidCharge, ValidState}
+use Rattle.rules.specs.Calls.{State, limitsOf, replanLines, refusals, replanningLines}
+use Rattle.rules.specs.Valid.{ValidCharge}
 use Rattle.rules.proofs.Ranges.{or-left, or-none}
 use Rattle.rules.proofs.Tables.{none-firstOf}
 use Rattle.guarantee.specs.DemandOne.{NoneApplies}
 use Rattle.guarantee.proofs.Each.{each-in}
 use Rattle.restarts.specs.Restarts.{stands}
-use Rattle.allowance.specs.Allowance.{Spent, drawnTime, minutesAhead, mostLowerings, LargerAllowance, Everywhere, LargestYard, WhereverItStands}
+use Rattle.allowance.specs.Allowance.{drawnTime, minutesAhead, Everywhere, LargestYard, WhereverItStands}
 use Rattle.allowance.proofs.Lowerings.{lowered-below, lowered-most, byLines-same}
 use Rattle.allowance.proofs.Endings.{few-rounds, never-spent}
 

@@ -8,7 +8,7 @@ use Rattle.rules.specs.Replan.{placeOn, lowers, round, roundsFrom, byLines}
 use Rattle.rules.specs.Judgement.{judged}
 use Rattle.rules.specs.Calls.{planned, opening, committing, moving, replanningLines}
 use Rattle.allowance.specs.Allowance.{minutesAhead, mostLowerings, replans, plays}
-use Rattle.allowance.specs.Wrong.{withTails, firstCaps, secondCaps, stationH, stationK}
+use Rattle.allowance.specs.Wrong.{withTails, firstCaps, stationH, stationK}
 
 -- Case k: one round is not enough, and any allowance from 2 on gives the same. Case h: one round is, and the plan is taken. With
 -- tails the first round lowers the cap of line 1 from 12 on to 1, and the second has the plan held.

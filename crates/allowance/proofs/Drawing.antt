@@ -1,6 +1,6 @@
 -- The minutes that charges draw in all, and up to when a placement draws.
 use mathlib.Core.Path.{_≡_, refl}
-use Prim.Native.Nat.{ℕ, _+_, max, _≤_, _<_}
+use Prim.Native.Nat.{ℕ, _+_, max, _≤_}
 use mathlib.Core.Bool.{Bool, true, false, cond, not}
 use mathlib.Core.List.{List, [], _∷_, _++_, append-assoc}
 use native.Mathlib.Omega.{arith}

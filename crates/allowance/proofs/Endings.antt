@@ -3,7 +3,7 @@
 use mathlib.Core.Path.{_≡_, refl}
 use Prim.Native.Nat.{ℕ, zero, suc, _+_, _-_, _*_, min, max, _≤_, _<_}
 use mathlib.Core.Bool.{Bool, true, false, cond}
-use mathlib.Core.List.{List, [], _∷_, _++_, append-nil}
+use mathlib.Core.List.{List, _++_, append-nil}
 use native.Mathlib.Omega.{arith}
 use Rattle.rules.specs.Basics.{Found, at, nothing}
 use Rattle.rules.specs.Load.{counts, lastUntil, Limits}

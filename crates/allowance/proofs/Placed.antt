@@ -10,7 +10,7 @@ use Rattle.rules.specs.Load.{Load, lastUntil}
 use Rattle.rules.specs.Charge.{Charge, starting, drawOf, loadsOf}
 use Rattle.rules.specs.Search.{Caps}
 use Rattle.rules.specs.Priority.{Crowd, crowdOf, Pick, chosen, nobody, takenBefore, fitsAt, firstFit, picked, withoutTicket}
-use Rattle.rules.specs.Replan.{Placed, all, stuck, placeOn, onLine, placeLine, placeLines}
+use Rattle.rules.specs.Replan.{Placed, all, stuck, placeOn, onLine, placeLines}
 use Rattle.rules.proofs.Searches.{Under, under-at}
 use Rattle.rules.proofs.Fitting.{first-fit-first}
 use Rattle.rules.proofs.Picking.{Among, among-each, among-keep, taken-some}

@@ -1,14 +1,13 @@
 -- The statement is false of the wrong rules.
 use mathlib.Core.Path.{_≡_, refl, ap}
 use Prim.Native.Nat.{ℕ, _<_}
-use mathlib.Core.List.{[], _∷_}
 use native.Mathlib.Omega.{arith}
 use Rattle.rules.specs.Load.{limited, balanced, sound}
 use Rattle.rules.specs.Search.{earliest, firstUnbalanced}
 use Rattle.rules.specs.Priority.{fading, weights, weightOf, firstFit, picked}
 use Rattle.rules.specs.Replan.{placeOn, round, roundsFrom, byLines}
 use Rattle.rules.specs.Judgement.{judged}
-use Rattle.rules.specs.Calls.{planned, Result, opening, committing, moving, replanningLines}
+use Rattle.rules.specs.Calls.{planned, Result, opening, committing, moving}
 use Rattle.allowance.specs.Allowance.{Spent, replans, plays, LargerAllowance}
 use Rattle.allowance.specs.Wrong.{tailLeftOut, notPlacedAnew, loweredToTheCount, chargesLimited, roundsTold, withTails, firstCaps, secondCaps, stationH}
 

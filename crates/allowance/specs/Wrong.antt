@@ -9,8 +9,8 @@ use Rattle.rules.specs.Load.{counts, draw}
 use Rattle.rules.specs.Charge.{Charge, loadsOf, begunCharges, waitingCharges}
 use Rattle.rules.specs.Search.{Caps, fitsUnder, firstUnbalanced}
 use Rattle.rules.specs.Priority.{Fitting, fitsAt}
-use Rattle.rules.specs.Replan.{none, starts, Placed, all, stuck, placeLines, largestLine, smallestLine, placedActive, Outcome, ends, lowers, lowered, afterRound, Replanned, byLines}
-use Rattle.rules.specs.Calls.{settings, State, limitsOf, Call, commit, move, opening, kept, tested, step}
+use Rattle.rules.specs.Replan.{none, Placed, all, stuck, placeLines, largestLine, smallestLine, placedActive, Outcome, ends, lowers, lowered, afterRound, Replanned, byLines}
+use Rattle.rules.specs.Calls.{settings, State, limitsOf, commit, move, opening, kept, tested, step}
 use Rattle.guarantee.specs.Past.{past}
 use Rattle.allowance.specs.Allowance.{Replans, Plays}
 
