@@ -12,8 +12,8 @@ struct form {
 static const struct form forms[] = {
     {"open", OPEN, 3, 3},    {"preview", PREVIEW, 4, 4}, {"commit", COMMIT, 5, 5},
     {"move", MOVE, 2, 2},    {"offer", OFFER, 0, 2048},  {"latest", LATEST, 0, 0},
-    {"lines", LINES, 1, 1},  {"enquire", ENQUIRE, 1, 1}, {"read", READ, 0, 0},
-    {"write", WRITE, 0, 0},
+    {"lines", LINES, 1, 1},  {"enquire", ENQUIRE, 1, 1}, {"board", BOARD, 1, 2048},
+    {"withdraw", WITHDRAW, 1, 1}, {"read", READ, 0, 0},   {"write", WRITE, 0, 0},
 };
 
 /* Where the part of a text ends that begins at `from`: at a space or at the end. */

@@ -7,7 +7,7 @@
 
 #define REQUEST_NUMBERS 2048 /* more numbers than a line can hold */
 
-enum call { OPEN, PREVIEW, COMMIT, MOVE, OFFER, LATEST, LINES, ENQUIRE, READ, WRITE, NOTHING };
+enum call { OPEN, PREVIEW, COMMIT, MOVE, OFFER, LATEST, LINES, ENQUIRE, BOARD, WITHDRAW, READ, WRITE, NOTHING };
 
 struct request {
     enum call call;

@@ -36,6 +36,8 @@ fn sort_of(line: &[u8], answer: &str) -> String {
         Call::Latest => "latest",
         Call::Lines { .. } => "lines",
         Call::Enquire { .. } => "enquire",
+        Call::Board { .. } => "board",
+        Call::Withdraw { .. } => "withdraw",
     };
     let words: Vec<&str> = answer.split(' ').collect();
     match words[0] {

@@ -3,7 +3,10 @@
 //! answers say. Each part quotes the sentence of document 01 that it checks.
 //!
 //! Starts of waiting orders are known from enquiries, so before a station is
-//! left every order that was not reported has to be asked for.
+//! left every order that was not reported has to be asked for. A board shows starts too.
+
+mod board;
+mod withdrawal;
 
 use crate::protocol::{read_call, Call};
 use crate::script::{self, Line};
@@ -35,13 +38,22 @@ struct Order {
     /// "the one reported by the clock move that passed it"
     reported: Option<u64>,
     /// "and until then the one that an enquiry would give": known only since the
-    /// last call that was not an enquiry.
+    /// last call that was neither an enquiry nor a board.
     waiting: Option<u64>,
+    /// It "has no charge" any more (N11).
+    withdrawn: bool,
 }
 
 impl Order {
     fn start(&self) -> Option<u64> {
         self.reported.or(self.waiting)
+    }
+
+    /// "is finished when s + p + r is at or below the clock" (N7), else held, unless it was
+    /// withdrawn.
+    fn held(&self, clock: u64, tail: u64) -> bool {
+        let finished = self.reported.is_some_and(|start| start + self.time + tail <= clock);
+        !finished && !self.withdrawn
     }
 }
 
@@ -53,7 +65,7 @@ struct Trace {
     tail: u64,
     clock: u64,
     orders: Vec<Order>,
-    /// Whether an enquiry was answered since the last other call.
+    /// Whether an enquiry or a board was answered since the last other call.
     asked: bool,
 }
 
@@ -126,9 +138,13 @@ impl Trace {
     }
 
     fn step(&mut self, call: &Call, answer: &Answer) -> Checked {
-        if let Call::Enquire { ticket } = call {
+        if let Call::Enquire { .. } | Call::Board { .. } = call {
             self.asked = true;
-            return self.enquiry(*ticket, answer);
+        }
+        match call {
+            Call::Enquire { ticket } => return self.enquiry(*ticket, answer),
+            Call::Board { tickets, .. } => return self.board(tickets, answer),
+            _ => (),
         }
         self.leave(matches!(call, Call::Open { .. }))?;
         match (call, answer.refused()) {
@@ -138,6 +154,7 @@ impl Trace {
             }
             (Call::Commit { order, .. }, false) => self.accepted(order, answer),
             (Call::Move { target, .. }, false) => self.moved(u64::from(*target), answer),
+            (Call::Withdraw { ticket }, false) => self.withdrawn(*ticket, answer),
             _ => Ok(()),
         }
     }
@@ -156,7 +173,7 @@ impl Trace {
     }
 
     fn all_starts_known(&self) -> bool {
-        self.orders.iter().all(|order| order.start().is_some())
+        self.standing().all(|(_, order)| order.start().is_some())
     }
 
     /// "tickets are 1, 2, 3 and so on in the order of acceptance"
@@ -175,6 +192,7 @@ impl Trace {
             order: self.clock,
             reported: None,
             waiting: None,
+            withdrawn: false,
         });
         Ok(())
     }
@@ -201,6 +219,7 @@ impl Trace {
         let clock = self.clock;
         let order = self.order(ticket).ok_or(format!("ticket {ticket} reported, not given"))?;
         ensure(order.reported.is_none(), || format!("ticket {ticket} reported again"))?;
+        ensure(!order.withdrawn, || format!("ticket {ticket} reported, withdrawn"))?;
         ensure(clock <= start && start < target, || {
             format!(
                 "ticket {ticket} with start {start} reported by a move from {clock} to {target}"
@@ -226,6 +245,9 @@ impl Trace {
             return ensure(answer.refused(), || format!("ticket {ticket} found, not given"));
         };
         let found = || format!("ticket {ticket}: {} {:?}", answer.words, answer.numbers);
+        if order.withdrawn {
+            return ensure(answer.refused() && answer.numbers == [15], found);
+        }
         match (order.reported, answer.words.as_str(), answer.numbers.as_slice()) {
             (None, "waiting", [start, rate]) => {
                 let same = order.waiting.is_none_or(|before| before == *start);
@@ -244,8 +266,7 @@ impl Trace {
 
     /// The claim over the whole list, once all starts are known.
     fn settle(&self) -> Checked {
-        for (place, order) in self.orders.iter().enumerate() {
-            let ticket = place + 1;
+        for (ticket, order) in self.standing() {
             let start =
                 order.start().ok_or(format!("ticket {ticket} neither reported nor found"))?;
             ensure(order.order <= start, || {
@@ -258,16 +279,15 @@ impl Trace {
 
     /// "No charge ends later than the last minute in which an order was accepted
     /// plus the charging times of all accepted orders." "The ceiling on ends gains r for
-    /// each accepted order" (N7).
+    /// each accepted order" (N7), and a withdrawn order's "time still counts in the ceiling
+    /// on ends" (N11), as does its order minute.
     fn check_ends(&self) -> Checked {
         let Some(last) = self.orders.last() else { return Ok(()) };
         let times = self.orders.iter().map(|order| order.time + self.tail);
         let ceiling = last.order + times.sum::<u64>();
-        for (place, order) in self.orders.iter().enumerate() {
+        for (ticket, order) in self.standing() {
             let end = order.start().unwrap_or(0) + order.time;
-            ensure(end <= ceiling, || {
-                format!("ticket {} ends in {end}, after {ceiling}", place + 1)
-            })?;
+            ensure(end <= ceiling, || format!("ticket {ticket} ends in {end}, after {ceiling}"))?;
         }
         Ok(())
     }
@@ -275,12 +295,12 @@ impl Trace {
     /// "in every minute, gone or to come under the plan held, no line has more
     /// than its limit charging and no two lines differ by more than the bound";
     /// "A line's count in a minute takes all accepted orders of the list, dropped
-    /// ones too"; they are "weighted counts" (N4), in which each is active in "minutes s to
-    /// s + p + r − 1" (N7). Counts change only where an order starts or its tail ends, so
-    /// these minutes stand for all.
+    /// ones too", but not those that were withdrawn (N11); they are "weighted counts" (N4),
+    /// in which each is active in "minutes s to s + p + r − 1" (N7). Counts change only where
+    /// an order starts or its tail ends, so these minutes stand for all.
     fn check_counts(&self) -> Checked {
         let mut changes = Vec::new();
-        for order in &self.orders {
+        for (_, order) in self.standing() {
             let (start, line) = (order.start().unwrap_or(0), order.line as usize - 1);
             changes.push((start, line, i64::from(order.rate)));
             changes.push((start + order.time + self.tail, line, -i64::from(order.rate)));

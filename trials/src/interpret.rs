@@ -8,11 +8,14 @@ use std::io::{self, Read, Write};
 
 /// What every place of a lent list holds before a clock move.
 const UNTOUCHED: u32 = u32::MAX;
+/// And before a board: nothing that a board would have to write, so that a place that was
+/// left out shows.
+const BLANK: u32 = u32::MAX - 1;
 
 #[derive(Clone)]
 pub struct Interpreter<Y> {
     yard: Y,
-    /// Kept between calls so that no move has to ask for memory.
+    /// Kept between calls so that no call has to ask for memory.
     list: Vec<u32>,
 }
 
@@ -58,8 +61,7 @@ impl<Y: Yard> Interpreter<Y> {
                 protocol::write_committed(out, yard.commit(*order, *shown)?);
             }
             Call::Move { target, places } => {
-                self.list.clear();
-                self.list.resize((*places).min(MOST_PLACES) as usize, UNTOUCHED);
+                lend(&mut self.list, *places, UNTOUCHED);
                 let moved = yard.move_clock(*target, &mut self.list)?;
                 protocol::write_moved(out, moved, &self.list);
             }
@@ -69,6 +71,15 @@ impl<Y: Yard> Interpreter<Y> {
                 protocol::write_planned(out, yard.replan_by_lines(*allowance)?);
             }
             Call::Enquire { ticket } => protocol::write_found(out, yard.enquire(*ticket)?),
+            Call::Board { places, tickets } => {
+                lend(&mut self.list, *places, BLANK);
+                let looked = yard.board(tickets, &mut self.list)?;
+                protocol::write_board(out, looked, &self.list[..tickets.len()]);
+            }
+            Call::Withdraw { ticket } => {
+                yard.withdraw(*ticket)?;
+                protocol::write_withdrawn(out);
+            }
         }
         Ok(())
     }
@@ -144,4 +155,10 @@ fn answer_line(
     if answer(line, out) {
         out.push(b'\n');
     }
+}
+
+/// Makes the lent list as long as asked for, each place with the same number.
+fn lend(list: &mut Vec<u32>, places: u32, number: u32) {
+    list.clear();
+    list.resize(places.min(MOST_PLACES) as usize, number);
 }

@@ -27,4 +27,5 @@ pub mod reference;
 pub mod role;
 pub mod script;
 pub mod shrink;
+pub mod wall;
 pub mod yard;

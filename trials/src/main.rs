@@ -16,7 +16,7 @@ use trials::program::Program;
 use trials::role::Role;
 use trials::{
     benchmark, coverage, damage, demand, fast, fill, generate, interpret, kills, loops, reference,
-    script,
+    script, wall,
 };
 
 const USAGE: &str = "\
@@ -35,7 +35,11 @@ trials loops [TITLE]                         titles of the trials of the loop, o
 trials coverage [--scripts K] [--seed S] [--kind KIND] [--without KIND]
 trials benchmark PROGRAM [--bus BUS] [--repeat R] [--days D] [--only bus]
                                              run times beside those of the fast program
-trials demand SCRIPT ANSWERS                 demand 3 from calls and answers alone";
+trials demand SCRIPT ANSWERS                 demand 3 from calls and answers alone
+trials pages < IMAGE                         the pages for the wall of an image
+trials wall PROGRAM [--images K] [--seed S] [--patience SECONDS]
+trials wall-input TITLE [--images K] [--seed S]
+                                             an input that the wall is given";
 
 type Outcome = Result<(), String>;
 
@@ -125,6 +129,9 @@ fn run(words: &Words) -> Outcome {
         Some("coverage") => print_coverage(&words.choice(1_000)?),
         Some("benchmark") => run_benchmark(words),
         Some("demand") => check_files(&words.others[1..]),
+        Some("pages") => print_pages(),
+        Some("wall") => run_wall(words),
+        Some("wall-input") => print_wall_input(words),
         _ => Err(USAGE.to_string()),
     }
 }
@@ -274,4 +281,37 @@ fn check_files(paths: &[String]) -> Outcome {
     demand::check(&lines, &answers).map_err(|broken| broken.to_string())?;
     println!("demand 3 holds");
     Ok(())
+}
+
+fn print_pages() -> Outcome {
+    let mut image = Vec::new();
+    io::stdin().lock().read_to_end(&mut image).map_err(|error| error.to_string())?;
+    print_bytes(wall::page::of_image(&image).as_bytes())
+}
+
+fn run_wall(words: &Words) -> Outcome {
+    let command = words.others.get(1).or(words.named.get("program")).ok_or(USAGE)?;
+    let (images, seed) = (words.number("images", 2_000)?, words.number("seed", 1)?);
+    let patience = Duration::from_secs(words.number("patience", 60)?);
+    let program = Program::new(command, patience);
+    let compared =
+        wall::without_output(&program).and_then(|()| wall::compare(&program, seed, images));
+    match compared {
+        Ok(summary) => {
+            let (images, lines) = (summary.scripts, summary.answers);
+            println!("{images} inputs, {lines} lines, all as they should be");
+            Ok(())
+        }
+        Err(failure) => {
+            print_failure(&failure)?;
+            Err(format!("the comparison failed, seed {seed}"))
+        }
+    }
+}
+
+fn print_wall_input(words: &Words) -> Outcome {
+    let title = words.others.get(1).ok_or(USAGE)?;
+    let (images, seed) = (words.number("images", 2_000)?, words.number("seed", 1)?);
+    let input = wall::inputs(seed, images).find(|input| input.title == *title);
+    print_bytes(&input.ok_or(format!("no input {title}"))?.bytes)
 }

@@ -77,6 +77,26 @@ impl Program {
         Ok(outcome(&stdout.take(), &stderr.take(), status, fed))
     }
 
+    /// The same program with its standard output turned elsewhere, as a shell is told it.
+    pub fn with_output(&self, elsewhere: &str) -> Program {
+        let run = format!("exec \"$@\" {elsewhere}");
+        let shell = ["sh".to_string(), "-c".to_string(), run, "sh".to_string()];
+        Program { words: [&shell[..], &self.words].concat(), patience: self.patience }
+    }
+
+    /// Runs it with nobody at the other end of its output, from before it is given anything;
+    /// what is wrong if it does not end.
+    pub fn ends_unheard(&self, input: &[u8]) -> Result<(), String> {
+        let mut child = self.start(Stdio::piped())?;
+        drop(child.stdout.take());
+        let stderr = Listener::to(child.stderr.take().ok_or("no standard error")?);
+        if let Some(mut stdin) = child.stdin.take() {
+            // A program that ends early closes its input.
+            drop(stdin.write_all(input));
+        }
+        self.ended(&mut child, &stderr).map(drop)
+    }
+
     /// How it ended, or that it had to be ended.
     fn ended(&self, child: &mut Child, stdout: &Listener) -> Result<ExitStatus, String> {
         const PAUSE: Duration = Duration::from_millis(1);

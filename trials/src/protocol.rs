@@ -10,6 +10,8 @@
 //! | `latest` | `plan ..` |
 //! | `lines allowance` | `plan ..`, or `refused 11` |
 //! | `enquire T` | `waiting S RATE`, `charging S E RATE`, or `refused 15` |
+//! | `board places t1 t2 ..` | `board LOOKED A1 A2 ..`, or `refused K` |
+//! | `withdraw T` | `withdrawn`, or `refused K` |
 //!
 //! Words are separated by exactly one space byte. Empty lines and lines that
 //! begin with `#` get no answer. Anything else gets `error` and a reason.
@@ -18,7 +20,7 @@ use crate::yard::{Committed, Found, Moved, Order, Planned, Refusal};
 
 /// More bytes than these in a line, without the line feed, are too many.
 pub const LONGEST_LINE: usize = 4096;
-/// More places than these are never lent to a clock move.
+/// More places than these are never lent to a call.
 pub const MOST_PLACES: u32 = 4096;
 
 #[derive(Clone, Debug, PartialEq, Eq)]
@@ -31,6 +33,8 @@ pub enum Call {
     Latest,
     Lines { allowance: u32 },
     Enquire { ticket: u32 },
+    Board { places: u32, tickets: Vec<u32> },
+    Withdraw { ticket: u32 },
 }
 
 #[derive(Clone, Copy, Debug, PartialEq, Eq)]
@@ -77,10 +81,12 @@ pub fn read_call(text: &[u8]) -> Result<Option<Call>, Fault> {
             Call::Commit { order, shown }
         }),
         b"move" => numbers(words).map(|[target, places]| Call::Move { target, places }),
-        b"offer" => starts(words).map(|starts| Call::Offer { starts }),
+        b"offer" => list(words).map(|starts| Call::Offer { starts }),
         b"latest" => numbers(words).map(|[]| Call::Latest),
         b"lines" => numbers(words).map(|[allowance]| Call::Lines { allowance }),
         b"enquire" => numbers(words).map(|[ticket]| Call::Enquire { ticket }),
+        b"board" => board(words),
+        b"withdraw" => numbers(words).map(|[ticket]| Call::Withdraw { ticket }),
         _ => Err(Fault::UnknownCall),
     };
     call.map(Some)
@@ -100,10 +106,16 @@ fn numbers<'a, const K: usize>(
     }
 }
 
-/// As many starts as the line has, judged from left to right: whether they are
+/// As many numbers as the line has, judged from left to right: whether they are
 /// too many is the station's to say.
-fn starts<'a>(words: impl Iterator<Item = &'a [u8]>) -> Result<Vec<u32>, Fault> {
+fn list<'a>(words: impl Iterator<Item = &'a [u8]>) -> Result<Vec<u32>, Fault> {
     words.map(number).collect()
+}
+
+/// How many places are lent, and then the tickets.
+fn board<'a>(mut words: impl Iterator<Item = &'a [u8]>) -> Result<Call, Fault> {
+    let places = number(words.next().ok_or(Fault::MissingNumber)?)?;
+    Ok(Call::Board { places, tickets: list(words)? })
 }
 
 /// A decimal number of 32 bits. Leading zeros don't count, so the digits alone
@@ -129,14 +141,18 @@ pub fn write_call(call: &Call) -> String {
         Call::Preview { order } => format!("preview {}", write_order(order)),
         Call::Commit { order, shown } => format!("commit {} {shown}", write_order(order)),
         Call::Move { target, places } => format!("move {target} {places}"),
-        Call::Offer { starts } => {
-            let words: Vec<String> = starts.iter().map(|start| format!(" {start}")).collect();
-            format!("offer{}", words.concat())
-        }
+        Call::Offer { starts } => format!("offer{}", write_list(starts)),
         Call::Latest => "latest".to_string(),
         Call::Lines { allowance } => format!("lines {allowance}"),
         Call::Enquire { ticket } => format!("enquire {ticket}"),
+        Call::Board { places, tickets } => format!("board {places}{}", write_list(tickets)),
+        Call::Withdraw { ticket } => format!("withdraw {ticket}"),
     }
+}
+
+fn write_list(numbers: &[u32]) -> String {
+    let words: Vec<String> = numbers.iter().map(|number| format!(" {number}")).collect();
+    words.concat()
 }
 
 fn write_order(order: &Order) -> String {
@@ -211,4 +227,17 @@ pub fn write_found(out: &mut Vec<u8>, found: Found) {
             words(out, "charging", &[start, end, rate.into()]);
         }
     }
+}
+
+/// The starts are read from the lent list, one for each ticket asked.
+pub fn write_board(out: &mut Vec<u8>, looked: usize, starts: &[u32]) {
+    words(out, "board", &[looked as u64]);
+    for start in starts {
+        words(out, "", &[u64::from(*start)]);
+    }
+}
+
+/// A bare acknowledgement.
+pub fn write_withdrawn(out: &mut Vec<u8>) {
+    words(out, "withdrawn", &[]);
 }

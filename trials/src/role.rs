@@ -29,7 +29,7 @@ impl Role {
     }
 
     /// The calls and answers that demand 3 speaks of. Those of a bus are without what was
-    /// refused for its image; None is a list with a refused opening, after which a bus
+    /// refused for its image, and without the numbers of blocks; None is a list with a refused opening, after which a bus
     /// goes on with a station whose tickets the script does not ask for.
     pub fn list_of_calls(self, lines: &[Line], answers: &[Line]) -> Option<(Vec<Line>, Vec<Line>)> {
         if self == Role::Console {
@@ -45,11 +45,18 @@ impl Role {
         };
         match made.iter().any(|(line, answer)| is_refused_opening(line, answer)) {
             true => None,
-            false => {
-                Some(made.into_iter().map(|(line, answer)| (line.clone(), answer.clone())).unzip())
-            }
+            false => Some(
+                made.into_iter().map(|(line, answer)| (line.clone(), unblocked(answer))).unzip(),
+            ),
         }
     }
+}
+
+/// The answer that a console would give.
+fn unblocked(answer: &Line) -> Line {
+    let mark = b" blocks ";
+    let end = answer.windows(mark.len()).position(|part| part == mark);
+    answer[..end.unwrap_or(answer.len())].to_vec()
 }
 
 /// A program with its role.

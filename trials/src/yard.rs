@@ -45,6 +45,9 @@ pub enum Found {
     Charging { start: u64, end: u64, rate: u32 },
 }
 
+/// What a board shows for a ticket "not held" (N10).
+pub const NOT_HELD: u32 = 4_294_967_295;
+
 /// A place where a station stands; every call works on that station.
 pub trait Yard {
     /// Puts a fresh station in place and answers its bound. Beside a refusal
@@ -60,4 +63,9 @@ pub trait Yard {
     fn replan_by_latest_start(&mut self) -> Planned;
     fn replan_by_lines(&mut self, allowance: u32) -> Result<Planned, Refusal>;
     fn enquire(&self, ticket: u32) -> Result<Found, Refusal>;
+    /// "takes a rising list of 32-bit numbers and writes the start of each to another such
+    /// list", and "answers how many it looked at" (N10).
+    fn board(&self, tickets: &[u32], starts: &mut [u32]) -> Result<usize, Refusal>;
+    /// "A waiting charge is removed, and its place is free" (N11).
+    fn withdraw(&mut self, ticket: u32) -> Result<(), Refusal>;
 }

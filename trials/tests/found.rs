@@ -4,14 +4,11 @@
 mod common;
 
 use common::faulty::{Error, Faulty};
-use common::Inside;
+use common::{breaks_demand_3, Inside};
 use trials::compare::{compare, Choice};
-use trials::fill::{fill, unfill};
-use trials::script::Line;
-use trials::{demand, generate, script};
 
 /// With the kind of scripts that finds them, and how many lines are left at most.
-const FAULTY: [(&str, usize, &[Error]); 10] = [
+const FAULTY: [(&str, usize, &[Error]); 12] = [
     (
         "leaning",
         13,
@@ -120,6 +117,31 @@ const FAULTY: [(&str, usize, &[Error]); 10] = [
             Error::TailBeforeTheBound,
         ],
     ),
+    // A place behind the answers is in no line, so `boards.rs` has that error alone.
+    (
+        "boards",
+        4,
+        &[
+            Error::EqualNeighbours,
+            Error::OneTooManyAsked,
+            Error::ZeroForNotHeld,
+            Error::LookedIsAsked,
+            Error::StopsAtNotHeld,
+            Error::PlacesBeforeOrder,
+        ],
+    ),
+    (
+        "withdraw",
+        10,
+        &[
+            Error::OnlyTheLimitTested,
+            Error::OthersReplanned,
+            Error::BegunWithdrawn,
+            Error::TicketGivenAgain,
+            Error::SoundnessBeforeBegun,
+            Error::WithdrawnStillDraws,
+        ],
+    ),
 ];
 
 fn choice(kind: &str, scripts: u64) -> Choice<'_> {
@@ -142,11 +164,11 @@ fn the_comparison_finds_every_faulty_yard() {
     }
 }
 
-/// The rounds that the tests make by themselves are those of the rules, where no error
-/// is put into them.
+/// The rounds, boards and withdrawals that the tests make by themselves are those of the rules,
+/// where no error is put into them.
 #[test]
 fn own_rounds_without_an_error() {
-    for kind in ["leaning", "rates", "priority", "weights", "tails"] {
+    for kind in ["leaning", "rates", "priority", "weights", "tails", "boards", "withdraw"] {
         let yard = Inside(|| Faulty::new(Error::OwnRounds));
         let found = compare(&yard, &choice(kind, 40)).map_err(|failure| failure.what);
         assert_eq!(found.map(|summary| summary.scripts), Ok(41), "{kind}");
@@ -155,9 +177,7 @@ fn own_rounds_without_an_error() {
 
 /// Demand 3 alone rejects yards with unsound plans, changed reports or one start
 /// for everybody, and accepts those that are sound but useless: "a replan that
-/// always keeps", "an order that always queues", "a station full from the start". A
-/// script is run as it stands, and with the starts that the yard itself would show. It
-/// may take more orders than the reference, so more tickets are asked for at the end.
+/// always keeps", "an order that always queues", "a station full from the start".
 #[test]
 fn demand_3_finds_what_it_should() {
     let sound = [
@@ -200,19 +220,8 @@ fn demand_3_finds_what_it_should() {
         Error::EndShownWithTheTail,
         Error::TailOfARefusedOpening,
     ];
-    let breaks = |lines: &[Line], error: Error| {
-        demand::check(lines, &script::answers_of(Faulty::new(error), lines)).is_err()
-    };
-    let fails = |kind: &str, error: Error| {
-        (0..40).any(|number| {
-            let mut lines = generate::script_of_kind(kind, 3, number).unwrap().lines;
-            lines.extend((1..200).map(|ticket| format!("enquire {ticket}").into_bytes()));
-            let own = fill(Faulty::new(error), &unfill(&lines));
-            breaks(&lines, error) || breaks(&own, error)
-        })
-    };
     let found = |error: Error| {
-        ["leaning", "commits", "rates", "tails"].iter().any(|kind| fails(kind, error))
+        ["leaning", "commits", "rates", "tails"].iter().any(|kind| breaks_demand_3(kind, error))
     };
     for error in sound {
         assert!(!found(error), "{error:?}");

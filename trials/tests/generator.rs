@@ -36,7 +36,7 @@ fn every_script_begins_with_an_opening() {
     }
 }
 
-const REFUSALS: [(&str, &[u32]); 7] = [
+const REFUSALS: [(&str, &[u32]); 9] = [
     ("open", &[1, 2, 3, 19]),
     ("preview", &[4, 5, 17, 18, 6, 13, 14]),
     ("commit", &[4, 5, 17, 18, 6, 13, 14, 16]),
@@ -44,19 +44,23 @@ const REFUSALS: [(&str, &[u32]); 7] = [
     ("offer", &[10]),
     ("lines", &[11]),
     ("enquire", &[15]),
+    ("board", &[23, 24]),
+    ("withdraw", &[15, 25, 26]),
 ];
 
 /// The other causes cannot happen to these calls.
 const CAUSES: [(&str, &[u32]); 3] =
     [("offer", &[0, 3, 4, 5, 6, 7]), ("latest", &[0, 1, 4, 7]), ("lines", &[0, 1, 2, 4, 7])];
 
-const OTHERS: [&str; 12] = [
+const OTHERS: [&str; 14] = [
     "open: open",
     "preview: start",
     "commit: ticket",
     "move: moved",
     "enquire: waiting",
     "enquire: charging",
+    "board: board",
+    "withdraw: withdrawn",
     "error unknown call",
     "error not a number",
     "error number too large",

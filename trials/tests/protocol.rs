@@ -41,6 +41,12 @@ fn words_that_are_no_numbers() {
         "lines 0x1",
         "enquire 99999999999x",
         "enquire \u{661}",
+        "board ",
+        "board x",
+        "board 1 ",
+        "board 1 2  3",
+        "withdraw ",
+        "withdraw 1x",
     ] {
         assert_eq!(fault(text.as_bytes()), Fault::NotANumber, "{text:?}");
     }
@@ -54,6 +60,8 @@ fn numbers_of_more_than_32_bits() {
         "enquire 00000000000000004294967296",
         "enquire 18446744073709551617",
         "offer 1 4294967296",
+        "board 4294967296",
+        "board 1 4294967296",
     ] {
         assert_eq!(fault(text.as_bytes()), Fault::NumberTooLarge, "{text:?}");
     }
@@ -74,6 +82,11 @@ fn the_first_fault_counts() {
     assert_eq!(fault(b"open 2 50 0 0"), Fault::ExtraNumber);
     assert_eq!(fault(b"preview 1 2 3"), Fault::MissingNumber);
     assert_eq!(fault(b"preview 1 2 3 1 4"), Fault::ExtraNumber);
+    assert_eq!(fault(b"board"), Fault::MissingNumber);
+    assert_eq!(fault(b"board 4294967296 x"), Fault::NumberTooLarge);
+    assert_eq!(fault(b"board x 4294967296"), Fault::NotANumber);
+    assert_eq!(fault(b"withdraw"), Fault::MissingNumber);
+    assert_eq!(fault(b"withdraw 1 x"), Fault::ExtraNumber);
     assert_eq!(fault(b"latest "), Fault::ExtraNumber);
     assert_eq!(fault(b"latest x"), Fault::ExtraNumber);
 }
@@ -84,6 +97,12 @@ fn lists_of_any_length() {
     let offer = |count: usize| [b"offer".to_vec(), b" 7".repeat(count)].concat();
     for count in [0, 1, 179, 180, 181, 182, 500, 2045] {
         assert_eq!(read_call(&offer(count)), Ok(Some(Call::Offer { starts: vec![7; count] })));
+        let board = [b"board".to_vec(), b" 7".repeat(count)].concat();
+        let read = Call::Board { places: 7, tickets: vec![7; count.max(1) - 1] };
+        assert_eq!(
+            read_call(&board),
+            if count == 0 { Err(Fault::MissingNumber) } else { Ok(Some(read)) }
+        );
     }
     assert_eq!(fault(&offer(2046)), Fault::LineTooLong);
     for count in [179, 180, 181, 500] {
@@ -126,6 +145,9 @@ fn written_calls_are_read_back() {
         Call::Latest,
         Call::Lines { allowance: 1_000 },
         Call::Enquire { ticket: 65_536 },
+        Call::Board { places: 4_097, tickets: vec![] },
+        Call::Board { places: 0, tickets: vec![3, 3, u32::MAX] },
+        Call::Withdraw { ticket: u32::MAX },
     ] {
         assert_eq!(read_call(write_call(&call).as_bytes()), Ok(Some(call)));
     }

@@ -2,7 +2,7 @@
 use Prim.Native.Nat.{ℕ, _*_}
 use mathlib.Core.List.{List, [], _∷_, _++_}
 use lib.ListN.{take}
-use Rattle.rules.specs.Calls.{Answer, refused, opened, previewed, committed, moved, planned, waiting, charging, looked}
+use Rattle.rules.specs.Calls.{Answer, refused, opened, previewed, committed, moved, planned, waiting, charging, looked, withdrawn}
 use Rattle.text.specs.Printed.{field, listed}
 use Rattle.requests.specs.declared.request.Reason.{Reason}
 use Rattle.requests.specs.declared.request.Reason.the-variants.{UnknownCall, NotANumber, NumberTooLarge, MissingNumber, ExtraNumber, LineTooLong}
@@ -50,6 +50,8 @@ answerText (charging start end rate) asked list =
     three (99 ∷ 104 ∷ 97 ∷ 114 ∷ 103 ∷ 105 ∷ 110 ∷ 103 ∷ 32 ∷ []) start end rate
 -- "board "
 answerText (looked n) asked list = field (98 ∷ 111 ∷ 97 ∷ 114 ∷ 100 ∷ 32 ∷ []) n ++ (listed (take asked list) ++ lineFeed)
+-- "withdrawn"
+answerText withdrawn asked list = (119 ∷ 105 ∷ 116 ∷ 104 ∷ 100 ∷ 114 ∷ 97 ∷ 119 ∷ 110 ∷ []) ++ lineFeed
 
 -- how many numbers of the lent list are printed with an answer
 abbrev pub listedOf : Answer → ℕ → ℕ
@@ -62,6 +64,7 @@ listedOf (planned c b a k) asked = 0
 listedOf (waiting u w) asked = 0
 listedOf (charging u v w) asked = 0
 listedOf (looked n) asked = asked
+listedOf withdrawn asked = 0
 
 abbrev pub reasonText : Reason → List ℕ
 -- "unknown call"

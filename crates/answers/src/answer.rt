@@ -17,6 +17,7 @@ use station::open::OpenAnswer;
 use station::order::CommitAnswer;
 use station::order::PreviewAnswer;
 use station::plan::PlanAnswer;
+use station::withdraw::WithdrawAnswer;
 use text::print_field;
 use text::print_list;
 use text::print_text;
@@ -189,6 +190,10 @@ pub fn print_answer(
         Answer::Board(board) => match board {
             BoardAnswer::Looked(looked) => print_board(looked, asked, list, buffer, at),
             BoardAnswer::Refused(number) => print_refused(number, buffer, at),
+        },
+        Answer::Withdrawal(withdrawal) => match withdrawal {
+            WithdrawAnswer::Withdrawn => print_text(b"withdrawn\n", buffer, at),
+            WithdrawAnswer::Refused(number) => print_refused(number, buffer, at),
         },
     }
 }

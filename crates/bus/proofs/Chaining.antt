@@ -7,14 +7,16 @@ use mathlib.Core.List.{List, [], _∷_, map}
 use Rattle.rules.specs.Basics.{Found, at, nothing, firstOf}
 use Rattle.rules.specs.Replan.{Proposal, Replanned, starts, none, latest, byLines}
 use Rattle.rules.specs.Judgement.{judged}
-use Rattle.rules.specs.Calls.{State, Settings, Result, answering, opening, Call, preview, commit, move, offer, replanLatest, replanLines, enquire, lent, refusals, granted, step, run, limitsOf, drawFor, startFor, previewedAt, decided, tested, previewing, committing, moving, offering, replanningLatest, replanningLines, enquiring}
+use Rattle.rules.specs.Calls.{State, Settings, Result, answering, opening, Call, preview, commit, move, offer, replanLatest, replanLines, enquire, board, withdraw, lent, refusals, granted, step, run, limitsOf, drawFor, startFor, previewedAt, decided, tested, previewing, committing, moving, offering, replanningLatest, replanningLines, enquiring, boarding, withdrawing}
 use Rattle.rules.specs.Valid.{ValidState}
 use Rattle.rules.proofs.Validity.{opening-valid, step-valid}
 use Rattle.layout.specs.Image.{imageOf}
 use Rattle.layout.specs.Reading.{RestoreResult}
+use Rattle.layout.specs.Blocks.{differing}
 use Rattle.layout.proofs.Refusing.{saving-written}
 use Rattle.layout.proofs.RoundTrip.{restored-saved}
-use Rattle.bus.specs.Left.{told, leaving, Left, left, called, openedOver, Whole}
+use Rattle.layout.proofs.Comparing.{none-differs}
+use Rattle.bus.specs.Left.{told, counted, toldOver, leaving, Left, left, called, openedOver, Whole}
 use Rattle.bus.specs.Chains.{Made, chained, leftOf, leftOfEach}
 
 -- A refusal keeps the station
@@ -39,7 +41,7 @@ tested-stays s rounds (starts ss) list = decided-stays s rounds ss list (judged 
 tested-stays s rounds (none cause) list = λ e. refl
 
 granted-stays : (s : State) (c : Call) → Stays s (granted s c)
-unfolding previewing committing moving offering replanningLatest replanningLines enquiring
+unfolding previewing committing moving offering replanningLatest replanningLines enquiring boarding withdrawing
 granted-stays s (preview line p d rate) = previewed-stays s (startFor s (drawFor s line p rate))
 granted-stays s (commit line p d rate shown) = λ e. absurd (true≢false (sym e))
 granted-stays s (move target list) = λ e. absurd (true≢false (sym e))
@@ -48,21 +50,23 @@ granted-stays s replanLatest = tested-stays s 0 (latest (limitsOf s) (s .clock) 
 granted-stays s (replanLines allowance) =
     let r : Replanned = byLines (limitsOf s) (s .clock) allowance (s .charges) in tested-stays s (r .rounds) (r .proposal) []
 granted-stays s (enquire ticket) = λ e. refl
+granted-stays s (board asked list) = λ e. refl
+granted-stays s (withdraw ticket) = λ e. absurd (true≢false (sym e))
 
 refused-stays : (s : State) (c : Call) → Stays s (step s c)
 refused-stays s c = answering-stays (firstOf (refusals s c)) s (lent c) (granted s c) (granted-stays s c)
 
 -- One call on a saved image, and many
 
-left-of : (s : State) (m : Made) (r : Result) → Stays s r → left (m .numbers) (imageOf s) r ≡ leftOf m r
+left-of : (s : State) (m : Made) (r : Result) → Stays s r → left (m .numbers) (imageOf s) r ≡ leftOf s m r
 unfolding left
 left-of s m r h = go (told (r .answer) .isRefused) refl
   where
-    go : (b : Bool) → told (r .answer) .isRefused ≡ b → left (m .numbers) (imageOf s) r ≡ leftOf m r
+    go : (b : Bool) → told (r .answer) .isRefused ≡ b → left (m .numbers) (imageOf s) r ≡ leftOf s m r
     go true e = rw (e, h e)
     go false e = rw e
 
-pub called-saved : (s : State) (m : Made) → ValidState s → called (m .numbers) (imageOf s) (m .call) ≡ leftOf m (step s (m .call))
+pub called-saved : (s : State) (m : Made) → ValidState s → called (m .numbers) (imageOf s) (m .call) ≡ leftOf s m (step s (m .call))
 unfolding called
 called-saved s m v =
     ap
@@ -72,12 +76,12 @@ called-saved s m v =
 
 pub chained-saved :
     (s : State) (ms : List Made) → ValidState s
-    → chained (imageOf s) ms ≡ leftOfEach ms (run s (map (λ (m : Made). m .call) ms))
+    → chained (imageOf s) ms ≡ leftOfEach s ms (run s (map (λ (m : Made). m .call) ms))
 chained-saved s [] v = refl
 chained-saved s (m ∷ ms) v =
     let next : State = step s (m .call) .state in
     ap (λ (l : Left). l ∷ chained (l .image) ms) (called-saved s m v)
-    ∙ ap (λ (ls : List Left). leftOf m (step s (m .call)) ∷ ls) (chained-saved next ms (step-valid s (m .call) v))
+    ∙ ap (λ (ls : List Left). leftOf s m (step s (m .call)) ∷ ls) (chained-saved next ms (step-valid s (m .call) v))
 
 -- From an opening
 
@@ -85,12 +89,19 @@ pub opened-image :
     (numbers image : List ℕ) (x : Settings) → Whole image → told (opening x .answer) .isRefused ≡ false
     → openedOver numbers image x .image ≡ imageOf (opening x .state)
 unfolding openedOver left
-opened-image numbers image x h e = rw (saving-written (opening x .state) image h) (rw e)
+opened-image numbers image x h e = rw (saving-written (opening x .state) image image h h) (rw e)
 
 -- any list of C calls on the image of an opening, whatever the image was before
 pub chained-opened :
     (numbers image : List ℕ) (x : Settings) (ms : List Made) → Whole image → told (opening x .answer) .isRefused ≡ false
-    → chained (openedOver numbers image x .image) ms ≡ leftOfEach ms (run (opening x .state) (map (λ (m : Made). m .call) ms))
+    → chained (openedOver numbers image x .image) ms ≡ leftOfEach (opening x .state) ms (run (opening x .state) (map (λ (m : Made). m .call) ms))
 chained-opened numbers image x ms h e =
     ap (λ (after : List ℕ). chained after ms) (opened-image numbers image x h e)
     ∙ chained-saved (opening x .state) ms (opening-valid x)
+
+-- A call that keeps the station
+
+-- no block differs where the station stays, as after a preview or an enquiry
+pub kept-none :
+    (s : State) (c : Call) → step s c .state ≡ s → toldOver (imageOf s) (step s c .answer) (step s c .state) ≡ counted 0 (told (step s c .answer))
+kept-none s c e = ap (λ (blocks : ℕ). counted blocks (told (step s c .answer))) (ap (λ (x : State). differing (imageOf s) (imageOf x)) e ∙ none-differs (imageOf s))

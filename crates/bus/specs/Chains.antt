@@ -1,9 +1,9 @@
 -- C calls one after another, each on the image that the last one left.
 use Prim.Native.Nat.{ℕ}
 use mathlib.Core.List.{List, [], _∷_}
-use Rattle.rules.specs.Calls.{Call, Result, written}
+use Rattle.rules.specs.Calls.{State, Call, Result, written}
 use Rattle.layout.specs.Image.{imageOf}
-use Rattle.bus.specs.Left.{Left, told, leaving, called}
+use Rattle.bus.specs.Left.{Left, told, toldOver, leaving, called}
 
 -- a call with the list lent to it, and what stood behind its references before
 pub record Made : Type 0 where
@@ -15,12 +15,13 @@ abbrev pub chained : List ℕ → List Made → List Left
 chained image [] = []
 chained image (m ∷ ms) = let l : Left = called (m .numbers) image (m .call) in l ∷ chained (l .image) ms
 
--- a result of the rules as C has it: its number, its numbers behind the references, the image of its station, and the list
-abbrev pub leftOf : Made → Result → Left
-leftOf m r =
-    leaving (told (r .answer) .number) (written (told (r .answer) .numbers) (m .numbers)) (imageOf (r .state)) (r .list)
+-- a result of the rules for a station as C has it: its number, how many blocks differ and its numbers behind the references, the image
+-- of the next station, and the list
+abbrev pub leftOf : State → Made → Result → Left
+leftOf s m r =
+    leaving (told (r .answer) .number) (written (toldOver (imageOf s) (r .answer) (r .state)) (m .numbers)) (imageOf (r .state)) (r .list)
 
-abbrev pub leftOfEach : List Made → List Result → List Left
-leftOfEach [] rs = []
-leftOfEach (m ∷ ms) [] = []
-leftOfEach (m ∷ ms) (r ∷ rs) = leftOf m r ∷ leftOfEach ms rs
+abbrev pub leftOfEach : State → List Made → List Result → List Left
+leftOfEach s [] rs = []
+leftOfEach s (m ∷ ms) [] = []
+leftOfEach s (m ∷ ms) (r ∷ rs) = leftOf s m r ∷ leftOfEach (r .state) ms rs

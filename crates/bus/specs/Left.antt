@@ -5,9 +5,10 @@ use mathlib.Core.Bool.{Bool, true, false, cond}
 use mathlib.Core.List.{List, [], _∷_}
 use lib.Dec.{eqb}
 use lib.ListN.{length}
-use Rattle.rules.specs.Calls.{Settings, State, Answer, refused, opened, previewed, committed, moved, planned, waiting, charging, Result, answering, opening, Call, lent, step, written}
+use Rattle.rules.specs.Calls.{Settings, State, Answer, refused, opened, previewed, committed, moved, planned, waiting, charging, looked, withdrawn, Result, answering, opening, Call, lent, step, written}
 use Rattle.layout.specs.Image.{imageOf}
 use Rattle.layout.specs.Reading.{RestoreResult, restoring}
+use Rattle.layout.specs.Blocks.{differing}
 use Rattle.layout.specs.Saving.{SaveResult, saving}
 
 -- an answer in numbers: the one returned, and those that go behind references
@@ -33,6 +34,8 @@ told (moved reported dropped) = telling (reported ∷ dropped ∷ [])
 told (planned cause before after rounds) = telling (cause ∷ before ∷ after ∷ rounds ∷ [])
 told (waiting start rate) = telling (0 ∷ start ∷ rate ∷ [])
 told (charging start end rate) = telling (1 ∷ start ∷ rate ∷ end ∷ [])
+told (looked count) = telling (count ∷ [])
+told withdrawn = telling []
 
 -- the number returned, and afterwards the numbers behind the references in their order, the image and the lent list
 pub record Left : Type 0 where
@@ -44,11 +47,19 @@ pub record Left : Type 0 where
 abbrev pub leaving : ℕ → List ℕ → List ℕ → List ℕ → Left
 leaving number numbers image list = record { number = number; numbers = numbers; image = image; list = list }
 
+-- "and adds this number to its answer": how many blocks differ stands first, a refusal has none
+abbrev pub counted : ℕ → Told → List ℕ
+counted blocks t = cond (t .isRefused) [] (blocks ∷ t .numbers)
+
+-- "A bus call compares with the image as it was lent"
+abbrev pub toldOver : List ℕ → Answer → State → List ℕ
+toldOver image a s = counted (differing image (imageOf s)) (told a)
+
 -- "and saves", where "a refusal leaves the image as it is"; a number behind a reference that the answer does not have stays
 unfoldable pub left : List ℕ → List ℕ → Result → Left
 left numbers image r =
     leaving (told (r .answer) .number)
-    (written (told (r .answer) .numbers) numbers)
+    (written (toldOver image (r .answer) (r .state)) numbers)
     (cond (told (r .answer) .isRefused) image (imageOf (r .state)))
     (r .list)
 
@@ -61,16 +72,20 @@ called numbers image c =
 -- an opening: "opening reads no image: 20 only"
 unfoldable pub openedOver : List ℕ → List ℕ → Settings → Left
 openedOver numbers image x =
-    left numbers image (answering (saving (opening x .state) image .refusal) (opening x .state) [] (opening x))
+    left numbers image (answering (saving (opening x .state) image image .refusal) (opening x .state) [] (opening x))
 
-abbrev pub copying : ℕ → List ℕ → SaveResult
-copying refusal image = record { refusal = refusal; image = image }
+abbrev pub copying : ℕ → ℕ → List ℕ → SaveResult
+copying refusal blocks image = record { refusal = refusal; blocks = blocks; image = image }
 
--- an image restored and saved to another list: the restore's refusals come first
-unfoldable pub copied : List ℕ → List ℕ → SaveResult
-copied image list =
-    cond (eqb (restoring image .refusal) 0) (saving (restoring image .state) list)
-    (copying (restoring image .refusal) list)
+-- what was saved, or the first refusal, the restore's before that of saving; it leaves the list and the number of blocks
+abbrev pub copiedOr : ℕ → List ℕ → ℕ → SaveResult → SaveResult
+copiedOr blocks list refusal r =
+    let first : ℕ = cond (eqb refusal 0) (r .refusal) refusal in
+    cond (eqb first 0) r (copying first blocks list)
+
+-- an image restored and saved to another list, with which it is compared
+unfoldable pub copied : ℕ → List ℕ → List ℕ → SaveResult
+copied blocks image list = copiedOr blocks list (restoring image .refusal) (saving (restoring image .state) list list)
 
 -- What the contracts say
 
@@ -81,13 +96,13 @@ pub record Leaves (numbers image : List ℕ) (c : Call) (number : ℕ) (behind a
 pub record Opens (numbers image : List ℕ) (x : Settings) (number : ℕ) (behind after : List ℕ) : Type 0 where
   pub result : leaving number behind after [] ≡ openedOver numbers image x
 
-pub record Copies (image list : List ℕ) (refusal : ℕ) (after : List ℕ) : Type 0 where
-  pub result : copying refusal after ≡ copied image list
+pub record Copies (blocks : ℕ) (image list : List ℕ) (refusal blocksAfter : ℕ) (after : List ℕ) : Type 0 where
+  pub result : copying refusal blocksAfter after ≡ copied blocks image list
 
 -- how a call ends with an answer: its number, the numbers behind the references and the image
 pub record Ends (a : Answer) (s : State) (numbers image : List ℕ) (number : ℕ) (behind after : List ℕ) : Type 0 where
   pub number-is : number ≡ told a .number
-  pub numbers-are : behind ≡ written (told a .numbers) numbers
+  pub numbers-are : behind ≡ written (toldOver image a s) numbers
   pub image-is : after ≡ cond (told a .isRefused) image (imageOf s)
 
 abbrev pub Whole : List ℕ → Type 0

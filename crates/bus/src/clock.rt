@@ -3,7 +3,7 @@ ghost use mathlib.Core.List.{[], _∷_};
 ghost use Rattle.rules.specs.Calls.{move as moveCall};
 ghost use Rattle.bus.specs.Left.{Leaves};
 use image::restoring::restore;
-use image::saving::save;
+use image::saving::save_back;
 use station::clock::MoveAnswer;
 
 #[no_mangle]
@@ -13,8 +13,9 @@ pub extern "C" fn togbeyis_move(
     report: &mut [u32],
     reported: &mut usize,
     dropped: &mut usize,
+    blocks: &mut u32,
 ) -> u32
-    ensures { λ r. ⌜ Leaves (now (reported .entry) ∷ now (dropped .entry) ∷ []) (now (image .entry)) (moveCall target (now (report .entry))) r (now (reported .exit) ∷ now (dropped .exit) ∷ []) (now (image .exit)) (now (report .exit)) ⌝ }
+    ensures { λ r. ⌜ Leaves (now (blocks .entry) ∷ now (reported .entry) ∷ now (dropped .entry) ∷ []) (now (image .entry)) (moveCall target (now (report .entry))) r (now (blocks .exit) ∷ now (reported .exit) ∷ now (dropped .exit) ∷ []) (now (image .exit)) (now (report .exit)) ⌝ }
 {
     let restored = restore(image);
     let refusal = restored.answer;
@@ -30,7 +31,8 @@ pub extern "C" fn togbeyis_move(
             dropped: finished,
         } => {
             let next = done.station;
-            save(next, image);
+            let saved = save_back(next, image);
+            *blocks = saved.blocks;
             *reported = passed;
             *dropped = finished;
             0

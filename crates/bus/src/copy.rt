@@ -3,7 +3,7 @@ ghost use mathlib.Core.Path.{_≡_};
 ghost use Rattle.layout.specs.Reading.{restoring};
 ghost use Rattle.bus.specs.Left.{Copies};
 use image::restoring::restore;
-use image::saving::save;
+use image::saving::save_back;
 
 #[no_mangle]
 pub extern "C" fn togbeyis_restore(image: &[u8]) -> u32
@@ -14,8 +14,8 @@ pub extern "C" fn togbeyis_restore(image: &[u8]) -> u32
 }
 
 #[no_mangle]
-pub extern "C" fn togbeyis_save(image: &[u8], copy: &mut [u8]) -> u32
-    ensures { λ r. ⌜ Copies (now (image .entry)) (now (copy .entry)) r (now (copy .exit)) ⌝ }
+pub extern "C" fn togbeyis_save(image: &[u8], copy: &mut [u8], blocks: &mut u32) -> u32
+    ensures { λ r. ⌜ Copies (now (blocks .entry)) (now (image .entry)) (now (copy .entry)) r (now (blocks .exit)) (now (copy .exit)) ⌝ }
 {
     let restored = restore(image);
     let refusal = restored.answer;
@@ -23,5 +23,11 @@ pub extern "C" fn togbeyis_save(image: &[u8], copy: &mut [u8]) -> u32
         return refusal;
     }
     let station = restored.station;
-    save(station, copy)
+    let saved = save_back(station, copy);
+    let refused = saved.answer;
+    if 0 < refused {
+        return refused;
+    }
+    *blocks = saved.blocks;
+    0
 }

@@ -3,7 +3,7 @@ ghost use mathlib.Core.List.{[], _∷_};
 ghost use Rattle.rules.specs.Calls.{enquire as enquireCall};
 ghost use Rattle.bus.specs.Left.{Leaves};
 use image::restoring::restore;
-use image::saving::save;
+use image::saving::save_back;
 use station::enquiry::EnquiryAnswer;
 
 #[no_mangle]
@@ -14,8 +14,9 @@ pub extern "C" fn togbeyis_enquire(
     start: &mut u32,
     rate: &mut u32,
     end: &mut u32,
+    blocks: &mut u32,
 ) -> u32
-    ensures { λ r. ⌜ Leaves (now (charging .entry) ∷ now (start .entry) ∷ now (rate .entry) ∷ now (end .entry) ∷ []) (now (image .entry)) (enquireCall ticket) r (now (charging .exit) ∷ now (start .exit) ∷ now (rate .exit) ∷ now (end .exit) ∷ []) (now (image .exit)) [] ⌝ }
+    ensures { λ r. ⌜ Leaves (now (blocks .entry) ∷ now (charging .entry) ∷ now (start .entry) ∷ now (rate .entry) ∷ now (end .entry) ∷ []) (now (image .entry)) (enquireCall ticket) r (now (blocks .exit) ∷ now (charging .exit) ∷ now (start .exit) ∷ now (rate .exit) ∷ now (end .exit) ∷ []) (now (image .exit)) [] ⌝ }
 {
     let restored = restore(image);
     let refusal = restored.answer;
@@ -31,7 +32,8 @@ pub extern "C" fn togbeyis_enquire(
             start: found,
             rate: drawn,
         } => {
-            save(next, image);
+            let saved = save_back(next, image);
+            *blocks = saved.blocks;
             *charging = 0;
             *start = found;
             *rate = drawn;
@@ -42,7 +44,8 @@ pub extern "C" fn togbeyis_enquire(
             end: ended,
             rate: drawn,
         } => {
-            save(next, image);
+            let saved = save_back(next, image);
+            *blocks = saved.blocks;
             *charging = 1;
             *start = found;
             *rate = drawn;

@@ -2,7 +2,7 @@
 ghost use mathlib.Core.List.{[], _∷_};
 ghost use Rattle.rules.specs.Calls.{settings};
 ghost use Rattle.bus.specs.Left.{Opens};
-use image::saving::save;
+use image::saving::save_back;
 use station::Station;
 use station::open::OpenAnswer;
 use station::open::Settings;
@@ -14,8 +14,9 @@ pub extern "C" fn togbeyis_open(
     percent: u32,
     tail: u32,
     bound: &mut u32,
+    blocks: &mut u32,
 ) -> u32
-    ensures { λ r. ⌜ Opens (now (bound .entry) ∷ []) (now (image .entry)) (settings limit percent tail) r (now (bound .exit) ∷ []) (now (image .exit)) ⌝ }
+    ensures { λ r. ⌜ Opens (now (blocks .entry) ∷ now (bound .entry) ∷ []) (now (image .entry)) (settings limit percent tail) r (now (blocks .exit) ∷ now (bound .exit) ∷ []) (now (image .exit)) ⌝ }
 {
     if image.len() != 4608 {
         return 20;
@@ -29,7 +30,8 @@ pub extern "C" fn togbeyis_open(
     match answer {
         OpenAnswer::Opened(found) => {
             let station = opened.station;
-            save(station, image);
+            let saved = save_back(station, image);
+            *blocks = saved.blocks;
             *bound = found;
             0
         }

@@ -3,7 +3,7 @@ ghost use mathlib.Core.List.{[], _∷_};
 ghost use Rattle.rules.specs.Calls.{preview as previewCall, commit as commitCall};
 ghost use Rattle.bus.specs.Left.{Leaves};
 use image::restoring::restore;
-use image::saving::save;
+use image::saving::save_back;
 use station::order::CommitAnswer;
 use station::order::PreviewAnswer;
 
@@ -15,8 +15,9 @@ pub extern "C" fn togbeyis_preview(
     due: u32,
     rate: u32,
     start: &mut u32,
+    blocks: &mut u32,
 ) -> u32
-    ensures { λ r. ⌜ Leaves (now (start .entry) ∷ []) (now (image .entry)) (previewCall line time due rate) r (now (start .exit) ∷ []) (now (image .exit)) [] ⌝ }
+    ensures { λ r. ⌜ Leaves (now (blocks .entry) ∷ now (start .entry) ∷ []) (now (image .entry)) (previewCall line time due rate) r (now (blocks .exit) ∷ now (start .exit) ∷ []) (now (image .exit)) [] ⌝ }
 {
     let restored = restore(image);
     let refusal = restored.answer;
@@ -29,7 +30,8 @@ pub extern "C" fn togbeyis_preview(
     match answer {
         PreviewAnswer::Previewed(shown) => {
             let same = done.station;
-            save(same, image);
+            let saved = save_back(same, image);
+            *blocks = saved.blocks;
             *start = shown;
             0
         }
@@ -47,8 +49,9 @@ pub extern "C" fn togbeyis_commit(
     shown: u32,
     ticket: &mut u32,
     start: &mut u32,
+    blocks: &mut u32,
 ) -> u32
-    ensures { λ r. ⌜ Leaves (now (ticket .entry) ∷ now (start .entry) ∷ []) (now (image .entry)) (commitCall line time due rate shown) r (now (ticket .exit) ∷ now (start .exit) ∷ []) (now (image .exit)) [] ⌝ }
+    ensures { λ r. ⌜ Leaves (now (blocks .entry) ∷ now (ticket .entry) ∷ now (start .entry) ∷ []) (now (image .entry)) (commitCall line time due rate shown) r (now (blocks .exit) ∷ now (ticket .exit) ∷ now (start .exit) ∷ []) (now (image .exit)) [] ⌝ }
 {
     let restored = restore(image);
     let refusal = restored.answer;
@@ -64,7 +67,8 @@ pub extern "C" fn togbeyis_commit(
             start: taken,
         } => {
             let next = done.station;
-            save(next, image);
+            let saved = save_back(next, image);
+            *blocks = saved.blocks;
             *ticket = given;
             *start = taken;
             0

@@ -5,7 +5,7 @@ ghost use Rattle.station.specs.View.{view, Valid};
 ghost use Rattle.station.specs.Answers.{planAnswer};
 ghost use Rattle.bus.specs.Left.{Leaves, Ends, Whole};
 use image::restoring::restore;
-use image::saving::save;
+use image::saving::save_back;
 use station::plan::PlanAnswer;
 use station::plan::Planning;
 
@@ -17,9 +17,10 @@ fn end_plan(
     before: &mut u64,
     after: &mut u64,
     rounds: &mut u32,
+    blocks: &mut u32,
 ) -> u32
     requires { ⌜ Valid (done .station) × Whole (now image) ⌝ }
-    ensures { λ r. ⌜ Ends (planAnswer (done .answer)) (view (done .station)) (now (cause .entry) ∷ now (before .entry) ∷ now (after .entry) ∷ now (rounds .entry) ∷ []) (now (image .entry)) r (now (cause .exit) ∷ now (before .exit) ∷ now (after .exit) ∷ now (rounds .exit) ∷ []) (now (image .exit)) ⌝ }
+    ensures { λ r. ⌜ Ends (planAnswer (done .answer)) (view (done .station)) (now (blocks .entry) ∷ now (cause .entry) ∷ now (before .entry) ∷ now (after .entry) ∷ now (rounds .entry) ∷ []) (now (image .entry)) r (now (blocks .exit) ∷ now (cause .exit) ∷ now (before .exit) ∷ now (after .exit) ∷ now (rounds .exit) ∷ []) (now (image .exit)) ⌝ }
 {
     let answer = done.answer;
     match answer {
@@ -30,7 +31,8 @@ fn end_plan(
             rounds: made,
         } => {
             let next = done.station;
-            save(next, image);
+            let saved = save_back(next, image);
+            *blocks = saved.blocks;
             *cause = found;
             *before = held;
             *after = then;
@@ -49,8 +51,9 @@ pub extern "C" fn togbeyis_offer(
     before: &mut u64,
     after: &mut u64,
     rounds: &mut u32,
+    blocks: &mut u32,
 ) -> u32
-    ensures { λ r. ⌜ Leaves (now (cause .entry) ∷ now (before .entry) ∷ now (after .entry) ∷ now (rounds .entry) ∷ []) (now (image .entry)) (offerCall (now (starts .entry))) r (now (cause .exit) ∷ now (before .exit) ∷ now (after .exit) ∷ now (rounds .exit) ∷ []) (now (image .exit)) (now (starts .entry)) ⌝ }
+    ensures { λ r. ⌜ Leaves (now (blocks .entry) ∷ now (cause .entry) ∷ now (before .entry) ∷ now (after .entry) ∷ now (rounds .entry) ∷ []) (now (image .entry)) (offerCall (now (starts .entry))) r (now (blocks .exit) ∷ now (cause .exit) ∷ now (before .exit) ∷ now (after .exit) ∷ now (rounds .exit) ∷ []) (now (image .exit)) (now (starts .entry)) ⌝ }
 {
     let restored = restore(image);
     let refusal = restored.answer;
@@ -59,7 +62,7 @@ pub extern "C" fn togbeyis_offer(
     }
     let station = restored.station;
     let offered = station.offer(starts);
-    end_plan(offered, image, cause, before, after, rounds)
+    end_plan(offered, image, cause, before, after, rounds, blocks)
 }
 
 #[no_mangle]
@@ -69,8 +72,9 @@ pub extern "C" fn togbeyis_latest(
     before: &mut u64,
     after: &mut u64,
     rounds: &mut u32,
+    blocks: &mut u32,
 ) -> u32
-    ensures { λ r. ⌜ Leaves (now (cause .entry) ∷ now (before .entry) ∷ now (after .entry) ∷ now (rounds .entry) ∷ []) (now (image .entry)) replanLatest r (now (cause .exit) ∷ now (before .exit) ∷ now (after .exit) ∷ now (rounds .exit) ∷ []) (now (image .exit)) [] ⌝ }
+    ensures { λ r. ⌜ Leaves (now (blocks .entry) ∷ now (cause .entry) ∷ now (before .entry) ∷ now (after .entry) ∷ now (rounds .entry) ∷ []) (now (image .entry)) replanLatest r (now (blocks .exit) ∷ now (cause .exit) ∷ now (before .exit) ∷ now (after .exit) ∷ now (rounds .exit) ∷ []) (now (image .exit)) [] ⌝ }
 {
     let restored = restore(image);
     let refusal = restored.answer;
@@ -79,7 +83,7 @@ pub extern "C" fn togbeyis_latest(
     }
     let station = restored.station;
     let latest = station.replan_latest();
-    end_plan(latest, image, cause, before, after, rounds)
+    end_plan(latest, image, cause, before, after, rounds, blocks)
 }
 
 #[no_mangle]
@@ -90,8 +94,9 @@ pub extern "C" fn togbeyis_lines(
     before: &mut u64,
     after: &mut u64,
     rounds: &mut u32,
+    blocks: &mut u32,
 ) -> u32
-    ensures { λ r. ⌜ Leaves (now (cause .entry) ∷ now (before .entry) ∷ now (after .entry) ∷ now (rounds .entry) ∷ []) (now (image .entry)) (replanLines allowance) r (now (cause .exit) ∷ now (before .exit) ∷ now (after .exit) ∷ now (rounds .exit) ∷ []) (now (image .exit)) [] ⌝ }
+    ensures { λ r. ⌜ Leaves (now (blocks .entry) ∷ now (cause .entry) ∷ now (before .entry) ∷ now (after .entry) ∷ now (rounds .entry) ∷ []) (now (image .entry)) (replanLines allowance) r (now (blocks .exit) ∷ now (cause .exit) ∷ now (before .exit) ∷ now (after .exit) ∷ now (rounds .exit) ∷ []) (now (image .exit)) [] ⌝ }
 {
     let restored = restore(image);
     let refusal = restored.answer;
@@ -100,5 +105,5 @@ pub extern "C" fn togbeyis_lines(
     }
     let station = restored.station;
     let lines = station.replan_lines(allowance);
-    end_plan(lines, image, cause, before, after, rounds)
+    end_plan(lines, image, cause, before, after, rounds, blocks)
 }

@@ -3,13 +3,13 @@ use mathlib.Core.Path.{_≡_}
 use Prim.Native.Nat.{ℕ}
 use mathlib.Core.List.{List, []}
 use Rattle.rules.specs.Calls as rules
-use Rattle.rules.specs.Calls.{State, preview, commit, move, offer, replanLatest, replanLines, enquire, board, step}
+use Rattle.rules.specs.Calls.{State, preview, commit, move, offer, replanLatest, replanLines, enquire, board, withdraw, step}
 use Rattle.station.specs.declared.Station.{Station}
 use Rattle.calls.specs.declared.Call.{Call}
-use Rattle.calls.specs.declared.Call.the-variants.{Preview, Commit, Move, Offer, ReplanLatest, ReplanLines, Enquire, Board}
+use Rattle.calls.specs.declared.Call.the-variants.{Preview, Commit, Move, Offer, ReplanLatest, ReplanLines, Enquire, Board, Withdraw}
 use Rattle.calls.specs.declared.Answer.{Answer}
-use Rattle.calls.specs.declared.Answer.the-variants.{Preview as PreviewOf, Commit as CommitOf, Move as MoveOf, Plan as PlanOf, Enquiry as EnquiryOf, Board as BoardOf}
-use Rattle.station.specs.Answers.{Gives, previewAnswer, commitAnswer, moveAnswer, planAnswer, enquiryAnswer, boardAnswer}
+use Rattle.calls.specs.declared.Answer.the-variants.{Preview as PreviewOf, Commit as CommitOf, Move as MoveOf, Plan as PlanOf, Enquiry as EnquiryOf, Board as BoardOf, Withdrawal as WithdrawalOf}
+use Rattle.station.specs.Answers.{Gives, previewAnswer, commitAnswer, moveAnswer, planAnswer, enquiryAnswer, boardAnswer, withdrawAnswer}
 
 -- the call of the rules, with the lists that are lent to it
 abbrev pub callOf : Call → List ℕ → List ℕ → rules.Call
@@ -21,6 +21,7 @@ callOf ReplanLatest numbers list = replanLatest
 callOf (ReplanLines allowance) numbers list = replanLines allowance
 callOf (Enquire ticket) numbers list = enquire ticket
 callOf Board numbers list = board numbers list
+callOf (Withdraw ticket) numbers list = withdraw ticket
 
 -- Which of the two lists a call takes: none of them, the one that it reads, the one that it writes, or both.
 pub data Lends : Type 0 where
@@ -38,6 +39,7 @@ lends ReplanLatest = none
 lends (ReplanLines allowance) = none
 lends (Enquire ticket) = none
 lends Board = both
+lends (Withdraw ticket) = none
 
 -- the list lent to the call, as the rules have it, afterwards: the one that it writes, or else the one that it reads
 abbrev pub lentOf : Lends → List ℕ → List ℕ → List ℕ
@@ -63,6 +65,7 @@ answerOf (MoveOf a) = moveAnswer a
 answerOf (PlanOf a) = planAnswer a
 answerOf (EnquiryOf a) = enquiryAnswer a
 answerOf (BoardOf a) = boardAnswer a
+answerOf (WithdrawalOf a) = withdrawAnswer a
 
 -- exactly what one step of the rules gives
 pub record Applies (s : State) (call : Call) (numbers before after : List ℕ) (answer : Answer) (next : Station) : Type 0 where

@@ -6,6 +6,7 @@ use station::enquiry::EnquiryAnswer;
 use station::order::CommitAnswer;
 use station::order::PreviewAnswer;
 use station::plan::PlanAnswer;
+use station::withdraw::WithdrawAnswer;
 ghost use Rattle.station.specs.View.{view, Valid};
 ghost use Rattle.calls.specs.Applied.{Applies};
 
@@ -35,6 +36,9 @@ pub enum Call {
         ticket: u32,
     },
     Board,
+    Withdraw {
+        ticket: u32,
+    },
 }
 
 pub enum Answer {
@@ -44,6 +48,7 @@ pub enum Answer {
     Plan(PlanAnswer),
     Enquiry(EnquiryAnswer),
     Board(BoardAnswer),
+    Withdrawal(WithdrawAnswer),
 }
 
 pub struct Applied {
@@ -138,6 +143,15 @@ pub fn apply(station: Station, call: Call, numbers: &[u32], list: &mut [u32]) ->
             let after = done.station;
             Applied {
                 answer: Answer::Board(answer),
+                station: after,
+            }
+        }
+        Call::Withdraw { ticket } => {
+            let done = station.withdraw(ticket);
+            let answer = done.answer;
+            let after = done.station;
+            Applied {
+                answer: Answer::Withdrawal(answer),
                 station: after,
             }
         }

@@ -6,9 +6,9 @@ use mathlib.Core.List.{List, [], _∷_, _++_, append-nil}
 use native.Mathlib.Omega.{arith}
 use native.Mathlib.Numerals.{add-one}
 use lib.ListN.{length, length-append}
-use borrow.Author.Tests.{lt-ltb, le-ltb, le-leb, lt-leb}
+use borrow.Author.Tests.{lt-ltb, le-ltb, le-leb, lt-leb, eq-eqb, ne-eqb}
 use Rattle.rules.specs.Basics.{tabulate, at, nothing, first, keep}
-use Rattle.rules.specs.Charge.{Charge, endOf, activeUntil, isFinished, isWaiting, lastEnd, lateOf, lateness}
+use Rattle.rules.specs.Charge.{Charge, endOf, activeUntil, isFinished, isWaiting, hasTicket, lastEnd, lateOf, lateness}
 use Rattle.rules.proofs.Lists.{length-tabulate, tabulate-next, keep-append, length-keep}
 use Rattle.charges.specs.declared.Charges.{Charges}
 use Rattle.charges.specs.Arrays.{chargesOf, Holds}
@@ -78,6 +78,16 @@ lateness-next g i = rw (tabulate-next g i) (lateness-append (tabulate g i 0) (g 
 
 abbrev pub isUnfinished : ℕ → Charge → Bool
 isUnfinished clock x = not (isFinished clock x)
+
+abbrev pub isOther : ℕ → Charge → Bool
+isOther ticket x = not (hasTicket ticket x)
+
+module _ (ticket : ℕ) (x : Charge) where
+  pub is-other : (x .ticket ≡ ticket → ⊥) → isOther ticket x ≡ true
+  is-other h = rw (ne-eqb (x .ticket) ticket h)
+
+  pub is-that : x .ticket ≡ ticket → isOther ticket x ≡ false
+  is-that e = rw (eq-eqb (x .ticket) ticket e)
 
 module _ (clock : ℕ) (x : Charge) where
   pub is-unfinished : clock < activeUntil x → isUnfinished clock x ≡ true

@@ -6,17 +6,16 @@ use mathlib.Core.List.{List, []}
 use native.Mathlib.Omega.{arith}
 use lib.Dec.{eqb, leb}
 use lib.ListN.{length}
-use borrow.Author.Tests.{eq-eqb, ne-eqb, leb-true, le-leb}
+use borrow.Author.Tests.{leb-true, le-leb}
 use Rattle.rules.specs.Calls.{State, Answer, Result, boundOf, settings, fresh, opening}
 use Rattle.rules.proofs.Ranges.{and-right, fails}
 use Rattle.rules.proofs.Lists.{length-tabulate}
 use Rattle.station.specs.declared.Station.{Station}
 use Rattle.station.specs.View.{view, Valid}
 use Rattle.station.specs.Answers.{giving}
-use Rattle.layout.specs.Lists.{every}
 use Rattle.layout.specs.Image.{imageOf}
 use Rattle.layout.specs.Validity.{settingsRanged, boundRight, isValid}
-use Rattle.layout.specs.Reading.{headerAt, chargeIn, stateIn, checked, same, isOf, restoreRefusal, restoring}
+use Rattle.layout.specs.Reading.{headerAt, chargeIn, stateIn, same, isOf, restoreRefusal, restoring}
 use Rattle.layout.specs.Blocks.{differing}
 use Rattle.layout.proofs.Testing.{Tested, valid-tested}
 use Rattle.layout.proofs.Validity.{valid-by-test}

@@ -18,9 +18,8 @@ use Rattle.charges.specs.declared.Charges.{Charges}
 use Rattle.charges.specs.Arrays.{Column, tickets, lines, orderMinutes, times, activeTimes, dues, starts, rates, columnOf, chargeAt, chargesOf, Filled, Columns}
 use Rattle.charges.proofs.Storing.{filled-none, filled-set}
 use Rattle.station.specs.declared.Station.{Station}
-use Rattle.station.specs.View.{view}
 use Rattle.layout.specs.Reading.{headerAt, fieldAt, chargeIn, stateIn}
-use Rattle.validity.specs.Settled.{settingsValid, Settled}
+use Rattle.validity.specs.Settled.{settingsValid}
 use Rattle.validity.proofs.Ranging.{Ranged, ranged, product-fits, valid-ranged}
 use Rattle.image.specs.Columns.{chargeFrom, ColumnTo, HoldsFrom, headerRight, ReadFrom}
 

@@ -11,7 +11,7 @@ use Rattle.rules.specs.Calls.{State}
 use Rattle.rules.proofs.Ranges.{below-or-not}
 use Rattle.layout.specs.Lists.{listed}
 use Rattle.layout.specs.Bytes.{byteOf}
-use Rattle.layout.specs.Image.{content, weighed, checkOf, byteAt, imageOf}
+use Rattle.layout.specs.Image.{content, weighed, byteAt, imageOf}
 use Rattle.layout.proofs.Listing.{is-listed}
 use Rattle.layout.proofs.Checks.{weighed-none, weighed-more, check-is}
 use Rattle.layout.proofs.Contents.{byte-content, byte-of-check}

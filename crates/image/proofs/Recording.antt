@@ -3,11 +3,10 @@ use mathlib.Core.Path.{_≡_, refl, ap, sym, _∙_}
 use Prim.Native.Nat.{ℕ, _+_, _*_, _/_, _%_, _≤_, _<_}
 use mathlib.Core.List.{List, [], _∷_}
 use native.Mathlib.Omega.{arith}
-use lib.ListN.{length, getD, set}
+use lib.ListN.{getD, set}
 use Rattle.rules.specs.Charge.{Charge}
 use Rattle.rules.specs.Valid.{ValidCharge}
 use Rattle.rules.specs.Calls.{limitsOf}
-use Rattle.rules.proofs.Lists.{length-tabulate}
 use Rattle.charges.specs.declared.Charges.{Charges}
 use Rattle.charges.specs.Arrays.{chargeAt}
 use Rattle.station.specs.declared.Station.{Station}
@@ -16,7 +15,7 @@ use Rattle.layout.specs.Image.{heldAt}
 use Rattle.layout.proofs.Rising.{each-place}
 use Rattle.validity.proofs.Settling.{held-count, held-at}
 use Rattle.image.specs.Places.{Filling}
-use Rattle.image.specs.Numbers.{headerNumbers, recordNumbers, joinedOf, Fits, EachFits, Records, NumbersOf}
+use Rattle.image.specs.Numbers.{recordNumbers, joinedOf, Fits, EachFits, Records, NumbersOf}
 use Rattle.image.proofs.Filling.{filling-at}
 
 -- number m of the records

@@ -5,7 +5,7 @@ use crate::arrangement::record_of;
 use crate::bytes::byte_of;
 use crate::numbers::HEADER;
 use crate::numbers::RECORDS;
-ghost use Prim.Native.Nat.{ℕ, _<_, _≤_};
+ghost use Prim.Native.Nat.{_<_, _≤_};
 ghost use Rattle.image.specs.Numbers.{HeaderByte, RecordByte, ContentByte};
 
 fn header_byte<'a>(header: &'a [u32; HEADER], i: usize) -> u8

@@ -9,3 +9,4 @@ pub mod Plans
 pub mod Finding
 pub mod Proposing
 pub mod Judging
+pub mod SoundPlans

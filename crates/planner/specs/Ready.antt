@@ -25,3 +25,10 @@ EndsFit c = (i : ℕ) → i < c .held → (endOf (chargeAt c i) < 2 ^ 32) × (ac
 -- each rate is 1 or 2
 abbrev pub Rated : Charges → Type 0
 Rated c = (i : ℕ) → i < c .held → IsRate (chargeAt c i .rate)
+
+-- charges that a profile takes, all of them with a start below the largest number of 32 bits
+pub record Profiled (c : Charges) : Type 0 where
+  pub few : c .held ≤ 180
+  pub ends : EndsFit c
+  pub rated : Rated c
+  pub below : (i : ℕ) → i < c .held → chargeAt c i .start < 4294967295

@@ -2,6 +2,7 @@
 pub mod begun;
 pub mod judge;
 pub mod latest;
+pub mod plan;
 
 use charges::Charges;
 use charges::PLACES;

@@ -13,7 +13,7 @@ use Rattle.requests.specs.Requests.{readRequest, meaning, lentList, Lent, Asks}
 use Rattle.requests.specs.declared.request.Request.{Request}
 use Rattle.station.specs.declared.Station.{Station}
 use Rattle.calls.specs.declared.Call.{Call}
-use Rattle.calls.specs.declared.Call.the-variants.{Preview, Commit, Move, Offer, ReplanLatest, ReplanLines, Enquire, Board}
+use Rattle.calls.specs.declared.Call.the-variants.{Preview, Commit, Move, Offer, ReplanLatest, ReplanLines, Enquire, Board, Withdraw}
 use Rattle.calls.specs.declared.Answer as code
 use Rattle.station.specs.View.{view, Valid}
 use Rattle.station.specs.Answers.{Gives}
@@ -41,6 +41,7 @@ numbers-read ReplanLatest ss list n places e h = omega (arith, e .0)
 numbers-read (ReplanLines allowance) ss list n places e h = omega (arith, e .0)
 numbers-read (Enquire ticket) ss list n places e h = omega (arith, e .0)
 numbers-read Board ss list n places e h = refl
+numbers-read (Withdraw ticket) ss list n places e h = omega (arith, e .0)
 
 module _ {s : Station} (c : Call) {ss list after : List ℕ} {a : code.Answer} {next : Station} (v : Valid s)
     (p : Applies (view s) c ss list after a next) where
@@ -83,6 +84,7 @@ after-call s ReplanLatest ss after n places e p = p .stays ∙ ap lentList (e .1
 after-call s (ReplanLines allowance) ss after n places e p = p .stays ∙ ap lentList (e .1)
 after-call s (Enquire ticket) ss after n places e p = p .stays ∙ ap lentList (e .1)
 after-call s Board ss after n places e p = ap (λ (x : Result). x .list) (p .gives .result)
+after-call s (Withdraw ticket) ss after n places e p = p .stays ∙ ap lentList (e .1)
 
 -- the lent front of the list as the call leaves it, and the rest of it as it was
 pub list-left :

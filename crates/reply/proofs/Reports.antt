@@ -13,12 +13,12 @@ use Rattle.rules.specs.Replan as replan
 use Rattle.rules.specs.Replan.{Proposal, latest, byLines}
 use Rattle.rules.specs.Judgement.{judged}
 use Rattle.rules.specs.Calls as rules
-use Rattle.rules.specs.Calls.{State, Answer, refused, opened, previewed, committed, moved, planned, waiting, charging, looked, preview, commit, move, offer, replanLines, enquire, board, Result, step, refusals, answering, drawFor, startFor, previewedAt, decided, tested, limitsOf, previewing, committing, moving, offering, replanningLatest, replanningLines, enquiring, boarding, risesFrom, isPassed, startBefore}
+use Rattle.rules.specs.Calls.{State, Answer, refused, opened, previewed, committed, moved, planned, waiting, charging, looked, withdrawn, preview, commit, move, offer, replanLines, enquire, board, withdraw, Result, step, refusals, answering, drawFor, startFor, previewedAt, decided, tested, limitsOf, previewing, committing, moving, offering, replanningLatest, replanningLines, enquiring, boarding, withdrawing, risesFrom, isPassed, startBefore}
 use Rattle.rules.proofs.Lists.{length-keep}
 use Rattle.charges.proofs.Sorting.{length-sorted}
 use Rattle.answers.specs.Answers.{answerText, listedOf}
 use Rattle.calls.specs.declared.Call.{Call}
-use Rattle.calls.specs.declared.Call.the-variants.{Preview, Commit, Move, Offer, ReplanLatest, ReplanLines, Enquire, Board}
+use Rattle.calls.specs.declared.Call.the-variants.{Preview, Commit, Move, Offer, ReplanLatest, ReplanLines, Enquire, Board, Withdraw}
 use Rattle.calls.specs.Applied.{callOf, Lends, none, reads, writes, both, lends, lentOf}
 use Rattle.reply.specs.Reply.{told}
 
@@ -34,6 +34,7 @@ text-same (planned c b a k) asked list other e = refl
 text-same (waiting u w) asked list other e = refl
 text-same (charging u v w) asked list other e = refl
 text-same (looked n) asked list other e = rw e
+text-same withdrawn asked list other e = refl
 
 -- Whatever numbers were read, nothing is printed of the list with any answer but a move's and a board's
 
@@ -106,7 +107,7 @@ Reports both n places = (n ≤ 360) × (n ≤ places)
 pub reports :
     (s : State) (c : Call) (ss list : List ℕ) → length (s .charges) ≤ 180
     → Reports (lends c) (listedOf (step s (callOf c ss list) .answer) (length ss)) (length list)
-unfolding previewing committing offering replanningLatest replanningLines enquiring
+unfolding previewing committing offering replanningLatest replanningLines enquiring withdrawing
 reports s (Preview line time due rate) ss list few =
     refused-none (length ss) (firstOf (refusals s (preview line time due rate))) s [] (previewing s line time due rate) (previewed-none (length ss) s (startFor s (drawFor s line time rate)))
 reports s (Commit line time due rate shown) ss list few =
@@ -119,6 +120,7 @@ reports s (ReplanLines allowance) ss list few =
 reports s (Enquire ticket) ss list few =
     refused-none (length ss) (firstOf (refusals s (enquire ticket))) s [] (enquiring s ticket) (enquired-none (length ss) (s .clock) (s .charges) ticket)
 reports s Board ss list few = few-boarded s ss list
+reports s (Withdraw ticket) ss list few = refused-none (length ss) (firstOf (refusals s (withdraw ticket))) s [] (withdrawing s ticket) refl
 
 pub few-reports : (l : Lends) (n places : ℕ) → Reports l n places → (n ≤ 360) × (n ≤ places)
 few-reports none n places h = omega arith

@@ -4,7 +4,7 @@ use mathlib.Core.Path.{_≡_}
 use mathlib.Core.List.{List, []}
 use lib.ListN.{length}
 use lib.Seq.{sets}
-use Rattle.rules.specs.Calls.{State, Call, preview, commit, move, offer, replanLatest, replanLines, enquire, board, Result}
+use Rattle.rules.specs.Calls.{State, Call, preview, commit, move, offer, replanLatest, replanLines, enquire, board, withdraw, Result}
 use Rattle.rules.specs.Calls as calls
 use Rattle.requests.specs.Requests.{Asked, nothing, opening, call, error, readRequest}
 use Rattle.text.specs.Printed.{Printed}
@@ -27,6 +27,7 @@ numbersIn replanLatest = 0
 numbersIn (replanLines allowance) = 0
 numbersIn (enquire ticket) = 0
 numbersIn (board asked list) = length asked
+numbersIn (withdraw ticket) = 0
 
 -- what is told of a result, where so many numbers were read
 abbrev pub told : ℕ → Result → Told
@@ -54,6 +55,7 @@ writtenBy s replanLatest = []
 writtenBy s (replanLines allowance) = []
 writtenBy s (enquire ticket) = []
 writtenBy s (board asked list) = calls.step s (board asked list) .list
+writtenBy s (withdraw ticket) = []
 
 abbrev pub requestWritten : State → Asked → List ℕ
 requestWritten s nothing = []

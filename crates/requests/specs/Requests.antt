@@ -6,7 +6,7 @@ use mathlib.Core.List.{List, [], _∷_}
 use lib.Dec.{ltb, eqb}
 use lib.ListN.{length, getD, take, drop, replicate}
 use lib.Seq.{sets, slice}
-use Rattle.rules.specs.Calls.{Settings, settings, Call, preview, commit, move, offer, replanLatest, replanLines, enquire, board}
+use Rattle.rules.specs.Calls.{Settings, settings, Call, preview, commit, move, offer, replanLatest, replanLines, enquire, board, withdraw}
 use Rattle.text.specs.Numbers.{numberOf}
 use Rattle.text.specs.Parts.{split}
 use Rattle.text.specs.declared.number.Number.{Number}
@@ -15,7 +15,7 @@ use Rattle.requests.specs.Words.{named}
 use Rattle.requests.specs.declared.request.Reason.{Reason}
 use Rattle.requests.specs.declared.request.Reason.the-variants.{UnknownCall, NotANumber, NumberTooLarge, MissingNumber, ExtraNumber, LineTooLong}
 use Rattle.requests.specs.declared.word.CallName.{CallName}
-use Rattle.requests.specs.declared.word.CallName.the-variants.{Open, Preview, Commit, Move, Offer, Latest, Lines, Enquire, Board, Unknown}
+use Rattle.requests.specs.declared.word.CallName.the-variants.{Open, Preview, Commit, Move, Offer, Latest, Lines, Enquire, Board, Withdraw, Unknown}
 use Rattle.station.specs.Answers.{settingsOf}
 use Rattle.calls.specs.Applied as applied
 use Rattle.requests.specs.declared.request.Request as declared
@@ -49,6 +49,7 @@ taken Latest = Between 0 0
 taken Lines = Between 1 1
 taken Enquire = Between 1 1
 taken Board = Between 1 2048
+taken Withdraw = Between 1 1
 taken Unknown = NoCall
 
 abbrev pub AtMost : ℕ → Takes → Type 0
@@ -94,6 +95,7 @@ callOf Latest ns = call replanLatest
 callOf Lines ns = call (replanLines (getD ns 0 0))
 callOf Enquire ns = call (enquire (getD ns 0 0))
 callOf Board ns = call (board (drop 1 ns) (lentList (getD ns 0 0)))
+callOf Withdraw ns = call (withdraw (getD ns 0 0))
 callOf Unknown ns = error UnknownCall
 
 abbrev pub called : CallName → Numbers → Asked

@@ -4,7 +4,7 @@ use mathlib.Core.Bool.{cond}
 use mathlib.Core.List.{List, [], _∷_}
 use Rattle.text.specs.Parts.{sameText}
 use Rattle.requests.specs.declared.word.CallName.{CallName}
-use Rattle.requests.specs.declared.word.CallName.the-variants.{Open, Preview, Commit, Move, Offer, Latest, Lines, Enquire, Board, Unknown}
+use Rattle.requests.specs.declared.word.CallName.the-variants.{Open, Preview, Commit, Move, Offer, Latest, Lines, Enquire, Board, Withdraw, Unknown}
 
 -- the call that a word names
 abbrev pub named : List ℕ → CallName
@@ -27,4 +27,6 @@ named word =
     (cond (sameText word (101 ∷ 110 ∷ 113 ∷ 117 ∷ 105 ∷ 114 ∷ 101 ∷ [])) Enquire
     -- "board"
     (cond (sameText word (98 ∷ 111 ∷ 97 ∷ 114 ∷ 100 ∷ [])) Board
-    Unknown))))))))
+    -- "withdraw"
+    (cond (sameText word (119 ∷ 105 ∷ 116 ∷ 104 ∷ 100 ∷ 114 ∷ 97 ∷ 119 ∷ [])) Withdraw
+    Unknown)))))))))

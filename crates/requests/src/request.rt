@@ -75,6 +75,7 @@ fn taken(name: CallName) -> Takes
             least: 1,
             most: MOST,
         },
+        CallName::Withdraw => Takes::Between { least: 1, most: 1 },
         CallName::Unknown => Takes::NoCall,
     }
 }
@@ -202,6 +203,12 @@ fn call_of(name: CallName, numbers: &[u32]) -> Request
                 places: first,
             }
         }
+        CallName::Withdraw => Request::Call {
+            call: Call::Withdraw { ticket: first },
+            from: 0,
+            until: 0,
+            places: 0,
+        },
         CallName::Unknown => Request::Error(Reason::UnknownCall),
     }
 }

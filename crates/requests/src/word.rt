@@ -16,6 +16,7 @@ pub enum CallName {
     Lines,
     Enquire,
     Board,
+    Withdraw,
     Unknown,
 }
 
@@ -30,6 +31,7 @@ pub fn call_named(word: &[u8]) -> CallName
     ensures { λ r. ⌜ r ≡ named (now (word .entry)) ⌝ }
 {
     let name = CallName::Unknown;
+    let name = named_or(word, b"withdraw", CallName::Withdraw, name);
     let name = named_or(word, b"board", CallName::Board, name);
     let name = named_or(word, b"enquire", CallName::Enquire, name);
     let name = named_or(word, b"lines", CallName::Lines, name);

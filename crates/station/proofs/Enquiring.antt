@@ -20,7 +20,7 @@ use Rattle.station.proofs.Refusing.{answering-granted}
 abbrev pub toldOf : ℕ → Charge → Answer
 toldOf clock x = cond (isBegun clock x) (charging (x .start) (endOf x) (x .rate)) (waiting (x .start) (x .rate))
 
-abbrev isAt : Found → Bool
+abbrev pub isAt : Found → Bool
 isAt (at i) = true
 isAt nothing = false
 
@@ -38,7 +38,7 @@ module _ (g : ℕ → Charge) (clock ticket : ℕ) where
       go true o = refl
       go false o = refl
 
-  some-first :
+  pub some-first :
       (k a : ℕ)
       → some (λ x. eqb (x .ticket) ticket) (tabulate g k a) ≡ isAt (first (λ i. eqb (g i .ticket) ticket) k a)
   some-first zero a = refl
@@ -50,7 +50,7 @@ module _ (g : ℕ → Charge) (clock ticket : ℕ) where
       go false o = refl
 
 module _ (s : Station) (ticket : ℕ) where
-  abbrev asked : Found
+  abbrev pub asked : Found
   asked = first (λ i. eqb (chargeAt (s .charges) i .ticket) ticket) (s .charges .held) 0
 
   pub enquire-found :

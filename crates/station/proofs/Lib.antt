@@ -5,5 +5,6 @@ pub mod Enquiring
 pub mod OnTheBoard
 pub mod Ordered
 pub mod Planned
+pub mod Withdrawn
 pub mod Moved
 pub mod Determined

@@ -3,7 +3,7 @@ use Prim.Native.Nat.{ℕ}
 use mathlib.Core.Path.{_≡_}
 use mathlib.Core.List.{List}
 use Rattle.rules.specs.Calls as rules
-use Rattle.rules.specs.Calls.{State, settings, Answer, refused, opened, previewed, committed, moved, planned, waiting, charging, looked, Result, tested}
+use Rattle.rules.specs.Calls.{State, settings, Answer, refused, opened, previewed, committed, moved, planned, waiting, charging, looked, withdrawn, Result, tested}
 use Rattle.rules.specs.Replan.{Proposal}
 use Rattle.charges.specs.Arrays.{Columns}
 use Rattle.station.specs.declared.Station.{Station}
@@ -22,6 +22,8 @@ use Rattle.station.specs.declared.enquiry.EnquiryAnswer.{EnquiryAnswer}
 use Rattle.station.specs.declared.enquiry.EnquiryAnswer.the-variants.{Waiting, Charging, Refused as EnquiryRefused}
 use Rattle.station.specs.declared.board.BoardAnswer.{BoardAnswer}
 use Rattle.station.specs.declared.board.BoardAnswer.the-variants.{Looked, Refused as BoardRefused}
+use Rattle.station.specs.declared.withdraw.WithdrawAnswer.{WithdrawAnswer}
+use Rattle.station.specs.declared.withdraw.WithdrawAnswer.the-variants.{Withdrawn, Refused as WithdrawRefused}
 use Rattle.station.specs.View.{view, Valid}
 
 -- an answer, the station beside it and the lent list, as a result of the rules
@@ -71,3 +73,7 @@ enquiryAnswer EnquiryRefused = refused 15
 abbrev pub boardAnswer : BoardAnswer → Answer
 boardAnswer (Looked n) = looked n
 boardAnswer (BoardRefused number) = refused number
+
+abbrev pub withdrawAnswer : WithdrawAnswer → Answer
+withdrawAnswer Withdrawn = withdrawn
+withdrawAnswer (WithdrawRefused number) = refused number

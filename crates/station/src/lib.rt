@@ -5,6 +5,7 @@ pub mod enquiry;
 pub mod open;
 pub mod order;
 pub mod plan;
+pub mod withdraw;
 
 pub struct Station {
     pub limit: u32,

@@ -13,16 +13,16 @@ use Rattle.rules.specs.Charge.{Charge, loadsOf}
 use Rattle.rules.specs.Calls.{boundOf, limitsOf}
 use Rattle.rules.proofs.Ranges.{and-right, below-or-not}
 use Rattle.rules.proofs.Lists.{length-tabulate, getD-tabulate}
-use Rattle.charges.specs.declared.Charges.{Charges}
 use Rattle.charges.specs.Arrays.{chargeAt}
 use Rattle.station.specs.declared.Station.{Station}
 use Rattle.station.specs.View.{view}
 use Rattle.layout.specs.Lists.{every}
 use Rattle.layout.specs.Image.{noCharge, heldAt}
-use Rattle.layout.specs.Validity.{settingsRanged, boundRight, chargeRight, ticketAt, ticketRight, recordRight, isValid}
+use Rattle.layout.specs.Validity.{boundRight, chargeRight, ticketAt, ticketRight, recordRight, isValid}
 use Rattle.layout.proofs.Listing.{every-at}
 use Rattle.layout.proofs.Judging.{RightCharge, charge-tested}
-use Rattle.validity.specs.Settled.{settingsValid, chargeValid, ticketOrNext, ticketRises, Settled, Profiled}
+use Rattle.planner.specs.Ready.{Profiled}
+use Rattle.validity.specs.Settled.{chargeValid, ticketOrNext, ticketRises, Settled}
 use Rattle.validity.proofs.Ranging.{Ranged, ranged, valid-ranged, valid-bound}
 
 -- Tickets that rise, by what was read

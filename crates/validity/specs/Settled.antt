@@ -1,14 +1,12 @@
 -- What is known of a station before its charges are tested, and the tests of plain numbers.
-use Prim.Native.Nat.{ℕ, _+_, _≤_, _<_}
+use Prim.Native.Nat.{ℕ, _+_, _<_}
 use mathlib.Core.Path.{_≡_}
 use mathlib.Core.Bool.{Bool, true, cond, _&&_}
 use mathlib.Core.List.{List}
 use lib.Dec.{leb, ltb}
 use lib.ListN.{getD}
 use Rattle.rules.specs.Calls.{boundOf}
-use Rattle.charges.specs.declared.Charges.{Charges}
 use Rattle.charges.specs.Arrays.{chargeAt, Columns}
-use Rattle.planner.specs.Ready.{EndsFit, Rated}
 use Rattle.station.specs.declared.Station.{Station}
 use Rattle.layout.specs.Validity.{settingsRanged, fieldsRanged, rateRight, timesRight}
 
@@ -36,10 +34,3 @@ pub record Settled (s : Station) : Type 0 where
   pub settings : settingsValid (s .limit) (s .percent) (s .tail) (s .clock) (s .next) ≡ true
   pub bound-is : s .bound ≡ boundOf (s .limit) (s .percent)
   pub active : (q : ℕ) → q < s .charges .held → chargeAt (s .charges) q .activeTime ≡ chargeAt (s .charges) q .time + s .tail
-
--- charges that a profile takes, all of them with a start below the largest number of 32 bits
-pub record Profiled (c : Charges) : Type 0 where
-  pub few : c .held ≤ 180
-  pub ends : EndsFit c
-  pub rated : Rated c
-  pub below : (i : ℕ) → i < c .held → chargeAt c i .start < 4294967295

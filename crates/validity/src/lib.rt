@@ -1,10 +1,9 @@
 // Whether a station is one whose image restore accepts: its settings, its charges, its plan.
-pub mod plan;
 pub mod ranges;
 pub mod records;
 
-use crate::plan::plan_sound;
 use crate::records::records_right;
+use planner::plan::plan_sound;
 use station::Station;
 ghost use mathlib.Core.Path.{_≡_};
 ghost use Rattle.layout.specs.Validity.{isValid};

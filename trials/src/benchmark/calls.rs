@@ -15,6 +15,9 @@ pub struct Measured {
     first: Vec<Line>,
     with: Vec<Line>,
     without: Vec<Line>,
+    /// The ticket that the first turn of `with` withdraws in its end; the next turn's is one
+    /// higher.
+    withdrawn: Option<u32>,
     /// Calls that `with` has and `without` has not.
     calls: usize,
     /// The calls change the station, so it is made anew for each turn.
@@ -33,13 +36,21 @@ impl Measured {
     /// The last of so many commits.
     fn last_commits(first: Vec<Line>, orders: Vec<Line>) -> Measured {
         let calls = orders.len();
-        Measured { first, with: orders, without: Vec::new(), calls, anew: true, rounds: 0 }
+        let (with, without, withdrawn) = (orders, Vec::new(), None);
+        Measured { first, with, without, withdrawn, calls, anew: true, rounds: 0 }
+    }
+
+    /// A withdrawal that takes the commit before it back, so that the station is the same
+    /// again. The preview of the same order is taken off, which looks for the same start.
+    fn taken_back(first: Vec<Line>, commit: Line, preview: Line, held: usize) -> Measured {
+        let (with, without, withdrawn) = (vec![commit], vec![preview], Some(held as u32));
+        Measured { first, with, without, withdrawn, calls: 1, anew: false, rounds: 0 }
     }
 
     /// A call that leaves the station as it is.
     fn repeatable(first: Vec<Line>, call: Line) -> Measured {
-        let (with, without) = (vec![call], Vec::new());
-        Measured { first, with, without, calls: 1, anew: false, rounds: 0 }
+        let (with, without, withdrawn) = (vec![call], Vec::new(), None);
+        Measured { first, with, without, withdrawn, calls: 1, anew: false, rounds: 0 }
     }
 
     /// The call stands in `first` already once: a plan that is better than the held
@@ -54,10 +65,22 @@ impl Measured {
 
     /// Scripts with the calls and without them.
     fn scripts(&self, turns: usize) -> [Vec<Line>; 2] {
-        [&self.with, &self.without].map(|more| match self.anew {
+        let [mut with, without] = [&self.with, &self.without].map(|more| match self.anew {
             true => repeated(&[self.first.as_slice(), more].concat(), turns),
             false => [self.first.clone(), repeated(more, turns)].concat(),
-        })
+        });
+        if let Some(ticket) = self.withdrawn {
+            with = [self.first.clone(), self.turns_with_withdrawal(ticket, turns)].concat();
+        }
+        [with, without]
+    }
+
+    fn turns_with_withdrawal(&self, first: u32, turns: usize) -> Vec<Line> {
+        let turn = |ticket: u32| {
+            let withdraw = write_call(&Call::Withdraw { ticket }).into_bytes();
+            [self.with.clone(), vec![withdraw]].concat()
+        };
+        (first..).take(turns).flat_map(turn).collect()
     }
 
     /// So many turns that the program is busy for long enough.
@@ -96,7 +119,7 @@ pub fn typical_commit(held: usize) -> Measured {
     let first = states::lasting(held - 1);
     let (with, without) = (states::passing(true), states::passing(false));
     let calls = states::PASSING as usize;
-    Measured { first, with, without, calls, anew: true, rounds: 0 }
+    Measured { first, with, without, withdrawn: None, calls, anew: true, rounds: 0 }
 }
 
 pub fn typical_latest(held: usize) -> Measured {
@@ -170,6 +193,25 @@ pub fn preview_before_all(held: usize) -> Measured {
     Measured::repeatable(states::behind(held - 1), states::preview_at_once())
 }
 
+/// A board of so many tickets at a full station, spread evenly over those held.
+pub fn board(asked: usize) -> Measured {
+    let tickets = (1..=asked).map(|place| (180 * place / asked) as u32).collect();
+    let call = Call::Board { places: asked as u32, tickets };
+    Measured::repeatable(states::peak(180), write_call(&call).into_bytes())
+}
+
+/// A withdrawal of the last of so many charges.
+pub fn typical_withdrawal(held: usize) -> Measured {
+    let (commit, preview) = (states::commit_at_once(), states::preview_at_once());
+    Measured::taken_back(states::lasting(held - 1), commit, preview, held)
+}
+
+/// The same out of a plan of many steps.
+pub fn worst_withdrawal(held: usize) -> Measured {
+    let (commit, preview) = (states::commit_behind_dense(0), states::preview_behind_dense());
+    Measured::taken_back(states::dense(held - 1).0, commit, preview, held)
+}
+
 pub fn worst_latest() -> Measured {
     Measured::kept(states::queue(180), b"latest".to_vec())
 }
@@ -235,6 +277,35 @@ mod tests {
                 assert_eq!(last(measured), Some("start 0".to_string()));
             }
             assert_eq!(last(worst_preview(held)), Some("start 2880".to_string()));
+        }
+    }
+
+    /// The last ticket is the last one held, so each board walks over all charges.
+    #[test]
+    fn boards_of_held_tickets() {
+        for asked in [1, 20, 180] {
+            let answers = answers_of(Station::fresh(1, 100, 0), &board(asked).scripts(2)[0]);
+            let last = show(&answers[answers.len() - 1]);
+            assert!(last.starts_with("board 180 "), "{last}");
+            assert!(!last.contains("4294967295"), "{last}");
+            assert_eq!(last.split(' ').count(), 2 + asked);
+        }
+    }
+
+    #[test]
+    fn withdrawals_that_are_not_refused() {
+        for held in [20, 60, 120, 180] {
+            for measured in [typical_withdrawal(held), worst_withdrawal(held)] {
+                let [with, without] = measured.scripts(3);
+                let with = answers_of(Station::fresh(1, 100, 0), &with);
+                let without = answers_of(Station::fresh(1, 100, 0), &without);
+                assert_eq!(with.len() - without.len(), 3);
+                let shown = show(&without[without.len() - 1]);
+                for (turn, two) in with[with.len() - 6..].chunks(2).enumerate() {
+                    assert_eq!(show(&two[0]), format!("ticket {} {shown}", held + turn));
+                    assert_eq!(two[1], b"withdrawn");
+                }
+            }
         }
     }
 

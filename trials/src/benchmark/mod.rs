@@ -4,9 +4,10 @@
 //! - `day`, `lateness`: a day of the source's benchmark as a script, and its worth
 //! - `states`, `calls`: stations with so many charges, and single calls on them
 //! - `stopwatch`, `sample`, `pair`: one time, several of them, two programs in turn
-//! - `bus`: calls over an image (N8)
+//! - `bus`, `blocks`: calls over an image (N8), and the blocks that they rewrite (N9)
 //! - `days`, `single`, `stack`, `plans`: the tables; `table`: their layout
 
+mod blocks;
 mod bus;
 mod calls;
 mod day;
@@ -42,6 +43,7 @@ pub fn run(program: &str, bus: Option<&str>, repeat: usize, days: u64) -> Result
     if let Some(bus) = bus {
         println!("### Calls over an image\n");
         bus::print(&pair, bus, repeat)?;
+        blocks::print()?;
     }
     println!("### Deepest stack\n");
     stack::print(&pair)?;
@@ -70,5 +72,6 @@ fn print_method(pair: &Pair, repeat: usize) -> Result<(), String> {
 pub fn run_bus(program: &str, bus: &str, repeat: usize) -> Result<(), String> {
     let pair = Pair::new(program, repeat)?;
     print_method(&pair, repeat)?;
-    bus::print(&pair, bus, repeat)
+    bus::print(&pair, bus, repeat)?;
+    blocks::print()
 }

@@ -45,6 +45,11 @@ pub fn print(pair: &Pair) -> Result<(), String> {
         ("replan by lines, 180 on one line", calls::one_round(false)),
         ("replan by lines, 180 equal ones on one line", calls::all_equal()),
         ("replan by lines, worst", calls::worst_lines()?),
+        ("board of 1 ticket", calls::board(1)),
+        ("board of 20 tickets", calls::board(20)),
+        ("board of 180 tickets", calls::board(180)),
+        ("withdrawal, typical", calls::typical_withdrawal(HELD)),
+        ("withdrawal, worst", calls::worst_withdrawal(HELD)),
     ];
     let mut table = Table::new(&["call", "program µs", "Rust µs", "ratio"]);
     for (title, measured) in &measured {
@@ -57,12 +62,14 @@ pub fn print(pair: &Pair) -> Result<(), String> {
 /// A call by the number of charges held.
 type Growing = (&'static str, fn(usize) -> Measured);
 
-const ORDERS: [Growing; 5] = [
+const ORDERS: [Growing; 7] = [
     ("preview, room at once", calls::typical_preview),
     ("preview, room at once, all charges but one behind it", calls::preview_before_all),
     ("preview, through all steps", calls::worst_preview),
     ("commit, room at once", calls::typical_commit),
     ("commit, through all steps", calls::worst_commit),
+    ("withdrawal, typical", calls::typical_withdrawal),
+    ("withdrawal, worst", calls::worst_withdrawal),
 ];
 
 const REPLANS: [Growing; 2] = [

@@ -76,8 +76,14 @@ pub fn lasting(held: usize) -> Vec<Line> {
 }
 
 /// An order that finds a point of line 3 free at once, and takes it for a minute.
+const AT_ONCE: Order = Order { line: 3, time: 1, due: 1, rate: 1 };
+
 pub fn preview_at_once() -> Line {
-    line(&Call::Preview { order: Order { line: 3, time: 1, due: 1, rate: 1 } })
+    line(&Call::Preview { order: AT_ONCE })
+}
+
+pub fn commit_at_once() -> Line {
+    line(&Call::Commit { order: AT_ONCE, shown: 0 })
 }
 
 /// Charges on one point of line 1, one behind the other, all but the first of which start
@@ -130,8 +136,12 @@ const BEHIND_DENSE: Order = Order { line: 1, time: 1, due: LOOSE, rate: 1 };
 
 /// Such orders, one after the other.
 pub fn behind_dense(count: u32) -> Vec<Line> {
-    let commit = |place| Call::Commit { order: BEHIND_DENSE, shown: 2 * LONGEST + place };
-    (0..count).map(|place| line(&commit(place))).collect()
+    (0..count).map(commit_behind_dense).collect()
+}
+
+/// The one behind so many others.
+pub fn commit_behind_dense(others: u32) -> Line {
+    line(&Call::Commit { order: BEHIND_DENSE, shown: 2 * LONGEST + others })
 }
 
 /// Such an order, previewed.

@@ -10,7 +10,8 @@ pub trait Images {
     /// The station of 1, 100 and r = 0.
     fn fresh(&self) -> Self::Yard;
     fn restore(&self, image: &[u8]) -> Result<Self::Yard, Refusal>;
-    fn save(&self, yard: &Self::Yard, image: &mut [u8]) -> Result<(), Refusal>;
+    /// Answers in how many blocks the image differs from the previous one.
+    fn save(&self, yard: &Self::Yard, previous: &[u8], image: &mut [u8]) -> Result<u32, Refusal>;
 }
 
 /// Those of the second implementation.
@@ -28,7 +29,7 @@ impl Images for Reference {
         image::restore(image)
     }
 
-    fn save(&self, yard: &Station, image: &mut [u8]) -> Result<(), Refusal> {
-        image::save(yard, image)
+    fn save(&self, yard: &Station, previous: &[u8], image: &mut [u8]) -> Result<u32, Refusal> {
+        image::save(yard, previous, image)
     }
 }

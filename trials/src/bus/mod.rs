@@ -1,6 +1,8 @@
 //! The bus program's lines (N8): "it holds an image, and each of its calls restores, acts
 //! and saves". The console's lines are answered over the image, with refusals 20 to 22
-//! before the call's own, and there are two lines more:
+//! before the call's own. "A bus call compares with the image as it was lent and adds this
+//! number to its answer" (N9): ` blocks B` at the end of each answer to a call that is no
+//! refusal. There are two lines more, which are no calls:
 //!
 //! | line | answer |
 //! | --- | --- |
@@ -35,13 +37,15 @@ pub struct Bus<I: Images, F: Files> {
     files: F,
     interpreter: Interpreter<I::Yard>,
     image: Vec<u8>,
+    /// The image as it was lent to the call in hand.
+    lent: Vec<u8>,
 }
 
 impl<I: Images, F: Files> Bus<I, F> {
     /// "Before anything its buffer is 4,608 zero bytes."
     pub fn new(images: I, files: F) -> Bus<I, F> {
         let interpreter = Interpreter::new(images.fresh());
-        Bus { images, files, interpreter, image: vec![0; BYTES] }
+        Bus { images, files, interpreter, image: vec![0; BYTES], lent: Vec::new() }
     }
 
     pub fn image(&self) -> &[u8] {
@@ -90,7 +94,10 @@ impl<I: Images, F: Files> Bus<I, F> {
             _ => self.images.restore(&self.image)?,
         };
         self.interpreter.try_call(call, out)?;
-        self.images.save(self.interpreter.yard(), &mut self.image)
+        self.lent.clone_from(&self.image);
+        let blocks = self.images.save(self.interpreter.yard(), &self.lent, &mut self.image)?;
+        out.extend(format!(" blocks {blocks}").into_bytes());
+        Ok(())
     }
 
     /// None is an error, which "leaves the buffer".

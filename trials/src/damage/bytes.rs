@@ -5,6 +5,7 @@ use super::{stations, Trial, CALLS, REFUSED};
 use crate::image::blocks::{BLOCK, BLOCKS, CONTENT};
 use crate::image::image_of;
 use crate::random::Random;
+use crate::reference::Station;
 
 fn trial(image: &[u8], place: usize, value: u8, random: &mut Random) -> Trial {
     let mut changed = image.to_vec();
@@ -40,9 +41,26 @@ fn every_value(image: Vec<u8>) -> impl Iterator<Item = Trial> {
         .map(move |(place, by)| trial(&image, place, image[place] ^ by, &mut random))
 }
 
+/// An opening compares with the image as it was lent, whatever that is: here all that
+/// differs is a check.
+fn openings_over_checks() -> impl Iterator<Item = Trial> {
+    let image = image_of(&Station::fresh(2, 50, 0));
+    let checks = (0..BLOCKS).flat_map(|block| (CONTENT..BLOCK).map(move |at| block * BLOCK + at));
+    checks.map(move |place| {
+        let mut changed = image.clone();
+        changed[place] ^= 64;
+        let calls = ["open 2 50 0", "open 2 50 0", "open 61 50 0"];
+        Trial {
+            title: format!("an opening over an image with byte {place} changed"),
+            image: changed,
+            calls: calls.map(|call| call.as_bytes().to_vec()).into(),
+        }
+    })
+}
+
 pub fn trials() -> impl Iterator<Item = Trial> {
     let full = image_of(&stations::of_script("full", 5, 1, 60));
     let images = [image_of(&stations::some()), full.clone(), vec![0; BLOCKS * BLOCK]];
     let every = images.into_iter().zip(1..).flat_map(|(image, seed)| every_byte(image, seed));
-    every.chain(every_value(full))
+    openings_over_checks().chain(every).chain(every_value(full))
 }

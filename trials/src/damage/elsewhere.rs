@@ -21,9 +21,13 @@ pub fn calls_after(image: &[u8], random: &mut Random, count: u64) -> Vec<Line> {
     if last_clear(&station.charges) > station.clock + MOST_MINUTES {
         let target = (station.clock + random.below(2_000)).min(1_000_000);
         let ticket = station.charges[0].ticket;
+        let last = station.charges[station.charges.len() - 1].ticket;
         let calls = [
             format!("enquire {ticket}"),
+            format!("withdraw {last}"),
             format!("move {target} 360"),
+            format!("board 2 {ticket} {}", u32::MAX),
+            format!("withdraw {ticket}"),
             format!("enquire {ticket}"),
         ];
         return calls.map(String::into_bytes).into();

@@ -36,7 +36,7 @@ pub struct Trial {
 }
 
 /// So many images are read by one run of the program.
-const BATCH: usize = 1_000;
+const BATCH: usize = 250;
 
 /// All of them; `times` as many of those that are drawn by lot.
 pub fn trials(seed: u64, times: u64) -> impl Iterator<Item = Trial> {
@@ -119,7 +119,7 @@ fn found(trial: &Trial, what: String) -> Failure {
 }
 
 /// Calls of every kind but openings.
-const CALLS: [&str; 7] = [
+const CALLS: [&str; 9] = [
     "preview 1 5 50 1",
     "commit 1 5 50 1 100",
     "move 1000000 360",
@@ -127,11 +127,20 @@ const CALLS: [&str; 7] = [
     "latest",
     "lines 5",
     "enquire 3",
+    "board 2 1 3",
+    "withdraw 3",
 ];
 
 /// Calls that have a refusal of their own, which comes after 20 to 22.
-const REFUSED: [&str; 5] =
-    ["preview 4 0 50 9", "commit 1 5 2000001 1 0", "move 1000001 0", "offer 1 2 3", "lines 0"];
+const REFUSED: [&str; 7] = [
+    "preview 4 0 50 9",
+    "commit 1 5 2000001 1 0",
+    "move 1000001 0",
+    "offer 1 2 3",
+    "lines 0",
+    "board 1 3 3",
+    "withdraw 0",
+];
 
 /// All of them, lines that are no calls, an opening that is refused, and a call after it; an opening in the end
 /// where `opened`.

@@ -1,9 +1,10 @@
-//! Save and restore (N8) for speed: the bytes go straight between the image and the
+//! Save and restore (N8, N9) for speed: the bytes go straight between the image and the
 //! station, each once, and the plan is sound if its profile is.
 
 use super::profile::Rules;
 use super::station::{bound, Charge, Station, LAST_CLOCK, LAST_TICKET, PLACES};
 use crate::bus::images::Images;
+use crate::image::blocks::differing;
 use crate::image::{refuse_size, CHECK, CONTENTS};
 use crate::yard::Refusal;
 
@@ -12,7 +13,6 @@ const CONTENT: usize = 508;
 const RECORD: usize = 20;
 const RECORDS: usize = 200;
 const HEADER: usize = 24;
-const IN_A_BLOCK: usize = 25;
 
 /// The fast program's images.
 #[derive(Clone, Copy)]
@@ -34,10 +34,11 @@ impl Images for Fast {
         }
     }
 
-    fn save(&self, station: &Station, image: &mut [u8]) -> Result<(), Refusal> {
+    fn save(&self, yard: &Station, previous: &[u8], image: &mut [u8]) -> Result<u32, Refusal> {
+        refuse_size(previous)?;
         refuse_size(image)?;
-        write(station, image);
-        Ok(())
+        write(yard, image);
+        Ok(differing(previous, image))
     }
 }
 
@@ -49,28 +50,31 @@ fn number(bytes: &[u8], at: usize) -> u32 {
     u32::from_le_bytes([bytes[at], bytes[at + 1], bytes[at + 2], bytes[at + 3]])
 }
 
-/// Where byte `byte` of record `place` lies.
+/// Where byte `byte` of record `place` lies (N9).
 fn position(place: usize, byte: usize) -> usize {
-    BLOCK * (1 + place / IN_A_BLOCK) + RECORD * (place % IN_A_BLOCK) + byte
+    let number = RECORDS * byte + place;
+    BLOCK * (1 + number / CONTENT) + number % CONTENT
 }
 
 fn record(image: &[u8], place: usize) -> [u8; RECORD] {
-    let from = position(place, 0);
     let mut record = [0; RECORD];
-    record.copy_from_slice(&image[from..from + RECORD]);
+    for (byte, value) in record.iter_mut().enumerate() {
+        *value = image[position(place, byte)];
+    }
     record
 }
 
 fn put_record(image: &mut [u8], place: usize, record: &[u8; RECORD]) {
-    let from = position(place, 0);
-    image[from..from + RECORD].copy_from_slice(record);
+    for (byte, value) in record.iter().enumerate() {
+        image[position(place, byte)] = *value;
+    }
 }
 
-/// Behind the records of a block.
+/// Behind the header, and behind the last record's last byte.
 fn spare_is_zero(image: &[u8]) -> bool {
-    let behind = |block: &[u8]| block[IN_A_BLOCK * RECORD..CONTENT].iter().all(|byte| *byte == 0);
-    image[HEADER..CONTENT].iter().all(|byte| *byte == 0)
-        && image[BLOCK..].chunks_exact(BLOCK).all(behind)
+    let last = position(RECORDS - 1, RECORD - 1);
+    let (first, behind) = (&image[HEADER..CONTENT], &image[last + 1..image.len() - 4]);
+    first.iter().chain(behind).all(|byte| *byte == 0)
 }
 
 fn station_in(image: &[u8]) -> Option<Station> {

@@ -4,11 +4,12 @@
 
 use super::profile::{Load, Profile, Rules, Wanted};
 use super::search::earliest;
-use crate::yard::{Committed, Found, Moved, Order, Planned, Refusal, Yard};
+use crate::yard::{Committed, Found, Moved, Order, Planned, Refusal, Yard, NOT_HELD};
 
 pub const PLACES: usize = 180;
 pub const LAST_TICKET: u32 = 65_535;
 pub const LAST_CLOCK: u32 = 1_000_000;
+const MOST_ASKED: usize = 180;
 
 #[derive(Clone, Copy)]
 pub struct Charge {
@@ -106,6 +107,10 @@ impl Station {
         Profile::of(charges.map(|charge| charge.load(self.tail)), self.clock)
     }
 
+    fn place_of(&self, ticket: u32) -> Result<usize, Refusal> {
+        self.charges.binary_search_by_key(&ticket, |charge| charge.ticket).map_err(|_| 15)
+    }
+
     pub fn waiting(&self) -> impl Iterator<Item = &Charge> {
         let clock = self.clock;
         self.charges.iter().filter(move |charge| charge.start >= clock)
@@ -198,13 +203,47 @@ impl Yard for Station {
     }
 
     fn enquire(&self, ticket: u32) -> Result<Found, Refusal> {
-        let place = self.charges.binary_search_by_key(&ticket, |charge| charge.ticket);
-        let charge = &self.charges[place.map_err(|_| 15u32)?];
+        let charge = &self.charges[self.place_of(ticket)?];
         let (start, rate) = (u64::from(charge.start), u32::from(charge.rate));
         Ok(if charge.start >= self.clock {
             Found::Waiting { start, rate }
         } else {
             Found::Charging { start, end: u64::from(charge.end()), rate }
         })
+    }
+
+    /// A merge: both lists rise, so the walk over the charges goes on from ticket to ticket.
+    /// At the end it has passed those up to the last one asked.
+    fn board(&self, tickets: &[u32], starts: &mut [u32]) -> Result<usize, Refusal> {
+        if tickets.len() > MOST_ASKED || tickets.windows(2).any(|two| two[0] >= two[1]) {
+            return Err(23);
+        }
+        if starts.len() < tickets.len() {
+            return Err(24);
+        }
+        let mut looked = 0;
+        for (start, ticket) in starts.iter_mut().zip(tickets) {
+            *start = NOT_HELD;
+            while let Some(charge) = self.charges.get(looked).filter(|one| one.ticket <= *ticket) {
+                looked += 1;
+                if charge.ticket == *ticket {
+                    *start = charge.start;
+                }
+            }
+        }
+        Ok(looked)
+    }
+
+    fn withdraw(&mut self, ticket: u32) -> Result<(), Refusal> {
+        let place = self.place_of(ticket)?;
+        if self.charges[place].start < self.clock {
+            return Err(25);
+        }
+        let rest = self.charges[..place].iter().chain(&self.charges[place + 1..]);
+        if !self.profile(rest).is_sound(self.rules) {
+            return Err(26);
+        }
+        self.charges.remove(place);
+        Ok(())
     }
 }

@@ -120,6 +120,14 @@ impl Author {
         self.call(Call::Enquire { ticket });
     }
 
+    pub fn board(&mut self, places: u32, tickets: Vec<u32>) {
+        self.call(Call::Board { places, tickets });
+    }
+
+    pub fn withdraw(&mut self, ticket: u32) {
+        self.call(Call::Withdraw { ticket });
+    }
+
     pub fn clock(&self) -> u32 {
         self.station().clock as u32
     }

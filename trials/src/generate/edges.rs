@@ -72,7 +72,7 @@ fn clock_move(author: &mut Author) {
 }
 
 fn one_call(author: &mut Author) {
-    match author.random.below(12) {
+    match author.random.below(13) {
         0..=5 => order(author),
         6..=7 => clock_move(author),
         8 => {
@@ -84,7 +84,10 @@ fn one_call(author: &mut Author) {
         _ => {
             let next = author.station().next_ticket;
             let ticket = argument(author, 1, &[0, next - 1, next, 65_535, 65_536]);
-            author.enquire(ticket);
+            match author.random.percent(50) {
+                true => author.enquire(ticket),
+                false => author.withdraw(ticket),
+            }
         }
     }
 }

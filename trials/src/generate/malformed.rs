@@ -5,7 +5,7 @@ use super::author::Author;
 use super::{due, mixed};
 use crate::protocol::LONGEST_LINE;
 
-const SAMPLES: [&str; 57] = [
+const SAMPLES: [&str; 72] = [
     "",
     "#",
     "# commit 1 1 1 1 0",
@@ -64,6 +64,21 @@ const SAMPLES: [&str; 57] = [
     "lines 1 1",
     "enquire",
     "enquire 1 x",
+    "board",
+    "board ",
+    "board  1",
+    "board x 1",
+    "board 1 x",
+    "board 4294967296 1",
+    "board 2 1 4294967296",
+    "board 0000001 01",
+    "withdraw",
+    "withdraw ",
+    "withdraw x",
+    "withdraw 1 1",
+    "withdraw 4294967296",
+    "withdrawn 1",
+    "withdraw 0001",
 ];
 
 fn broken(author: &mut Author) -> Vec<u8> {

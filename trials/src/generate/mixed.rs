@@ -5,20 +5,22 @@ use super::due;
 
 pub fn one_call(author: &mut Author, longest: u64) {
     match author.random.below(100) {
-        0..=44 => {
+        0..=39 => {
             let line = author.random.between(1, 3) as u32;
             due::order(author, line, longest);
         }
-        45..=64 => {
+        40..=58 => {
             let minutes = author.random.below(longest + 1);
             author.move_on(minutes);
         }
-        65..=72 => author.latest(),
-        73..=80 => {
+        59..=66 => author.latest(),
+        67..=74 => {
             let allowance = author.random.pick(&[1, 2, 3, 5, 10, 1_000]);
             author.lines(allowance);
         }
-        81..=92 => super::plans::offer(author),
+        75..=86 => super::plans::offer(author),
+        87..=89 => super::boards::board(author),
+        90..=93 => super::withdraw::withdraw(author),
         _ => {
             let next = u64::from(author.station().next_ticket);
             let ticket = author.random.below(next + 1) as u32;

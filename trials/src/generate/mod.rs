@@ -3,6 +3,7 @@
 //! follow each other in one run of a program.
 
 mod author;
+mod boards;
 pub mod cars;
 mod commits;
 mod due;
@@ -27,6 +28,7 @@ mod tails;
 mod tickets;
 mod unopened;
 mod weights;
+mod withdraw;
 
 use crate::random::Random;
 use crate::reference::Station;
@@ -41,7 +43,7 @@ pub struct Kind {
     write: fn(&mut Author),
 }
 
-pub const KINDS: [Kind; 21] = [
+pub const KINDS: [Kind; 23] = [
     Kind { name: "edges", share: 15, write: edges::write },
     Kind { name: "mixed", share: 24, write: mixed::write },
     Kind { name: "offers", share: 15, write: offers::write },
@@ -59,6 +61,8 @@ pub const KINDS: [Kind; 21] = [
     Kind { name: "weights", share: 5, write: weights::write },
     Kind { name: "searches", share: 8, write: searches::write },
     Kind { name: "tails", share: 15, write: tails::write },
+    Kind { name: "boards", share: 8, write: boards::write },
+    Kind { name: "withdraw", share: 15, write: withdraw::write },
     // These are long and come once in a thousand, at turns of their own.
     Kind { name: "tickets", share: 0, write: tickets::write },
     Kind { name: "spent", share: 0, write: spent::write },

@@ -1,6 +1,7 @@
 //! All tickets used up: 65,535 orders, cheap because each crowd of 180 is gone
 //! after one minute. A full yard is refused 13 before the tickets are refused 14, and a
-//! start that is not the earliest 16 after both.
+//! start that is not the earliest 16 after both. A ticket that was withdrawn is not given
+//! again (N11).
 
 use super::author::Author;
 use crate::yard::Order;
@@ -30,6 +31,8 @@ pub fn write(author: &mut Author) {
         author.order(line, time, due);
     }
     let due = author.clock() + 5;
+    author.order(1, 5, due);
+    author.withdraw(LAST_TICKET);
     author.order(1, 5, due);
     author.move_on(3);
     author.order(1, 5, due + 3);

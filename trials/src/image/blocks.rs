@@ -48,6 +48,12 @@ pub fn checks_are_right(image: &[u8]) -> bool {
     })
 }
 
+/// "how many blocks differ" (N9), checks included.
+pub fn differing(one: &[u8], other: &[u8]) -> u32 {
+    let pairs = one.chunks(BLOCK).zip(other.chunks(BLOCK));
+    pairs.filter(|(one, other)| one != other).count() as u32
+}
+
 pub fn contents(image: &[u8]) -> Contents {
     image.chunks(BLOCK).map(|block| block[..CONTENT].to_vec()).collect()
 }

@@ -32,11 +32,13 @@ pub fn refuse_size(image: &[u8]) -> Result<(), Refusal> {
     }
 }
 
-/// "Save writes a station as nine blocks of 512 bytes"
-pub fn save(station: &Station, image: &mut [u8]) -> Result<(), Refusal> {
+/// "Save writes a station as nine blocks of 512 bytes"; it "is lent the previous image,
+/// refusal 20 covering its size, and answers how many blocks differ" (N9).
+pub fn save(station: &Station, previous: &[u8], image: &mut [u8]) -> Result<u32, Refusal> {
+    refuse_size(previous)?;
     refuse_size(image)?;
     image.copy_from_slice(&image_of(station));
-    Ok(())
+    Ok(blocks::differing(previous, image))
 }
 
 /// The image of any station that the fields can hold, in order or not.

@@ -3,7 +3,7 @@
 //! before order minutes, nor those after the clock, no end above the clock plus 1,445 for
 //! each ticket given, and whose plan is sound".
 
-use crate::reference::{minutes, Charge, Station, PLACES};
+use crate::reference::{Charge, Station, PLACES};
 use std::collections::BTreeSet;
 
 /// What can be wrong with the contents of an image.
@@ -90,21 +90,15 @@ fn of_charge(charge: &Charge, station: &Station) -> [(Rule, bool); 9] {
     ]
 }
 
-/// Counts change where a charge begins or ends to draw and nowhere else, so these minutes
-/// stand for all from the clock on. The others may be a hundred million.
 fn sound(station: &Station) -> bool {
-    let Station { clock, charges, .. } = station;
-    let changes = charges.iter().flat_map(|charge| [charge.start, charge.clear()]);
-    let minutes: BTreeSet<u64> = changes.map(|minute| minute.max(*clock)).collect();
-    let rules = station.rules();
-    minutes.iter().all(|minute| rules.sound_in(&minutes::counts(charges, *minute, 1)[0]))
+    station.rules().sound(&station.charges, station.clock)
 }
 
 #[cfg(test)]
 mod tests {
     use super::*;
     use crate::random::Random;
-    use crate::reference::last_clear;
+    use crate::reference::{last_clear, minutes};
 
     fn drawn(random: &mut Random) -> Station {
         let clock = 50;

@@ -4,7 +4,10 @@
 
 use super::search::smallest_start;
 use super::station::{bound, Charge, Station, PLACES};
-use crate::yard::{Committed, Found, Moved, Order, Planned, Refusal, Yard};
+use crate::yard::{Committed, Found, Moved, Order, Planned, Refusal, Yard, NOT_HELD};
+
+/// "The board asks for up to 180 tickets at a time" (N10).
+const MOST_ASKED: usize = 180;
 
 /// The refusals of a call, each with the condition for it, in the order of their places.
 fn refuse_first(refusals: &[(Refusal, bool)]) -> Result<(), Refusal> {
@@ -39,6 +42,11 @@ impl Station {
     pub fn earliest(&self, charge: &Charge) -> u64 {
         smallest_start(&self.charges, charge, self.clock, self.rules())
             .expect("the held plan is sound, so there is a start behind all of it")
+    }
+
+    /// The charge that has this ticket, if one is held.
+    pub fn charge(&self, ticket: u32) -> Option<&Charge> {
+        self.charges.iter().find(|charge| charge.ticket == ticket)
     }
 
     /// "Answer: ticket and start. Tickets rise by one."
@@ -120,12 +128,43 @@ impl Yard for Station {
     /// "an enquiry shows it as the end" (N7): s + p, also where that is at or below the
     /// clock.
     fn enquire(&self, ticket: u32) -> Result<Found, Refusal> {
-        let charge = self.charges.iter().find(|charge| charge.ticket == ticket).ok_or(15u32)?;
+        let charge = self.charge(ticket).ok_or(15u32)?;
         let Charge { start, rate, .. } = *charge;
         Ok(if charge.begun(self.clock) {
             Found::Charging { start, end: charge.end(), rate }
         } else {
             Found::Waiting { start, rate }
         })
+    }
+
+    /// "One call takes a rising list of 32-bit numbers and writes the start of each to
+    /// another such list, or 4,294,967,295 for one not held. It walks the held charges once
+    /// and answers how many it looked at: those with a ticket not above the highest asked,
+    /// so never more than are held; 0 for an empty list. Later places of the answer list are
+    /// kept. Refused: 23, tickets not strictly rising or more than 180; 24, answer list
+    /// shorter than the ticket list" (N10).
+    fn board(&self, tickets: &[u32], starts: &mut [u32]) -> Result<usize, Refusal> {
+        let rising = tickets.windows(2).all(|two| two[0] < two[1]);
+        refuse_first(&[
+            (23, !rising || tickets.len() > MOST_ASKED),
+            (24, starts.len() < tickets.len()),
+        ])?;
+        for (start, ticket) in starts.iter_mut().zip(tickets) {
+            *start = self.charge(*ticket).map_or(NOT_HELD, |charge| charge.start as u32);
+        }
+        let asked = |charge: &&Charge| tickets.iter().any(|ticket| charge.ticket <= *ticket);
+        Ok(self.charges.iter().filter(asked).count())
+    }
+
+    /// "A waiting charge is removed, and its place is free, exactly when the remaining plan is
+    /// sound; no other start moves. Refused: 25, after 15, the charge has begun; 26, after
+    /// 25, the rest would not be sound" (N11).
+    fn withdraw(&mut self, ticket: u32) -> Result<(), Refusal> {
+        let begun = self.charge(ticket).ok_or(15u32)?.begun(self.clock);
+        let mut rest = self.charges.clone();
+        rest.retain(|charge| charge.ticket != ticket);
+        refuse_first(&[(25, begun), (26, !self.rules().sound(&rest, self.clock))])?;
+        self.charges = rest;
+        Ok(())
     }
 }

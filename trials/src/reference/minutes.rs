@@ -7,6 +7,7 @@
 //! first: minutes themselves can be near 100,000,000.
 
 use super::station::Charge;
+use std::collections::BTreeSet;
 
 /// The counts of lines 1, 2 and 3 in one minute.
 pub type Counts = [u64; 3];
@@ -31,6 +32,15 @@ impl Rules {
 
     pub fn sound_in(&self, counts: &Counts) -> bool {
         self.within_limit(counts) && self.balanced(counts)
+    }
+
+    /// Whether a plan is sound: "in every minute from the clock on". Counts change where a
+    /// charge begins or ends to draw and nowhere else, so these minutes stand for all; the
+    /// others may be a hundred million.
+    pub fn sound(&self, plan: &[Charge], clock: u64) -> bool {
+        let changes = plan.iter().flat_map(|charge| [charge.start, charge.clear()]);
+        let minutes: BTreeSet<u64> = changes.map(|minute| minute.max(clock)).collect();
+        minutes.iter().all(|minute| self.sound_in(&counts(plan, *minute, 1)[0]))
     }
 }
 

@@ -5,9 +5,11 @@ pub mod faulty;
 
 use faulty::{Error, Faulty};
 use trials::feed::Way;
+use trials::fill::{fill, unfill};
 use trials::program::{Answering, Outcome};
 use trials::script::{self, answers_of, Line};
 use trials::yard::Yard;
+use trials::{demand, generate};
 
 /// Lines from text; the text ends with a line feed or not.
 pub fn lines(text: &str) -> Vec<Line> {
@@ -47,4 +49,17 @@ impl<Y: Yard, F: Fn() -> Y> Answering for Inside<F> {
     fn answers_to(&self, input: &[u8], _: &Way) -> Outcome {
         Outcome { answers: answers_of((self.0)(), &script::split(input)), trouble: None }
     }
+}
+
+/// Whether the checker of demand 3 rejects the faulty yard's answers to one of some scripts. A
+/// script is run as it stands, and with the starts that the yard itself would show. It
+/// may take more orders than the reference, so more tickets are asked for at the end.
+pub fn breaks_demand_3(kind: &str, error: Error) -> bool {
+    let breaks =
+        |lines: &[Line]| demand::check(lines, &answers_of(Faulty::new(error), lines)).is_err();
+    (0..40).any(|number| {
+        let mut lines = generate::script_of_kind(kind, 3, number).unwrap().lines;
+        lines.extend((1..200).map(|ticket| format!("enquire {ticket}").into_bytes()));
+        breaks(&lines) || breaks(&fill(Faulty::new(error), &unfill(&lines)))
+    })
 }

@@ -2,6 +2,7 @@
 
 use super::Fault;
 use trials::bus::images::Images;
+use trials::image::arrangement;
 use trials::image::blocks::{self, Contents, BLOCK, CONTENT};
 use trials::image::rules::{self, Rule};
 use trials::image::{contents_of, refuse_size, station_in, CHECK, CONTENTS};
@@ -19,16 +20,59 @@ impl Wrong {
         }
     }
 
-    /// There and back again.
-    fn turned(&self, mut contents: Contents) -> Contents {
+    /// What blocks 1 to 8 hold of the records.
+    fn laid_out(&self, row: &[u8]) -> Contents {
+        let mut blocks = vec![vec![0; CONTENT]; 8];
+        for (record, j) in (0..200).flat_map(|record| (0..20).map(move |j| (record, j))) {
+            if let Some((block, place)) = self.place(record, j) {
+                blocks[block][place] = row[20 * record + j];
+            }
+        }
+        blocks
+    }
+
+    /// The way back; a byte that has no place is 0.
+    fn taken_up(&self, blocks: &[Vec<u8>]) -> Vec<u8> {
+        let places = (0..200).flat_map(|record| (0..20).map(move |j| self.place(record, j)));
+        places.map(|place| place.map_or(0, |(block, place)| blocks[block][place])).collect()
+    }
+
+    fn place(&self, record: usize, j: usize) -> Option<(usize, usize)> {
+        let z = match self.0 {
+            Fault::NumberedByRecord => 20 * record + j,
+            _ => 200 * j + record,
+        };
+        match self.0 {
+            Fault::BlocksOf512 => Some((z / 512, z % 512)).filter(|(_, place)| *place < CONTENT),
+            Fault::RecordsInARow => Some((record / 25, 20 * (record % 25) + j)),
+            _ => Some((z / CONTENT, z % CONTENT)),
+        }
+    }
+
+    /// The header, and the row of records with its numbers as the fault has them.
+    fn turned(&self, mut header: Vec<u8>, mut row: Vec<u8>) -> (Vec<u8>, Vec<u8>) {
         if self.0 == Fault::BigEndian {
-            contents[0][..24].chunks_mut(4).for_each(<[u8]>::reverse);
-            for record in contents[1..].iter_mut().flat_map(|block| block[..500].chunks_mut(20)) {
+            header[..24].chunks_mut(4).for_each(<[u8]>::reverse);
+            for record in row.chunks_mut(20) {
                 record[..16].chunks_mut(4).for_each(<[u8]>::reverse);
                 record[16..18].reverse();
             }
         }
-        contents
+        (header, row)
+    }
+
+    fn contents_of(&self, station: &Station) -> Contents {
+        let contents = contents_of(station);
+        let row = arrangement::taken_up(&contents[1..]);
+        let (header, row) = self.turned(contents[0].clone(), row);
+        [vec![header], self.laid_out(&row)].concat()
+    }
+
+    fn station_in(&self, contents: &Contents) -> Station {
+        let row = self.taken_up(&contents[1..]);
+        let (header, row) = self.turned(contents[0].clone(), row);
+        let laid_out = blocks::filled_up(arrangement::laid_out(&row));
+        station_in(&[vec![header], laid_out].concat())
     }
 
     fn checks_are_right(&self, image: &[u8]) -> bool {
@@ -80,9 +124,9 @@ impl Images for Wrong {
 
     fn restore(&self, image: &[u8]) -> Result<Station, Refusal> {
         refuse_size(image)?;
-        let contents = self.turned(blocks::contents(image));
-        let station = station_in(&contents);
-        let same = self.0 == Fault::SpareByteTaken || contents_of(&station) == contents;
+        let contents = blocks::contents(image);
+        let station = self.station_in(&contents);
+        let same = self.0 == Fault::SpareByteTaken || self.contents_of(&station) == contents;
         let in_order = same && self.accepts(&station);
         match (self.checks_are_right(image), in_order) {
             (true, true) => Ok(station),
@@ -92,13 +136,22 @@ impl Images for Wrong {
         }
     }
 
-    fn save(&self, yard: &Station, image: &mut [u8]) -> Result<(), Refusal> {
+    fn save(&self, yard: &Station, previous: &[u8], image: &mut [u8]) -> Result<u32, Refusal> {
+        refuse_size(previous)?;
         refuse_size(image)?;
-        let contents = self.turned(contents_of(yard));
+        let contents = self.contents_of(yard);
         for (block, content) in image.chunks_mut(BLOCK).zip(&contents) {
             block[..CONTENT].copy_from_slice(content);
             block[CONTENT..].copy_from_slice(&self.check(content).to_le_bytes());
         }
-        Ok(())
+        let pairs = previous.chunks(BLOCK).zip(image.chunks(BLOCK));
+        Ok(match self.0 {
+            Fault::BlocksWithoutChecks => {
+                pairs.filter(|(one, other)| one[..CONTENT] != other[..CONTENT]).count() as u32
+            }
+            Fault::BlocksAfterWriting => 0,
+            Fault::BlocksWithoutTheFirst => blocks::differing(&previous[BLOCK..], &image[BLOCK..]),
+            _ => blocks::differing(previous, image),
+        })
     }
 }

@@ -28,6 +28,17 @@ pub enum Fault {
     AnyCheck,
     /// 22 before 21.
     ContentsBeforeChecks,
+    /// z = 20 × q + j (N9).
+    NumberedByRecord,
+    /// Block 1 + z / 512 at place z modulo 512, of which the check takes the last four.
+    BlocksOf512,
+    /// As they lay before N9.
+    RecordsInARow,
+    // Of how many blocks differ (N9).
+    BlocksWithoutChecks,
+    /// Compared when the image has been written already.
+    BlocksAfterWriting,
+    BlocksWithoutTheFirst,
     // Of what is accepted.
     UnsoundTaken,
     TicketsRepeat,
@@ -88,7 +99,7 @@ impl WrongBus {
         let restored = Wrong(self.fault).restore(self.bus.image());
         // The reference is not asked about stations that it would not accept.
         if restored.as_ref().is_ok_and(|station| !rules::broken(station).is_empty()) {
-            return matches!(call, Ok(Some(_))).then(|| b"start 0".to_vec());
+            return matches!(call, Ok(Some(_))).then(|| b"start 0 blocks 0".to_vec());
         }
         let refusal = restored.err();
         let own = match call {

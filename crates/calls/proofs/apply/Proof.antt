@@ -52,6 +52,12 @@ enum-told-3 c = search needs
 board-requires : tie.Need-board-requires
 board-requires c κs = search needs
 
+enum-known-call-6 : tie.Need-enum-known-call-6
+enum-known-call-6 c = search needs
+
+withdraw-requires : tie.Need-withdraw-requires
+withdraw-requires c κs = search needs
+
 same-length : tie.Need-same-length
 same-length c = search needs
 
@@ -82,6 +88,9 @@ same-length-2 c = search needs
 returns-8 : tie.Need-returns-8
 returns-8 c = as-found (c .before .before .before .before .before .enum-told3 .given .1) (record { gives = c .before .before .before .board .ensures; stays = tt })
 
+returns-9 : tie.Need-returns-9
+returns-9 c = as-found (c .before .before .before .call6 .given .1) (record { gives = c .before .withdraw .ensures; stays = refl })
+
 pub apply-spec : {M : Type 1} → statement M
 apply-spec =
     tie.close
@@ -102,6 +111,8 @@ apply-spec =
     enquire-requires
     enum-told-3
     board-requires
+    enum-known-call-6
+    withdraw-requires
     returns
     returns-2
     same-length
@@ -111,4 +122,5 @@ apply-spec =
     returns-6
     returns-7
     same-length-2
-    returns-8)
+    returns-8
+    returns-9)

@@ -3,6 +3,7 @@
 //! "When the yard takes delivery", and the wrong programs of each request. All else
 //! is the reference's.
 
+mod boards;
 mod bounds;
 mod commits;
 mod lists;
@@ -10,6 +11,7 @@ mod priority;
 mod rounds;
 mod starts;
 mod tails;
+mod withdrawals;
 
 use trials::reference::{Charge, List, Station};
 use trials::yard::{Committed, Found, Moved, Order, Planned, Refusal, Yard};
@@ -100,6 +102,29 @@ pub enum Error {
     TailOfARefusedOpening,
     /// 19 before 3.
     TailBeforeTheBound,
+    // N10, the board over the exit
+    EqualNeighbours,
+    /// 181 tickets.
+    OneTooManyAsked,
+    PlacesBehindCleared,
+    ZeroForNotHeld,
+    /// The number of tickets as the number looked at.
+    LookedIsAsked,
+    /// The walk ends at the first ticket that is not held.
+    StopsAtNotHeld,
+    /// 24 before 23.
+    PlacesBeforeOrder,
+    // N11, withdrawing an order
+    OnlyTheLimitTested,
+    OthersReplanned,
+    BegunWithdrawn,
+    /// Where it was the last one.
+    TicketGivenAgain,
+    /// 26 before 25.
+    SoundnessBeforeBegun,
+    /// It is counted in the search for starts.
+    WithdrawnStillDraws,
+    PlaceNotFreed,
     /// None of these, but the rounds are made as for those in which the error lies.
     OwnRounds,
 }
@@ -111,11 +136,14 @@ pub struct Faulty {
     reported: bool,
     /// What the last preview showed.
     shown: Option<(Order, u64)>,
+    /// Withdrawn charges that the error does not let go.
+    gone: Vec<Charge>,
 }
 
 impl Faulty {
     pub fn new(error: Error) -> Faulty {
-        Faulty { error, station: Station::fresh(1, 100, 0), reported: false, shown: None }
+        let (station, gone) = (Station::fresh(1, 100, 0), Vec::new());
+        Faulty { error, station, reported: false, shown: None, gone }
     }
 
     /// A call of the reference, at which a start equal to the clock is begun if that
@@ -169,6 +197,7 @@ impl Faulty {
         let met = charge.order + charge.time;
         match self.error {
             Error::FullFromTheStart => return Err(13),
+            _ if self.places_gone() => return Err(13),
             Error::HurryRefused6 if charge.due < met => return Err(6),
             Error::HurryRefused7 if charge.due < met => return Err(7),
             Error::LatenessFromTheClock => charge.due = charge.due.max(met),
@@ -181,6 +210,7 @@ impl Faulty {
 impl Yard for Faulty {
     fn open(&mut self, limit: u32, percent: u32, tail: u32) -> Result<u32, Refusal> {
         self.reported = false;
+        self.gone.clear();
         self.opened_late(limit, percent, tail)
     }
 
@@ -247,5 +277,13 @@ impl Yard for Faulty {
         }
         let found = faulty.with_clock(u64::MAX, |faulty| faulty.station.enquire(ticket))?;
         Ok(self.shown_end(found))
+    }
+
+    fn board(&self, tickets: &[u32], starts: &mut [u32]) -> Result<usize, Refusal> {
+        self.shown_board(tickets, starts)
+    }
+
+    fn withdraw(&mut self, ticket: u32) -> Result<(), Refusal> {
+        self.with_clock(u64::MAX, |faulty| faulty.withdrawn(ticket))
     }
 }

@@ -79,7 +79,7 @@ impl Faulty {
                     own.into_iter().all(|minute| rules.sound_in(&counts[minute as usize]))
                 })
             }
-            _ => smallest_start(held, charge, *clock, rules),
+            _ => smallest_start(&self.drawing(), charge, *clock, rules),
         };
         start.unwrap_or(*clock)
     }

@@ -113,6 +113,24 @@ enum-known-board-2 c = search needs
 print-refused-requires-5 : tie.Need-print-refused-requires-5
 print-refused-requires-5 c κs = search needs
 
+enum-known-answer-7 : tie.Need-enum-known-answer-7
+enum-known-answer-7 c = search needs
+
+enum-told : tie.Need-enum-told
+enum-told c = search needs
+
+slice-aggregate-print-text : tie.Need-slice-aggregate-print-text
+slice-aggregate-print-text c = search needs
+
+print-text-requires : tie.Need-print-text-requires
+print-text-requires c κs = search needs
+
+enum-known-withdrawal : tie.Need-enum-known-withdrawal
+enum-known-withdrawal c = search needs
+
+print-refused-requires-6 : tie.Need-print-refused-requires-6
+print-refused-requires-6 c κs = search needs
+
 same-length : tie.Need-same-length
 same-length c = search needs
 
@@ -189,6 +207,20 @@ returns-11 : tie.Need-returns-11
 unfolding answerText
 returns-11 c = rw (c .before .before .before .before .before .before .before .before .answer6 .given .1, c .before .before .before .before .before .board2 .given .1) (printed-as (c .before .before .print-refused5 .ensures) (search))
 
+same-length-12 : tie.Need-same-length-12
+same-length-12 c = search needs
+
+returns-12 : tie.Need-returns-12
+unfolding answerText
+returns-12 c = rw (c .before .before .before .before .before .before .before .before .answer7 .given .1, c .before .before .before .before .before .enum-told .given .1) (printed-as (c .before .before .print-text .ensures) (search))
+
+same-length-13 : tie.Need-same-length-13
+same-length-13 c = search needs
+
+returns-13 : tie.Need-returns-13
+unfolding answerText
+returns-13 c = rw (c .before .before .before .before .before .before .before .before .answer7 .given .1, c .before .before .before .before .before .withdrawal .given .1) (printed-as (c .before .before .print-refused6 .ensures) (search))
+
 pub print-answer-spec : {M : Type 1} → statement M
 print-answer-spec =
     tie.close
@@ -229,6 +261,12 @@ print-answer-spec =
     print-board-requires
     enum-known-board-2
     print-refused-requires-5
+    enum-known-answer-7
+    enum-told
+    slice-aggregate-print-text
+    print-text-requires
+    enum-known-withdrawal
+    print-refused-requires-6
     same-length
     returns
     same-length-2
@@ -250,4 +288,8 @@ print-answer-spec =
     same-length-10
     returns-10
     same-length-11
-    returns-11)
+    returns-11
+    same-length-12
+    returns-12
+    same-length-13
+    returns-13)

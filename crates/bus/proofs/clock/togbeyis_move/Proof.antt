@@ -1,7 +1,7 @@
-use native.Mathlib.Omega.{arith}
 use mathlib.Core.Path.{ap}
+use native.Mathlib.Omega.{arith}
 use Rattle.station.specs.Answers.{moveAnswer}
-use Rattle.bus.proofs.Calling.{end-refused, end-saved, saved-whole, whole, restore-refused, call-left}
+use Rattle.bus.proofs.Calling.{end-refused, end-saved, saved-blocks, saved-whole, whole, restore-refused, call-left}
 use borrow.Author.Needs.{needs}
 use Rattle.bus.proofs.clock.togbeyis_move.Statement.{statement}
 use Rattle.bus.proofs.clock.togbeyis_move.Tie as tie
@@ -21,8 +21,8 @@ move-clock-requires c κs = search needs
 enum-known-answer : tie.Need-enum-known-answer
 enum-known-answer c = search needs
 
-save-requires : tie.Need-save-requires
-save-requires c κs = search needs
+save-back-requires : tie.Need-save-back-requires
+save-back-requires c κs = search needs
 
 enum-known-answer-2 : tie.Need-enum-known-answer-2
 enum-known-answer-2 c = search needs
@@ -37,8 +37,10 @@ returns-2 : tie.Need-returns-2
 returns-2 c =
     let b = c .before .before .before .before .before .before .before .before .before .before in
     let r = b .before .before .before .before .restore .ensures in
+    let w = whole r (omega (arith, b .before .before .before .if1 .left)) in
+    let s = c .before .before .save-back .ensures in
     call-left r (omega (arith, b .before .before .before .if1 .left)) (b .move-clock .ensures) (search needs)
-    (end-saved (ap moveAnswer (c .before .before .before .before .before .before .answer .given .1)) (search needs) (search needs) (search needs) (search (saved-whole (whole r (omega (arith, b .before .before .before .if1 .left))) (c .before .before .save .ensures))))
+    (end-saved (ap moveAnswer (c .before .before .before .before .before .before .answer .given .1)) (search needs) (search needs) (search (saved-blocks w s)) (search (saved-whole w s)))
 
 same-length-4 : tie.Need-same-length-4
 same-length-4 c = search needs
@@ -49,7 +51,8 @@ same-length-5 c = search needs
 returns-3 : tie.Need-returns-3
 returns-3 c =
     let b = c .before .before .before .before .before in
-    call-left (b .before .before .before .before .restore .ensures) (omega (arith, b .before .before .before .if1 .left)) (b .move-clock .ensures) (search needs) (end-refused (ap moveAnswer (c .before .answer2 .given .1)) (search needs) (search needs) (search needs))
+    call-left (b .before .before .before .before .restore .ensures) (omega (arith, b .before .before .before .if1 .left)) (b .move-clock .ensures) (search needs)
+    (end-refused (ap moveAnswer (c .before .answer2 .given .1)) (search needs) (search needs) (search needs))
 
 pub togbeyis-move-spec : {M : Type 1} → statement M
 togbeyis-move-spec =
@@ -60,7 +63,7 @@ togbeyis-move-spec =
     returns
     move-clock-requires
     enum-known-answer
-    save-requires
+    save-back-requires
     enum-known-answer-2
     same-length-2
     same-length-3

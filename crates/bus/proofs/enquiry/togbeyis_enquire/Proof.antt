@@ -1,7 +1,7 @@
-use native.Mathlib.Omega.{arith}
 use mathlib.Core.Path.{ap}
+use native.Mathlib.Omega.{arith}
 use Rattle.station.specs.Answers.{enquiryAnswer}
-use Rattle.bus.proofs.Calling.{end-refused, end-saved, saved-whole, whole, restore-refused, call-left}
+use Rattle.bus.proofs.Calling.{end-refused, end-saved, saved-blocks, saved-whole, whole, restore-refused, call-left}
 use borrow.Author.Needs.{needs}
 use Rattle.bus.proofs.enquiry.togbeyis_enquire.Statement.{statement}
 use Rattle.bus.proofs.enquiry.togbeyis_enquire.Tie as tie
@@ -21,14 +21,14 @@ enquire-requires c κs = search needs
 enum-known-answer : tie.Need-enum-known-answer
 enum-known-answer c = search needs
 
-save-requires : tie.Need-save-requires
-save-requires c κs = search needs
+save-back-requires : tie.Need-save-back-requires
+save-back-requires c κs = search needs
 
 enum-known-answer-2 : tie.Need-enum-known-answer-2
 enum-known-answer-2 c = search needs
 
-save-requires-2 : tie.Need-save-requires-2
-save-requires-2 c κs = search needs
+save-back-requires-2 : tie.Need-save-back-requires-2
+save-back-requires-2 c κs = search needs
 
 enum-told : tie.Need-enum-told
 enum-told c = search needs
@@ -40,8 +40,10 @@ returns-2 : tie.Need-returns-2
 returns-2 c =
     let b = c .before .before .before .before .before .before .before .before in
     let r = b .before .before .before .restore .ensures in
+    let w = whole r (omega (arith, b .before .before .if1 .left)) in
+    let s = c .before .before .save-back .ensures in
     call-left r (omega (arith, b .before .before .if1 .left)) (b .enquire .ensures) (search needs)
-    (end-saved (ap enquiryAnswer (c .before .before .before .before .before .answer .given .1)) (search needs) (search needs) (search needs) (search (saved-whole (whole r (omega (arith, b .before .before .if1 .left))) (c .before .before .save .ensures))))
+    (end-saved (ap enquiryAnswer (c .before .before .before .before .before .answer .given .1)) (search needs) (search needs) (search (saved-blocks w s)) (search (saved-whole w s)))
 
 same-length-3 : tie.Need-same-length-3
 same-length-3 c = search needs
@@ -50,8 +52,10 @@ returns-3 : tie.Need-returns-3
 returns-3 c =
     let b = c .before .before .before .before .before .before .before .before in
     let r = b .before .before .before .restore .ensures in
+    let w = whole r (omega (arith, b .before .before .if1 .left)) in
+    let s = c .before .before .save-back2 .ensures in
     call-left r (omega (arith, b .before .before .if1 .left)) (b .enquire .ensures) (search needs)
-    (end-saved (ap enquiryAnswer (c .before .before .before .before .before .answer2 .given .1)) (search needs) (search needs) (search needs) (search (saved-whole (whole r (omega (arith, b .before .before .if1 .left))) (c .before .before .save2 .ensures))))
+    (end-saved (ap enquiryAnswer (c .before .before .before .before .before .answer2 .given .1)) (search needs) (search needs) (search (saved-blocks w s)) (search (saved-whole w s)))
 
 same-length-4 : tie.Need-same-length-4
 same-length-4 c = search needs
@@ -59,7 +63,8 @@ same-length-4 c = search needs
 returns-4 : tie.Need-returns-4
 returns-4 c =
     let b = c .before .before .before in
-    call-left (b .before .before .before .restore .ensures) (omega (arith, b .before .before .if1 .left)) (b .enquire .ensures) (search needs) (end-refused (ap enquiryAnswer (c .enum-told .given .1)) (search needs) (search needs) (search needs))
+    call-left (b .before .before .before .restore .ensures) (omega (arith, b .before .before .if1 .left)) (b .enquire .ensures) (search needs)
+    (end-refused (ap enquiryAnswer (c .enum-told .given .1)) (search needs) (search needs) (search needs))
 
 pub togbeyis-enquire-spec : {M : Type 1} → statement M
 togbeyis-enquire-spec =
@@ -70,9 +75,9 @@ togbeyis-enquire-spec =
     returns
     enquire-requires
     enum-known-answer
-    save-requires
+    save-back-requires
     enum-known-answer-2
-    save-requires-2
+    save-back-requires-2
     enum-told
     same-length-2
     returns-2

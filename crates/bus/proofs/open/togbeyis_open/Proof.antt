@@ -1,6 +1,6 @@
 use mathlib.Core.Path.{ap}
 use Rattle.station.specs.Answers.{openAnswer}
-use Rattle.bus.proofs.Calling.{end-refused, end-saved, saved-whole, open-unsized, open-left}
+use Rattle.bus.proofs.Calling.{end-refused, end-saved, saved-blocks, saved-whole, open-unsized, open-left}
 use borrow.Author.Needs.{needs}
 use Rattle.bus.proofs.open.togbeyis_open.Statement.{statement}
 use Rattle.bus.proofs.open.togbeyis_open.Tie as tie
@@ -14,8 +14,8 @@ open-requires c κs = search needs
 enum-known-answer : tie.Need-enum-known-answer
 enum-known-answer c = search needs
 
-save-requires : tie.Need-save-requires
-save-requires c κs = search needs
+save-back-requires : tie.Need-save-back-requires
+save-back-requires c κs = search needs
 
 enum-known-answer-2 : tie.Need-enum-known-answer-2
 enum-known-answer-2 c = search needs
@@ -26,8 +26,10 @@ same-length c = search needs
 returns-2 : tie.Need-returns-2
 returns-2 c =
     let b = c .before .before .before .before .before .before .before .before in
-    open-left (b .before .if1 .left) (b .«open» .ensures) (search needs)
-    (end-saved (ap openAnswer (c .before .before .before .before .before .before .answer .given .1)) (search needs) (search needs) (search needs) (search (saved-whole (b .before .if1 .left) (c .before .before .save .ensures))))
+    let w = b .before .if1 .left in
+    let s = c .before .before .save-back .ensures in
+    open-left w (b .«open» .ensures) (search needs)
+    (end-saved (ap openAnswer (c .before .before .before .before .before .before .answer .given .1)) (search needs) (search needs) (search (saved-blocks w s)) (search (saved-whole w s)))
 
 returns-3 : tie.Need-returns-3
 returns-3 c =
@@ -41,7 +43,7 @@ togbeyis-open-spec =
     returns
     open-requires
     enum-known-answer
-    save-requires
+    save-back-requires
     enum-known-answer-2
     same-length
     returns-2

@@ -1,6 +1,6 @@
 use mathlib.Core.Path.{ap}
 use Rattle.station.specs.Answers.{planAnswer}
-use Rattle.bus.proofs.Calling.{end-refused, end-saved, saved-whole}
+use Rattle.bus.proofs.Calling.{end-refused, end-saved, saved-blocks, saved-whole}
 use borrow.Author.Needs.{needs}
 use Rattle.bus.proofs.plan.end_plan.Statement.{statement}
 use Rattle.bus.proofs.plan.end_plan.Tie as tie
@@ -8,8 +8,8 @@ use Rattle.bus.proofs.plan.end_plan.Tie as tie
 enum-known-answer : tie.Need-enum-known-answer
 enum-known-answer c = search needs
 
-save-requires : tie.Need-save-requires
-save-requires c κs = search needs
+save-back-requires : tie.Need-save-back-requires
+save-back-requires c κs = search needs
 
 enum-known-answer-2 : tie.Need-enum-known-answer-2
 enum-known-answer-2 c = search needs
@@ -19,7 +19,9 @@ same-length c = search needs
 
 returns : tie.Need-returns
 returns c =
-    end-saved (ap planAnswer (c .before .before .before .before .before .before .answer .given .1)) (search needs) (search needs) (search needs) (search (saved-whole (c .before .before .before .before .before .before .before .before .before .pre .1) (c .before .before .save .ensures)))
+    let w = c .before .before .before .before .before .before .before .before .before .pre .1 in
+    let s = c .before .before .save-back .ensures in
+    end-saved (ap planAnswer (c .before .before .before .before .before .before .answer .given .1)) (search needs) (search needs) (search (saved-blocks w s)) (search (saved-whole w s))
 
 returns-2 : tie.Need-returns-2
 returns-2 c = end-refused (ap planAnswer (c .before .answer2 .given .1)) (search needs) (search needs) (search needs)
@@ -27,4 +29,10 @@ returns-2 c = end-refused (ap planAnswer (c .before .answer2 .given .1)) (search
 pub end-plan-spec : {M : Type 1} → statement M
 end-plan-spec =
     tie.close
-    (tie.spec enum-known-answer save-requires enum-known-answer-2 same-length returns returns-2)
+    (tie.spec
+    enum-known-answer
+    save-back-requires
+    enum-known-answer-2
+    same-length
+    returns
+    returns-2)

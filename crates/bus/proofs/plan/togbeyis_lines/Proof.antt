@@ -18,7 +18,7 @@ replan-lines-requires c κs = search needs
 
 end-plan-requires : tie.Need-end-plan-requires
 end-plan-requires c κs =
-    let b = c .before .before .before .before .before in
+    let b = c .before .before .before .before .before .before in
     (b .replan-lines .ensures .valid, whole (b .before .before .before .restore .ensures) (omega (arith, b .before .before .if1 .left)))
 
 same-length-2 : tie.Need-same-length-2
@@ -26,7 +26,7 @@ same-length-2 c = search needs
 
 returns-2 : tie.Need-returns-2
 returns-2 c =
-    let b = c .before .before .before .before .before .before .before .before in
+    let b = c .before .before .before .before .before .before .before .before .before in
     call-left (b .before .before .before .restore .ensures) (omega (arith, b .before .before .if1 .left)) (b .replan-lines .ensures) (search needs) (search (c .before .before .end-plan .ensures))
 
 pub togbeyis-lines-spec : {M : Type 1} → statement M

@@ -1,5 +1,4 @@
 use mathlib.Core.Path.{_∙_}
-use Prim.Native.Nat.{_-_}
 use Rattle.layout.specs.Reading.{inRecord}
 use Rattle.image.proofs.Joining.{Joined, joined-none, joined-more, joined-fits, field-joined}
 use native.Mathlib.Omega.{arith}

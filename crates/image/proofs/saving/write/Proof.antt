@@ -1,4 +1,3 @@
-use mathlib.Core.Path.{refl}
 use Rattle.station.specs.View.{view}
 use Rattle.image.proofs.Recording.{each-fits, numbers-of}
 use borrow.Author.Needs.{needs}

@@ -51,6 +51,9 @@ enum-told-9 c = search needs
 enum-told-10 : tie.Need-enum-told-10
 enum-told-10 c = search needs
 
+enum-told-11 : tie.Need-enum-told-11
+enum-told-11 c = search needs
+
 behind-first-requires : tie.Need-behind-first-requires
 behind-first-requires c κs = search needs
 
@@ -85,7 +88,10 @@ returns-9 c =
     (record { call-is = rw (take-length (a .numbers .now), c .behind-first .ensures .1) refl; call-fits = (omega (arith, c .behind-first .ensures .0), (omega arith, tt)) })
 
 returns-10 : tie.Need-returns-10
-returns-10 c = rw (c .enum-told10 .given .1) (record { call-is = search; call-fits = tt })
+returns-10 c = rw (c .enum-told10 .given .1, c .before .before .before .before .before .before .number-at .ensures) (record { call-is = search; call-fits = (omega arith, (omega arith, (refl, refl))) })
+
+returns-11 : tie.Need-returns-11
+returns-11 c = rw (c .enum-told11 .given .1) (record { call-is = search; call-fits = tt })
 
 pub call-of-spec : {M : Type 1} → statement M
 call-of-spec =
@@ -107,6 +113,7 @@ call-of-spec =
     enum-told-9
     behind-first-requires
     enum-told-10
+    enum-told-11
     returns
     returns-2
     returns-3
@@ -116,4 +123,5 @@ call-of-spec =
     returns-7
     returns-8
     returns-9
-    returns-10)
+    returns-10
+    returns-11)

@@ -57,18 +57,25 @@ slice-aggregate-named-or-9 c = search needs
 named-or-requires-9 : tie.Need-named-or-requires-9
 named-or-requires-9 c κs = search needs
 
+slice-aggregate-named-or-10 : tie.Need-slice-aggregate-named-or-10
+slice-aggregate-named-or-10 c = search needs
+
+named-or-requires-10 : tie.Need-named-or-requires-10
+named-or-requires-10 c κs = search needs
+
 returns : tie.Need-returns
 returns c =
     rw (
-      c .named-or9 .ensures,
-      c .before .before .named-or8 .ensures,
-      c .before .before .before .before .named-or7 .ensures,
-      c .before .before .before .before .before .before .named-or6 .ensures,
-      c .before .before .before .before .before .before .before .before .named-or5 .ensures,
-      c .before .before .before .before .before .before .before .before .before .before .named-or4 .ensures,
-      c .before .before .before .before .before .before .before .before .before .before .before .before .named-or3 .ensures,
-      c .before .before .before .before .before .before .before .before .before .before .before .before .before .before .named-or2 .ensures,
-      c .before .before .before .before .before .before .before .before .before .before .before .before .before .before .before .before .named-or .ensures,
+      c .named-or10 .ensures,
+      c .before .before .named-or9 .ensures,
+      c .before .before .before .before .named-or8 .ensures,
+      c .before .before .before .before .before .before .named-or7 .ensures,
+      c .before .before .before .before .before .before .before .before .named-or6 .ensures,
+      c .before .before .before .before .before .before .before .before .before .before .named-or5 .ensures,
+      c .before .before .before .before .before .before .before .before .before .before .before .before .named-or4 .ensures,
+      c .before .before .before .before .before .before .before .before .before .before .before .before .before .before .named-or3 .ensures,
+      c .before .before .before .before .before .before .before .before .before .before .before .before .before .before .before .before .named-or2 .ensures,
+      c .before .before .before .before .before .before .before .before .before .before .before .before .before .before .before .before .before .before .named-or .ensures,
     )
     (search)
 
@@ -94,4 +101,6 @@ call-named-spec =
     named-or-requires-8
     slice-aggregate-named-or-9
     named-or-requires-9
+    slice-aggregate-named-or-10
+    named-or-requires-10
     returns)

@@ -37,7 +37,7 @@ returns-2 c =
     let k = c .before .before .before .before .before .before .board-refusal in
     let z : k .result ≡ 0 = omega (arith, c .before .before .before .before .before .if1 .left) in
     record {
-      result = call-boarded (s .args .self) (s .args .asked .now) (s .args .answers .now) (k .result) _ _ (k .ensures (view (s .args .self))) z (c .before .before .board .ensures);
+      result = search (call-boarded (s .args .self) (s .args .asked .now) (s .args .answers .now) (k .result) _ _ (k .ensures (view (s .args .self))) z (c .before .before .board .ensures));
       valid = s .pre;
     }
 

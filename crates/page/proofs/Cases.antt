@@ -1,0 +1,36 @@
+-- The cases hold, by computing; so does the whole page of case e.
+use mathlib.Core.Path.{_≡_, refl}
+use mathlib.Core.Bool.{Bool, true, _&&_}
+use mathlib.Core.List.{List, [], _∷_, _++_}
+use Prim.Native.Nat.{ℕ}
+use lib.Dec.{eqb}
+use Rattle.text.specs.Numbers.{digitsWithin}
+use Rattle.text.specs.Parts.{sameText}
+use Rattle.page.specs.Lines.{rowOf, blank, noStation}
+use Rattle.page.specs.Pages.{texts, rowAt, rows, page, pageCount, pages}
+use Rattle.page.specs.Cases.{casesOfRows, caseE, caseELines}
+
+abbrev eachSame : List (List ℕ × List ℕ) → Bool
+eachSame [] = true
+eachSame (x ∷ xs) = sameText (x .0) (x .1) && eachSame xs
+
+pub rows-hold : eachSame casesOfRows ≡ true
+unfolding sameText rowOf digitsWithin
+rows-hold = refl
+
+-- case e before the move: the heading, six rows, and 18 unused ones
+pub page-holds : sameText (pages 0 caseE) (caseELines ++ texts (λ i. blank) 18) ≡ true
+unfolding sameText rowOf digitsWithin texts rowAt rows page pageCount pages
+page-holds = refl
+
+-- held, and how many pages
+abbrev casesOfCounts : List (ℕ × ℕ)
+casesOfCounts = (0, 1) ∷ (1, 1) ∷ (24, 1) ∷ (25, 2) ∷ (48, 2) ∷ (49, 3) ∷ (180, 8) ∷ []
+
+abbrev eachCounted : List (ℕ × ℕ) → Bool
+eachCounted [] = true
+eachCounted (x ∷ xs) = eqb (pageCount (x .0)) (x .1) && eachCounted xs
+
+pub counts-hold : eachCounted casesOfCounts ≡ true
+unfolding pageCount
+counts-hold = refl

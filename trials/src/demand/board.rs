@@ -1,0 +1,46 @@
+//! What a board shows (N10) is what enquiries would give: the start of each ticket that is
+//! held, and no start for any other.
+
+use super::{ensure, Answer, Checked, Trace};
+use crate::yard::NOT_HELD;
+
+impl Trace {
+    /// "writes the start of each to another such list, or 4,294,967,295 for one not held",
+    /// "and answers how many it looked at".
+    pub(super) fn board(&mut self, tickets: &[u32], answer: &Answer) -> Checked {
+        if answer.refused() {
+            return Ok(());
+        }
+        ensure(answer.words == "board" && answer.numbers.len() == tickets.len() + 1, || {
+            format!("a board of {} tickets has {:?}", tickets.len(), answer.numbers)
+        })?;
+        for (ticket, start) in tickets.iter().zip(&answer.numbers[1..]) {
+            self.shown(*ticket, *start)?;
+        }
+        let (looked, held) = (answer.numbers[0], self.held_up_to(tickets.last()));
+        ensure(looked == held, || format!("the board looked at {looked} charges of {held}"))
+    }
+
+    fn shown(&mut self, ticket: u32, start: u64) -> Checked {
+        let (clock, tail) = (self.clock, self.tail);
+        let wrong = || format!("the board shows {start} for ticket {ticket}");
+        let held = self.order(u64::from(ticket)).filter(|order| order.held(clock, tail));
+        let Some(order) = held else { return ensure(start == u64::from(NOT_HELD), wrong) };
+        match order.start() {
+            Some(known) => ensure(start == known, wrong),
+            None => {
+                ensure(start >= clock && start != u64::from(NOT_HELD), wrong)?;
+                order.waiting = Some(start);
+                Ok(())
+            }
+        }
+    }
+
+    /// "those with a ticket not above the highest asked, so never more than are held; 0 for
+    /// an empty list"
+    fn held_up_to(&self, highest: Option<&u32>) -> u64 {
+        let most = highest.map_or(0, |ticket| *ticket as usize);
+        let orders = self.orders.iter().take(most);
+        orders.filter(|order| order.held(self.clock, self.tail)).count() as u64
+    }
+}
