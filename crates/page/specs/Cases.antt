@@ -2,9 +2,10 @@
 use Prim.Native.Nat.{ℕ, _+_}
 use mathlib.Core.List.{List, [], _∷_}
 use Rattle.rules.specs.Charge.{Charge}
+use Rattle.rules.specs.Calls.{State}
 use Rattle.page.specs.Lines.{row}
 
--- a charge by what its row shows and r: ticket, line, start, p
+-- a charge by r and what its row shows: ticket, line, start, p; no row shows d
 abbrev pub charge : ℕ → ℕ → ℕ → ℕ → ℕ → Charge
 charge tail ticket line start time =
     record {
@@ -22,6 +23,18 @@ charge tail ticket line start time =
 abbrev pub caseE : List Charge
 caseE =
     charge 0 1 1 0 10 ∷ charge 0 2 3 0 10 ∷ charge 0 3 2 0 5 ∷ charge 0 4 2 0 5 ∷ charge 0 5 2 5 5 ∷ charge 0 6 1 0 10 ∷ []
+
+abbrev pub stationE : State
+stationE =
+    record {
+      limit = 2;
+      percent = 50;
+      bound = 1;
+      tail = 0;
+      clock = 0;
+      next = 7;
+      charges = caseE;
+    }
 
 -- Rows: the row computed, and the row written down.
 abbrev pub casesOfRows : List (List ℕ × List ℕ)
