@@ -5,9 +5,8 @@ use Prim.Native.Nat.{ℕ, _+_, _≤_, _<_}
 use mathlib.Core.Bool.{Bool, true, false, cond, not}
 use mathlib.Core.List.{List, [], _∷_, _++_, map, append-assoc, append-nil}
 use native.Mathlib.Omega.{arith}
-use lib.Dec.{eqb}
 use Rattle.rules.specs.Basics.{Each, keep}
-use Rattle.rules.specs.Charge.{Charge, begunCharges}
+use Rattle.rules.specs.Charge.{begunCharges}
 use Rattle.rules.specs.Calls.{State, Call, step}
 use Rattle.rules.specs.Valid.{ValidState}
 use Rattle.rules.proofs.Ranges.{below-or-not}

@@ -1,11 +1,11 @@
 -- The bus program's list of calls.
-use mathlib.Core.Path.{_≡_, refl, sym, ap, _∙_}
+use mathlib.Core.Path.{_≡_, refl, ap, _∙_}
 use Prim.Native.Nat.{ℕ, zero, suc, _+_}
 use mathlib.Core.List.{List, [], _∷_, _++_, append-assoc, append-nil}
 use native.Mathlib.Omega.{arith}
-use lib.ListN.{length, length-append, getD}
-use Rattle.rules.specs.Calls.{Settings, Call}
-use Rattle.restarts.specs.Events.{Beginning, anOpening, CallList, beginningWith, oneMore, Lists, upTo, next, listsFrom, unsaved}
+use lib.ListN.{length, length-append}
+use Rattle.rules.specs.Calls.{Call}
+use Rattle.restarts.specs.Events.{Beginning, anOpening, CallList, beginningWith, oneMore, Lists, upTo, listsFrom}
 use Rattle.restarts.specs.Bus.{busCalls, OnTheBus}
 
 -- the last save

@@ -1,5 +1,5 @@
 -- Demand 3 holds across restarts.
-use mathlib.Core.Path.{_≡_, refl, sym, ap, subst, _∙_}
+use mathlib.Core.Path.{_≡_, refl, sym, subst}
 use mathlib.Core.List.{List, [], _∷_}
 use Rattle.rules.specs.Calls.{Settings, settings, fresh, opening, Call, step}
 use Rattle.rules.specs.Valid.{ValidState}
@@ -10,8 +10,8 @@ use Rattle.guarantee.proofs.DemandTwo.{valid-demand-two}
 use Rattle.guarantee.proofs.DemandThree.{demand-three}
 use Rattle.guarantee.specs.Past.{beginning}
 use Rattle.layout.specs.Reading.{restoring}
-use Rattle.restarts.specs.Events.{Event, Beginning, anOpening, anImage, aRefusedRestore, first, CallList, left, Lists, next, listsFrom, unsaved, inForce}
-use Rattle.restarts.specs.Restarts.{Controller, does, doesAll, opened, stands, Outcome, shows, showsAll, due, dueAll, ClaimedFrom, Claimed, Guaranteed, AcrossRestarts}
+use Rattle.restarts.specs.Events.{Event, Beginning, anOpening, anImage, aRefusedRestore, first, Lists, next, listsFrom, unsaved, inForce}
+use Rattle.restarts.specs.Restarts.{Controller, does, doesAll, opened, stands, showsAll, dueAll, ClaimedFrom, AcrossRestarts}
 use Rattle.restarts.proofs.Elsewhere.{from-elsewhere}
 use Rattle.restarts.proofs.Together.{Together, together-next, shown-due}
 

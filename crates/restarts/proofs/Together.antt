@@ -2,24 +2,24 @@
 use mathlib.Core.Path.{_≡_, refl, sym, ap, _∙_}
 use Prim.Native.Nat.{ℕ, zero, suc, _≤_, _<_}
 use mathlib.Core.Bool.{Bool, true, false, cond}
-use mathlib.Core.List.{List, [], _∷_, _++_, map}
+use mathlib.Core.List.{List, [], _∷_, map}
 use native.Mathlib.Omega.{arith}
 use lib.Dec.{ltb, eqb}
 use lib.ListN.{length, getD}
 use borrow.Author.Tests.{ltb-true, ltb-false, lt-ltb, le-ltb}
 use Rattle.rules.specs.Basics.{Each}
-use Rattle.rules.specs.Calls.{Settings, settings, State, fresh, opening, Call, step}
+use Rattle.rules.specs.Calls.{settings, State, fresh, opening, step}
 use Rattle.rules.specs.Valid.{ValidState}
 use Rattle.rules.proofs.Lists.{map-append, each-append}
 use Rattle.rules.proofs.Validity.{opening-valid}
-use Rattle.guarantee.specs.Past.{Past, beginning, past}
+use Rattle.guarantee.specs.Past.{Past, beginning}
 use Rattle.guarantee.proofs.Steps.{after-append}
 use Rattle.guarantee.proofs.DemandOne.{after-valid}
 use Rattle.layout.specs.Image.{imageOf}
 use Rattle.layout.specs.Reading.{restoreRefusal, RestoreResult, restoring}
 use Rattle.layout.proofs.RoundTrip.{restored-saved, restoring-valid}
-use Rattle.restarts.specs.Events.{Event, opens, made, saves, restores, brings, Beginning, anOpening, anImage, aRefusedRestore, first, CallList, beginningWith, oneMore, left, Lists, upTo, brought, next, listsFrom, unsaved, inForce}
-use Rattle.restarts.specs.Restarts.{Controller, kept, does, doesAll, opened, stands, Outcome, gave, wrote, read, shows, showsAll, due, dueAll}
+use Rattle.restarts.specs.Events.{Event, opens, made, saves, restores, brings, anImage, aRefusedRestore, first, CallList, beginningWith, left, Lists, upTo, brought, next}
+use Rattle.restarts.specs.Restarts.{Controller, does, read, shows, due}
 
 abbrev Right : CallList → Type 0
 Right l = ValidState (first (l .beginning))

@@ -17,7 +17,7 @@ use Rattle.guarantee.specs.DemandTwo.{DemandTwo}
 use Rattle.guarantee.specs.DemandThree.{DemandThree, DemandThreeFrom}
 use Rattle.layout.specs.Image.{imageOf}
 use Rattle.layout.specs.Reading.{restoring}
-use Rattle.restarts.specs.Events.{Event, opens, made, saves, restores, brings, Beginning, anOpening, anImage, aRefusedRestore, CallList, left, Lists, next, listsFrom, unsaved, inForce}
+use Rattle.restarts.specs.Events.{Event, opens, made, saves, restores, brings, Beginning, anOpening, anImage, aRefusedRestore, CallList, left, Lists, next, unsaved, inForce}
 
 -- The controller
 

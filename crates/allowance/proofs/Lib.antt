@@ -1,0 +1,9 @@
+pub mod Cases
+pub mod Placings
+pub mod Drawing
+pub mod Placed
+pub mod Lowerings
+pub mod Sums
+pub mod Endings
+pub mod Allowance
+pub mod Refuted

@@ -1,0 +1,2 @@
+pub mod Allowance
+pub mod Wrong
