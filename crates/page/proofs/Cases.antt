@@ -11,7 +11,7 @@ use Rattle.rules.specs.Entry.{stateAfter}
 use Rattle.rules.specs.CasesAToL.{ordersE}
 use Rattle.text.specs.Numbers.{digitsWithin}
 use Rattle.text.specs.Parts.{sameText}
-use Rattle.page.specs.Lines.{rowOf, blank, noStation}
+use Rattle.page.specs.Lines.{rowOf, blank}
 use Rattle.page.specs.Pages.{texts, rowAt, rows, page, pageCount, pages, pagesOf}
 use Rattle.page.specs.Cases.{stationE, casesOfRows, caseELines}
 

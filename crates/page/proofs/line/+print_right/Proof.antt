@@ -1,5 +1,4 @@
 -- `page::print_right` meets its contract. It calls itself on a tenth of the number, which is the measure, and then puts the last digit.
-use mathlib.Core.Path.{ap}
 use native.Mathlib.Omega.{arith}
 use lib.ListN.{length, length-set}
 use Rattle.page.proofs.Aligning.{length-spaces, length-right, some-digit, more-digits, printed-small, printed-more}

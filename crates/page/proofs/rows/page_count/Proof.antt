@@ -1,6 +1,6 @@
 -- `page::page_count` meets its contract.
 use native.Mathlib.Omega.{arith}
-use Rattle.page.proofs.Paging.{one-page, some-pages}
+use Rattle.page.proofs.Counting.{one-page, some-pages}
 use borrow.Author.Needs.{needs}
 use Rattle.page.proofs.rows.page_count.Statement.{statement}
 use Rattle.page.proofs.rows.page_count.Tie as tie
