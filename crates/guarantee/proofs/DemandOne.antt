@@ -10,7 +10,7 @@ use Rattle.rules.specs.Basics.{some, firstOf}
 use Rattle.rules.specs.Charge.{Charge, endOf, isBegun, hasTicket}
 use Rattle.rules.specs.Replan.{Proposal, starts, none, latest, Replanned, byLines}
 use Rattle.rules.specs.Judgement.{judged}
-use Rattle.rules.specs.Calls.{Settings, settings, State, limitsOf, Answer, refused, opened, planned, Result, answering, boundOf, fresh, openRefusals, opening, Call, preview, commit, move, offer, replanLatest, replanLines, enquire, board, withdraw, lent, refusals, previewing, committing, moving, decided, tested, offering, replanningLatest, replanningLines, told, enquiring, boarding, withdrawing, granted, step}
+use Rattle.rules.specs.Calls.{Settings, settings, State, limitsOf, Answer, refused, opened, planned, Result, answering, fresh, openRefusals, opening, Call, preview, commit, move, offer, replanLatest, replanLines, enquire, board, withdraw, lent, refusals, previewing, committing, moving, decided, tested, offering, replanningLatest, replanningLines, told, enquiring, boarding, withdrawing, granted, step}
 use Rattle.rules.specs.Valid.{ValidState}
 use Rattle.rules.proofs.Tables.{Numbered, firstOf-none, none-firstOf}
 use Rattle.rules.proofs.Granted.{refusals-numbered, openRefusals-numbered, order-granted, enquire-granted}

@@ -1,6 +1,6 @@
 -- Demand 3.
 use mathlib.Core.Path.{_≡_, refl, sym, ap, subst, _∙_}
-use Prim.Native.Nat.{ℕ, zero, suc, _+_, _≤_}
+use Prim.Native.Nat.{ℕ, zero, suc, _≤_}
 use mathlib.Core.Bool.{Bool, true, false, cond, not}
 use mathlib.Core.List.{List, [], _∷_, _++_, map}
 use native.Mathlib.Omega.{arith}
@@ -13,14 +13,14 @@ use Rattle.rules.specs.Calls.{Settings, settings, State, told, opened, answerin
 use Rattle.guarantee.specs.Past.{Order, Past, orderOf, ordersOf, beginning, past, isWithdrawn, stayingOrders, withdrawnOrders, timesReported, enquiry, startIn, startOf, loadOf, countIn, Numbered}
 use Rattle.guarantee.specs.DemandThree.{Kept, Gone, Unmoved, InTime, NoOther, NoneMoved, DemandThree, DemandThreeFrom}
 use Rattle.rules.specs.Valid.{ValidState}
-use Rattle.rules.proofs.Lists.{each-map}
+use Rattle.rules.proofs.Lists.{each-map, each-both, kept-pass}
 use Rattle.rules.proofs.Validity.{opening-valid}
-use Rattle.guarantee.proofs.Each.{each-two, each-both, image-each, each-image}
+use Rattle.guarantee.proofs.Each.{each-two, image-each, each-image}
 use Rattle.guarantee.proofs.History.{Fit}
 use Rattle.guarantee.proofs.Reports.{Worth, sumReports, sumBegun}
 use Rattle.guarantee.proofs.Tickets.{isTicket, isPair, times-sum, not-reported-start, once-reported-start, sum-of-own, sum-ours, enquiry-told, Told, told-each}
 use Rattle.guarantee.proofs.Invariant.{Accepted, ceilingOf}
-use Rattle.guarantee.proofs.Staying.{some-kept, kept-pass, stays-not-withdrawn, withdrawn-none, none-begun, none-told}
+use Rattle.guarantee.proofs.Staying.{some-kept, stays-not-withdrawn, withdrawn-none, none-begun, none-told}
 use Rattle.guarantee.proofs.Steps.{Grown, more, on, off, Known, Reach, reach, after-append}
 use Rattle.guarantee.proofs.Beginnings.{station-known}
 

@@ -8,7 +8,6 @@ use lib.Dec.{ltb, leb}
 use lib.ListN.{length}
 use borrow.Author.Tests.{leb-true, ltb-true, le-leb, lt-ltb}
 use Rattle.rules.specs.Basics.{Each, firstOf}
-use Rattle.rules.specs.Load.{sound}
 use Rattle.rules.specs.Charge.{Charge, activeUntil, waitingCharges, lateness}
 use Rattle.rules.specs.Replan.{Proposal, starts, none, latest, Replanned, byLines}
 use Rattle.rules.specs.Judgement.{restarted, judged}

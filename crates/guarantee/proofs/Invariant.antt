@@ -9,7 +9,7 @@ use lib.ListN.{length, length-append}
 use borrow.Author.Tests.{le-ltb, eqb-true}
 use Rattle.rules.specs.Basics.{Each, keep, some}
 use Rattle.rules.specs.Load.{counts, lastUntil, sound}
-use Rattle.rules.specs.Charge.{drawOf, Charge, endOf, activeUntil, loadOf, loadsOf, isBegun, isFinished, unfinishedCharges, hasTicket, withoutTicket, lastEnd}
+use Rattle.rules.specs.Charge.{drawOf, Charge, endOf, activeUntil, loadOf, loadsOf, isBegun, isFinished, unfinishedCharges, hasTicket, withoutTicket}
 use Rattle.rules.specs.Search.{added}
 use Rattle.rules.specs.Judgement.{restarted}
 use Rattle.rules.specs.Calls.{State, limitsOf, isPassed, startBefore, reported, pairs}

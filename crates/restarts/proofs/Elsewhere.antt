@@ -1,6 +1,6 @@
 -- What is claimed of a list of calls that began with an image from elsewhere.
 use mathlib.Core.Logic.{_⊎_, inl, inr}
-use mathlib.Core.Path.{_≡_, refl, sym, ap, subst, _∙_}
+use mathlib.Core.Path.{_≡_, refl, sym, subst, _∙_}
 use Prim.Native.Nat.{ℕ, _+_, _≤_, _<_}
 use mathlib.Core.Bool.{Bool, true, false, cond, not}
 use mathlib.Core.List.{List, [], _∷_, _++_, map, append-assoc, append-nil}
@@ -10,9 +10,10 @@ use Rattle.rules.specs.Charge.{begunCharges}
 use Rattle.rules.specs.Calls.{State, Call, step}
 use Rattle.rules.specs.Valid.{ValidState}
 use Rattle.rules.proofs.Ranges.{below-or-not}
-use Rattle.guarantee.specs.Past.{Order, Report, Past, orderOf, ordersOf, reportOf, learnt, beginning, extended, after, past, isWithdrawn, staying, stayingOrders, withdrawnOrders, timesReported, startOf}
+use Rattle.guarantee.specs.Past.{Order, Report, Past, orderOf, ordersOf, reportOf, learnt, beginning, extended, after, past, isWithdrawn, stayingOrders, withdrawnOrders, timesReported, startOf}
 use Rattle.guarantee.specs.DemandThree.{Kept, Unmoved, DemandThreeFrom}
 use Rattle.guarantee.proofs.Each.{each-two, each-in, image-each}
+use Rattle.guarantee.proofs.Staying.{all-stay}
 use Rattle.guarantee.proofs.DemandThree.{demand-three-from, beginning-starts}
 use Rattle.restarts.specs.Restarts.{FromElsewhere}
 
@@ -34,11 +35,6 @@ each-split R f (a ∷ l) d e = go (f a) d e (each-split R f l)
         → R a × Each R l
     go true p q rest = (q .0, rest p (q .1))
     go false p q rest = (p .0, rest (p .1) q)
-
--- nobody has withdrawn at the beginning
-all-stay : (os : List Order) → staying [] os ≡ os
-all-stay [] = refl
-all-stay (o ∷ os) = ap (λ (l : List Order). o ∷ l) (all-stay os)
 
 times-append : (xs ys : List Report) (t : ℕ) → timesReported (xs ++ ys) t ≡ timesReported xs t + timesReported ys t
 times-append [] ys t = omega arith
