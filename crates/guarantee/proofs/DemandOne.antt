@@ -59,9 +59,8 @@ refused-by rows kept list r numbered plain = go (firstOf rows) refl
           same-list = λ p. refl;
         }
 
--- The answers of a call that is not refused
-
-answer-not-refused : (c : Call) (a : Answer) → AnswerTo c a → isRefused a ≡ false
+-- an answer of a call's own kind is no refusal
+pub answer-not-refused : (c : Call) (a : Answer) → AnswerTo c a → isRefused a ≡ false
 answer-not-refused (preview line p d rate) a (s, e) = rw e
 answer-not-refused (commit line p d rate shown) a (t, e) = rw e
 answer-not-refused (move target list) a (n, m, e) = rw e

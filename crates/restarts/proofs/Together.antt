@@ -13,7 +13,7 @@ use Rattle.rules.specs.Valid.{ValidState}
 use Rattle.rules.proofs.Lists.{map-append, each-append}
 use Rattle.rules.proofs.Validity.{opening-valid}
 use Rattle.guarantee.specs.Past.{Past, beginning}
-use Rattle.guarantee.proofs.Steps.{after-append}
+use Rattle.guarantee.proofs.Unmoved.{after-append}
 use Rattle.guarantee.proofs.DemandOne.{after-valid}
 use Rattle.layout.specs.Image.{imageOf}
 use Rattle.layout.specs.Reading.{restoreRefusal, RestoreResult, restoring}
@@ -91,7 +91,7 @@ together-next c l (made call) t =
     record {
       station =
           ap (λ (s : State). step s call .state) (t .station)
-          ∙ ap (λ (h : Past). h .station) (sym (after-append (l .now .calls) (call ∷ []) (beginning (first (l .now .beginning)))));
+          ∙ ap (λ (h : Past). h .station) (sym (after-append step (l .now .calls) (call ∷ []) (beginning (first (l .now .beginning)))));
       images = t .images;
       now = t .now;
       saved = t .saved;
