@@ -11,14 +11,10 @@ use Rattle.text.specs.Numbers.{decimal}
 use Rattle.text.specs.Printed.{Printed}
 use Rattle.text.proofs.Values.{decimal-small, decimal-more, decimal-longer}
 use Rattle.text.proofs.Printing.{printed-byte, printed-then}
+pub use Rattle.text.proofs.Printing.{printed-as}
 use Rattle.rules.proofs.Ranges.{below-or-not}
 use Rattle.page.specs.Lines.{spaces, atRight, atLeft, column}
 use Rattle.page.specs.Lined.{Fits}
-
--- what was printed is the text that was to be printed: a function's proof ends in this equation of two texts
-pub printed-as :
-    {xs ys before : List ℕ} {at : ℕ} {after : List ℕ} {next : ℕ} → Printed xs before at after next → xs ≡ ys → Printed ys before at after next
-printed-as p e = rw e at p
 
 -- one space more
 pub spaces-more : (n : ℕ) → spaces (n + 1) ≡ spaces n ++ (32 ∷ [])

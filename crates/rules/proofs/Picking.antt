@@ -8,12 +8,12 @@ use native.Mathlib.Omega.{arith}
 use lib.Dec.{eqb}
 use lib.ListN.{length}
 use borrow.Author.Tests.{eq-eqb, ne-eqb}
-use Rattle.rules.specs.Basics.{Each, Found, at, nothing, first, keep, some}
+use Rattle.rules.specs.Basics.{Each, at, keep, some}
 use Rattle.rules.specs.Load.{Load, lastUntil, IsLine}
 use Rattle.rules.specs.Charge.{Charge, starting, drawOf, loadsOf, isWaiting, begunCharges, waitingCharges}
 use Rattle.rules.specs.Search.{Caps}
-use Rattle.rules.specs.Priority.{Crowd, crowdOf, takenBefore, Pick, chosen, nobody, foremost, Fitting, fitsAt, firstFit, picked, withoutTicket}
-use Rattle.rules.specs.Replan.{Placed, all, stuck, placeOn, onLine, placeLine, placeLines}
+use Rattle.rules.specs.Priority.{Crowd, crowdOf, takenBefore, Pick, chosen, foremost, Fitting, fitsAt, firstFit, picked, withoutTicket}
+use Rattle.rules.specs.Replan.{all, placeOn, onLine, placeLines}
 use Rattle.rules.specs.Valid.{Rising}
 use Rattle.rules.proofs.Ranges.{below-or-not, first-none, found-or-not}
 use Rattle.rules.proofs.Lists.{map-append, keep-each}
