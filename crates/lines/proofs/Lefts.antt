@@ -16,7 +16,7 @@ use Rattle.rules.proofs.Ranges.{below-or-not}
 use Rattle.rules.proofs.Lists.{map-tabulate, length-tabulate, each-keep, each-tabulate}
 use Rattle.rules.proofs.ThenTicket.{ThenTicket, ticket-decides, ticket-by-number, ticket-by-ticket}
 use Rattle.rules.proofs.LatestStarts.{latest-start-sums, latest-start-ordering}
-use Rattle.rules.proofs.Sorting.{InOrder, Rearranged, sorted-rearranged, sorted-sorted}
+use Rattle.rules.proofs.Sorting.{InOrder, Rearranged, rearranged-length, sorted-rearranged, sorted-sorted}
 use Rattle.rules.proofs.Picking.{Among, among-each, among-keep}
 use Rattle.charges.specs.declared.Charges.{Charges}
 use Rattle.charges.specs.Arrays.{chargeAt}
@@ -26,7 +26,7 @@ use Rattle.charges.specs.Places.{placeAt, placesOf, isOnLine, Lists, Ordered, R
 use Rattle.charges.proofs.Members.{EachTwo, each-place, two-tabulate, two-keep, two-places, map-keep}
 use Rattle.priority.specs.Crowds.{sumOf}
 use Rattle.planner.proofs.Queueing.{places-apart}
-use Rattle.lines.proofs.Rearranging.{among-kept, among-to, among-back, keep-rearranged, rearranged-length, rearranged-total, total-places, among-place, PlaceOf, place-among}
+use Rattle.lines.proofs.Rearranging.{among-kept, among-to, among-back, keep-rearranged, rearranged-total, total-places, among-place, PlaceOf, place-among}
 
 -- the j-th charge left
 abbrev pub leftAt : Charges → List ℕ → ℕ → Charge
