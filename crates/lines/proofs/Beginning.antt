@@ -11,7 +11,8 @@ use Rattle.rules.specs.Replan.{onLine}
 use Rattle.charges.specs.declared.Charges.{Charges}
 use Rattle.charges.specs.Held.{Listed}
 use Rattle.charges.specs.declared.places.Places.{Places}
-use Rattle.charges.specs.Places.{placesOf, isOnLine, Lists}
+use Rattle.charges.specs.Places.{placesOf, Lists}
+use Rattle.queues.specs.Queues.{isOnLine}
 use Rattle.charges.proofs.Storing.{zeros}
 use Rattle.profile.specs.declared.Profile.{Profile}
 use Rattle.profile.specs.Shows.{Shows}

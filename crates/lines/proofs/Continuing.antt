@@ -14,7 +14,7 @@ use Rattle.rules.proofs.Fitting.{none-below-stays}
 use Rattle.charges.specs.declared.Charges.{Charges}
 use Rattle.charges.specs.Arrays.{chargeAt}
 use Rattle.charges.specs.Held.{Listed}
-use Rattle.charges.specs.Places.{Removed}
+use Rattle.queues.specs.Queues.{Removed}
 use Rattle.profile.specs.declared.Profile.{Profile}
 use Rattle.profile.specs.Shows.{LoadAdded, CanAdd}
 use Rattle.profile.proofs.Shown.{last-added}

@@ -13,7 +13,8 @@ use Rattle.rules.proofs.Lists.{each-tabulate}
 use Rattle.charges.specs.declared.Charges.{Charges}
 use Rattle.charges.specs.Held.{Listed}
 use Rattle.charges.specs.declared.places.Places.{Places}
-use Rattle.charges.specs.Places.{placeAt, Inside, Ordered}
+use Rattle.charges.specs.Places.{placeAt, Inside}
+use Rattle.queues.specs.Queues.{Ordered}
 use Rattle.priority.specs.Chosen.{numberOf, CanFit}
 use Rattle.priority.specs.Crowds.{ShortTimes, ShortestOf}
 use Rattle.lines.specs.Next.{Both}

@@ -10,7 +10,7 @@ use Rattle.rules.specs.Replan.{Placed, all, byLatestStart, onLine, placeLines}
 use Rattle.charges.specs.declared.Charges.{Charges}
 use Rattle.charges.specs.Arrays.{chargeAt, chargesOf}
 use Rattle.charges.specs.declared.places.Places.{Places}
-use Rattle.charges.specs.Places.{Ordered}
+use Rattle.queues.specs.Queues.{Ordered}
 use Rattle.profile.specs.declared.Profile.{Profile}
 use Rattle.search.specs.declared.caps.LineCaps.{LineCaps}
 use Rattle.search.specs.Caps.{CapsShown}

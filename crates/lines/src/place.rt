@@ -5,12 +5,13 @@ use crate::next::shorter;
 use charges::Charges;
 use charges::PLACES;
 use charges::places::Places;
-use charges::places::remove;
 use priority::crowd::shortest;
 use profile::COLUMNS;
 use profile::Profile;
 use profile::STEPS;
 use profile::loads::add;
+use queues::line::on_line;
+use queues::line::remove;
 use search::caps::LineCaps;
 ghost use mathlib.Core.Path.{_≡_};
 ghost use Prim.Native.Nat.{_+_, _≤_};
@@ -43,7 +44,7 @@ pub fn place_line(
     requires { ⌜ Listed charges × (clock ≤ 1000000) × InOrder clock charges queue × Capped charges caps × IsLine line × (line ≡ before + 1) × LinesUnder caps clock charges before (profileOf steps (now at) (now counts)) (now «by_place») ⌝ }
     ensures { λ r. ⌜ LinesUnder caps clock charges line (profileOf r (now (at .exit)) (now (counts .exit))) (now («by_place» .exit)) ⌝ }
 {
-    let own = queue.on_line(&charges.lines, line);
+    let own = on_line(queue, &charges.lines, line);
     let mut left = own.places;
     let mut n = own.count;
     let crowd = crowd_of(

@@ -13,7 +13,8 @@ use Rattle.rules.proofs.Lists.{each-append}
 use Rattle.charges.specs.declared.Charges.{Charges}
 use Rattle.charges.specs.Held.{Listed}
 use Rattle.charges.specs.declared.places.Places.{Places}
-use Rattle.charges.specs.Places.{placeAt, PlacesIn}
+use Rattle.charges.specs.Places.{placeAt}
+use Rattle.queues.specs.Queues.{PlacesIn}
 use Rattle.charges.proofs.Storing.{zeros}
 use Rattle.profile.specs.declared.Profile.{Profile}
 use Rattle.profile.specs.Shows.{Shows, LoadAdded, CanAdd}

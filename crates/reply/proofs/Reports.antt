@@ -15,7 +15,7 @@ use Rattle.rules.specs.Judgement.{judged}
 use Rattle.rules.specs.Calls as rules
 use Rattle.rules.specs.Calls.{State, Answer, refused, opened, previewed, committed, moved, planned, waiting, charging, looked, withdrawn, preview, commit, move, offer, replanLines, enquire, board, withdraw, Result, step, refusals, answering, drawFor, startFor, previewedAt, decided, tested, limitsOf, previewing, committing, moving, offering, replanningLatest, replanningLines, enquiring, boarding, withdrawing, risesFrom, isPassed, startBefore}
 use Rattle.rules.proofs.Lists.{length-keep}
-use Rattle.charges.proofs.Sorting.{length-sorted}
+use Rattle.rules.proofs.Sorting.{length-sorted}
 use Rattle.answers.specs.Answers.{answerText, listedOf}
 use Rattle.calls.specs.declared.Call.{Call}
 use Rattle.calls.specs.declared.Call.the-variants.{Preview, Commit, Move, Offer, ReplanLatest, ReplanLines, Enquire, Board, Withdraw}

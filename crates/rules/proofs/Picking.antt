@@ -18,7 +18,7 @@ use Rattle.rules.specs.Valid.{Rising}
 use Rattle.rules.proofs.Ranges.{below-or-not, first-none, found-or-not}
 use Rattle.rules.proofs.Lists.{map-append, keep-each}
 use Rattle.rules.proofs.Searches.{under-past}
-use Rattle.rules.proofs.Sorting.{Inserted, here, later, Rearranged, none, more}
+use Rattle.rules.proofs.Sorting.{Inserted, here, later, Rearranged, none, more, inserted-length}
 use Rattle.rules.proofs.Tickets.{rising-from, rising-keep}
 use Rattle.rules.proofs.Rounds.{AtLeast}
 use Rattle.rules.proofs.Fitting.{first-fit-first}
@@ -132,10 +132,6 @@ left-out i {c} (behind {d = d} {l = l} m) r =
     let low : suc (d .ticket) ≤ c .ticket
     = among-each (λ x. suc (d .ticket) ≤ x .ticket) m (rising-from (suc (d .ticket)) l (r .1)) in
     rw (ne-eqb (d .ticket) (c .ticket) (λ q. absurd (omega arith))) (later (left-out (suc (d .ticket)) m (r .1)))
-
-inserted-length : {A : Type 0} {a : A} {l m : List A} → Inserted a l m → length m ≡ suc (length l)
-inserted-length here = refl
-inserted-length (later r) = rw (inserted-length r)
 
 tickets-length : (l : List Charge) → length (tickets l) ≡ length l
 tickets-length [] = refl
