@@ -18,7 +18,7 @@ use Rattle.calls.specs.declared.Answer as code
 use Rattle.station.specs.View.{view, Valid}
 use Rattle.station.specs.Answers.{Gives}
 use Rattle.calls.specs.Applied.{callOf, lends, answerOf, Applies}
-use Rattle.reply.specs.Reply.{told, numbersIn, reply, writtenBy, requestWritten, Replied, Lists, answered}
+use Rattle.reply.specs.Reply.{told, numbersIn, reply, writtenBy, Replied, answered}
 use Rattle.reply.proofs.Reports.{Reports, reports, few-reports, text-after}
 
 pub replied :
@@ -102,18 +102,12 @@ list-left {s} c {ss} {after} n places lent list filled e f l h p =
     ∙ ap (sets list 0) (after-call s c ss after n places e p)
 
 -- a request that was read so is answered so
-module _ (s : State) (text : List ℕ) {values numbers list : List ℕ} {l x : Request}
-    (a : Asks (readRequest text) values numbers list l) (e : l ≡ x) where
-  pub as-read :
-      {station : Station} {before : List ℕ} {at : ℕ} {after : List ℕ} {next : ℕ}
-      → Replied (reply s (meaning x list)) station before at after next → Replied (answered s text) station before at after next
-  unfolding answered
-  as-read h = rw (← (a .request-is), e) h
-
-  pub as-listed :
-      {written after : List ℕ} → after ≡ sets written 0 (requestWritten s (meaning x list))
-      → Lists values (requestWritten s (readRequest text)) numbers list written after
-  as-listed h = record { numbers-are = a .list-is; list-is = rw (← (a .request-is), e) h }
+pub as-read :
+    (s : State) (text : List ℕ) {values numbers list : List ℕ} {read : Request} → Asks (readRequest text) values numbers list read
+    → {station : Station} {before : List ℕ} {at : ℕ} {after : List ℕ} {next : ℕ}
+    → Replied (reply s (meaning read list)) station before at after next → Replied (answered s text) station before at after next
+unfolding answered
+as-read s text a h = rw (← (a .request-is)) h
 
 pub lent-front :
     (lent places : ℕ) (list filled : List ℕ) → lent ≡ min places 4096 → filled ≡ replicate lent 4294967295 ++ drop lent list

@@ -3,12 +3,17 @@ use Prim.Native.Nat.{ℕ}
 use mathlib.Core.Path.{_≡_}
 use mathlib.Core.List.{List, []}
 use lib.ListN.{length}
-use lib.Seq.{sets}
 use Rattle.rules.specs.Calls.{State, Call, preview, commit, move, offer, replanLatest, replanLines, enquire, board, withdraw, Result}
 use Rattle.rules.specs.Calls as calls
 use Rattle.requests.specs.Requests.{Asked, nothing, opening, call, error, readRequest}
 use Rattle.text.specs.Printed.{Printed}
 use Rattle.answers.specs.Answers.{answerText, errorText}
+use Rattle.requests.specs.declared.request.Request.{Request}
+use Rattle.requests.specs.declared.request.Request.the-variants as request
+use Rattle.calls.specs.declared.Call as code
+use Rattle.calls.specs.declared.Call.the-variants.{Preview, Commit, Move, Offer, ReplanLatest, ReplanLines, Enquire, Board, Withdraw}
+use Rattle.reply.specs.declared.Order.{Order}
+use Rattle.reply.specs.declared.Order.the-variants as ordered
 use Rattle.station.specs.declared.Station.{Station}
 use Rattle.station.specs.View.{view, Valid}
 
@@ -63,10 +68,23 @@ requestWritten s (opening x) = []
 requestWritten s (call c) = writtenBy s c
 requestWritten s (error reason) = []
 
--- the lists that are lent for the numbers of a request and for writing, whole
-pub record Lists (values written numbers numbersAfter list listAfter : List ℕ) : Type 0 where
-  pub numbers-are : numbersAfter ≡ sets numbers 0 values
-  pub list-is : listAfter ≡ sets list 0 written
+-- the order that a request is
+abbrev pub orderOf : code.Call → Order
+orderOf (Preview line time due rate) = ordered.Preview line time due rate
+orderOf (Commit line time due rate shown) = ordered.Commit line time due rate shown
+orderOf (Move target) = ordered.Other
+orderOf Offer = ordered.Other
+orderOf ReplanLatest = ordered.Other
+orderOf (ReplanLines allowance) = ordered.Other
+orderOf (Enquire ticket) = ordered.Other
+orderOf Board = ordered.Other
+orderOf (Withdraw ticket) = ordered.Other
+
+abbrev pub orderIn : Request → Order
+orderIn request.Nothing = ordered.Other
+orderIn (request.Open x) = ordered.Other
+orderIn (request.Call c from until places) = orderOf c
+orderIn (request.Error reason) = ordered.Other
 
 -- A request was answered so: this station, which is valid, and this text at its place.
 pub record Replied (t : Told) (station : Station) (before : List ℕ) (at : ℕ) (after : List ℕ) (next : ℕ) : Type 0 where

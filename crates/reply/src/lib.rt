@@ -1,14 +1,14 @@
-// One request: read, called, answered. The answer is put into a buffer at a place.
+// One request that was read: called and answered. The answer is put into a buffer at a place.
 ghost use mathlib.Core.Path.{_≡_};
 ghost use Prim.Native.Nat.{_+_, _≤_};
 ghost use lib.ListN.{length, drop};
 ghost use lib.Seq.{sets};
 ghost use Rattle.rules.specs.Calls.{opening, step};
-ghost use Rattle.requests.specs.Requests.{readRequest, requestValues, lentList, Lent};
+ghost use Rattle.requests.specs.Requests.{meaning, lentList, Lent, Fits};
 ghost use Rattle.station.specs.View.{view, Valid};
 ghost use Rattle.station.specs.Answers.{settingsOf};
 ghost use Rattle.calls.specs.Applied.{callOf, lends};
-ghost use Rattle.reply.specs.Reply.{told, numbersIn, answered, writtenBy, requestWritten, Replied, Lists};
+ghost use Rattle.reply.specs.Reply.{told, numbersIn, reply, writtenBy, requestWritten, orderIn, Replied};
 use calls::Call;
 use requests::Request;
 use station::Station;
@@ -61,21 +61,80 @@ fn reply_call(
     }
 }
 
-// Answers a line of text, its line feed left out. The lists are lent for its numbers and for what a call writes; every place
-// that these do not take stays.
+// An order among the requests, or none.
+pub enum Order {
+    Preview {
+        line: u32,
+        time: u32,
+        due: u32,
+        rate: u32,
+    },
+    Commit {
+        line: u32,
+        time: u32,
+        due: u32,
+        rate: u32,
+        shown: u32,
+    },
+    Other,
+}
+
+// The order that a request is. Whoever holds the station answers it there, since a station that is handed on and handed back
+// is copied.
+pub fn order_in(read: Request) -> Order
+    ensures { λ r. ⌜ r ≡ orderIn read ⌝ }
+{
+    let Request::Call {
+        call,
+        from: _,
+        until: _,
+        places: _,
+    } = read else {
+        return Order::Other;
+    };
+    match call {
+        Call::Preview {
+            line,
+            time,
+            due,
+            rate,
+        } => Order::Preview {
+            line,
+            time,
+            due,
+            rate,
+        },
+        Call::Commit {
+            line,
+            time,
+            due,
+            rate,
+            shown,
+        } => Order::Commit {
+            line,
+            time,
+            due,
+            rate,
+            shown,
+        },
+        _ => Order::Other,
+    }
+}
+
+// Answers a request that was read, with the list that its numbers are in. The other list is lent for what a call writes; every
+// place that this does not take stays.
 pub fn reply_request(
     station: Station,
-    text: &[u8],
-    numbers: &mut [u32],
+    read: Request,
+    numbers: &[u32],
     list: &mut [u32],
     out: &mut [u8],
     at: usize,
 ) -> Reply
-    requires { ⌜ Valid station × ((2048 ≤ length (now numbers)) × ((4096 ≤ length (now list)) × (at + 7656 ≤ length (now out)))) ⌝ }
-    ensures { λ r. ⌜ Replied (answered (view station) (now (text .entry))) (r .station) (now (out .entry)) at (now (out .exit)) (r .at) ⌝ }
-    ensures { λ r. ⌜ Lists (requestValues (now (text .entry))) (requestWritten (view station) (readRequest (now (text .entry)))) (now (numbers .entry)) (now (numbers .exit)) (now (list .entry)) (now (list .exit)) ⌝ }
+    requires { ⌜ Valid station × (Fits (length (now numbers)) read × ((4096 ≤ length (now list)) × (at + 7656 ≤ length (now out)))) ⌝ }
+    ensures { λ r. ⌜ Replied (reply (view station) (meaning read (now (numbers .entry)))) (r .station) (now (out .entry)) at (now (out .exit)) (r .at) ⌝ }
+    ensures { λ r. ⌜ now (list .exit) ≡ sets (now (list .entry)) 0 (requestWritten (view station) (meaning read (now (numbers .entry)))) ⌝ }
 {
-    let read = requests::read_request(text, numbers);
     match read {
         Request::Nothing => Reply { station, at },
         Request::Open { settings } => reply_open(settings, out, at),
