@@ -1,3 +1,4 @@
+-- Refused as the preview is, or with 16 for another start; otherwise all eight lists have room for the charge behind the others.
 use mathlib.Core.Path.{_≡_, refl, sym}
 use Prim.Native.Nat.{_+_, _<_}
 use native.Mathlib.Omega.{arith}

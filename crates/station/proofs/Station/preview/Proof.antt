@@ -1,3 +1,4 @@
+-- What the search over the lent lists shows is what the rules answer, be it a refusal or a start; the station stays with either.
 use Rattle.station.proofs.Ordered.{can-seek, shown-step, preview-stays}
 use borrow.Author.Needs.{needs}
 use Rattle.station.proofs.Station.preview.Statement.{statement}

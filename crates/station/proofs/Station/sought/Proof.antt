@@ -1,3 +1,4 @@
+-- Only the refusal has to be shown: all else is copied from the station and the order.
 use borrow.Author.Needs.{needs}
 use Rattle.station.proofs.Station.sought.Statement.{statement}
 use Rattle.station.proofs.Station.sought.Tie as tie

@@ -1,3 +1,4 @@
+-- The search is made only where no refusal applies, since what it asks is known only there.
 use mathlib.Core.Path.{_≡_}
 use native.Mathlib.Omega.{arith}
 use Rattle.station.proofs.Ordered.{shown-first, shown-found}
