@@ -1,3 +1,4 @@
+-- All eight columns are gathered at the same places, so that each charge goes over whole.
 use mathlib.Core.Path.{refl}
 use Rattle.charges.specs.Arrays.{tickets, lines, orderMinutes, times, activeTimes, dues, starts, rates}
 use Rattle.charges.specs.Places.{places}
