@@ -1,3 +1,4 @@
+-- A held place is one of the 180, so that its ticket can be read; behind the held ones none is.
 use borrow.Author.Tests.{lt-ltb, le-ltb}
 use borrow.Author.Needs.{needs}
 use Rattle.boards.proofs.is_looked_at.Statement.{statement}

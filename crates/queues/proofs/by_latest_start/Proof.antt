@@ -1,3 +1,4 @@
+-- Tickets rise with the places, so that places with the same latest start, which keep their order, stand in ticket order.
 use Rattle.rules.specs.Charge.{latestStartBefore}
 use Rattle.charges.specs.declared.places.Which.the-variants.{Waiting}
 use Rattle.charges.proofs.Collecting.{meant-inside}

@@ -1,3 +1,4 @@
+-- With no times the latest start is the start. Tickets rise with the places, so that equal starts stay in ticket order.
 use lib.ListN.{replicate}
 use Rattle.rules.specs.Calls.{startBefore}
 use Rattle.charges.specs.declared.places.Which.the-variants.{Passed}
