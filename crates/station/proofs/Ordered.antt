@@ -161,7 +161,7 @@ pub put-behind :
     → ss ≡ set (c .starts) (c .held) (x .start)
     → rs ≡ set (c .rates) (c .held) (x .rate)
     → Holds (chargesOf c ++ (x ∷ []))
-      (record { held = c .held + 1; tickets = ts; lines = ls; «order_minutes» = os; times = ps; «active_times» = us; dues = ds; starts = ss; rates = rs })
+    (record { held = c .held + 1; tickets = ts; lines = ls; «order_minutes» = os; times = ps; «active_times» = us; dues = ds; starts = ss; rates = rs })
 put-behind c x w room a b d e f g h i = rw (a, b, d, e, f, g, h, i) (holds-put c x w room)
 
 pub call-committed :
