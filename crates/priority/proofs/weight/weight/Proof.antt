@@ -1,14 +1,12 @@
-use mathlib.Core.Path.{_≡_, sym, _∙_}
-use Prim.Native.Nat.{ℕ}
 use native.Mathlib.Omega.{arith}
 use borrow.Author.Needs.{needs}
 use Rattle.rules.proofs.Weights.{weight-beyond, weight-most}
 use Rattle.priority.proofs.Weighing.{table-at}
-use Rattle.priority.proofs.weight.Statement.{statement}
-use Rattle.priority.proofs.weight.Tie as tie
+use Rattle.priority.proofs.weight.weight.Statement.{statement}
+use Rattle.priority.proofs.weight.weight.Tie as tie
 
 returns : tie.Need-returns
-returns c = (sym (weight-beyond (c .before .args .k) (omega (arith, c .if1 .taken))), omega arith)
+returns c = (omega (arith, weight-beyond (c .before .args .k) (omega (arith, c .if1 .taken))), omega arith)
 
 mul-result : tie.Need-mul-result
 mul-result c = search needs
