@@ -21,7 +21,6 @@ use Rattle.profile.proofs.Shown.{last-added}
 use Rattle.search.specs.declared.caps.LineCaps.{LineCaps}
 use Rattle.search.specs.Caps.{CapsShown}
 use Rattle.priority.specs.declared.crowd.Crowd as code
-use Rattle.priority.specs.Numbers.{numberOf}
 use Rattle.lines.specs.declared.next.Next.{Next}
 use Rattle.lines.specs.Next.{Bounds, NextIs}
 use Rattle.planner.specs.Ready.{begunOf}

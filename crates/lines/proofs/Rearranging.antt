@@ -1,6 +1,6 @@
 -- Charges in another order: the same members, also of those that pass a test, and the same summed time.
 use mathlib.Core.Path.{_≡_, refl, ap, _∙_, sym}
-use Prim.Native.Nat.{ℕ, zero, suc, _+_, _≤_, _<_}
+use Prim.Native.Nat.{ℕ, zero, suc, _+_, _<_}
 use mathlib.Core.Bool.{Bool, true, false, cond}
 use mathlib.Core.List.{List, [], _∷_, _++_}
 use native.Mathlib.Omega.{arith}

@@ -11,7 +11,6 @@ use profile::loads::add;
 use queues::line::on_line;
 use queues::line::remove;
 use search::caps::LineCaps;
-ghost use mathlib.Core.Path.{_≡_};
 ghost use Prim.Native.Nat.{_-_, _≤_};
 ghost use Rattle.rules.specs.Charge.{loadsOf};
 ghost use Rattle.rules.specs.Load.{IsLine};

@@ -1,6 +1,5 @@
 -- At the last start, or at the next one.
 use native.Mathlib.Omega.{arith}
-use borrow.Author.Needs.{needs}
 use Rattle.lines.proofs.Seeking.{can-seek}
 use Rattle.lines.proofs.Nexts.{can-here, next-here, there-range, can-there, next-there}
 use Rattle.lines.proofs.next.next_charge.Statement.{statement}
