@@ -1,30 +1,23 @@
 -- What a round of replan by lines places: each charge in turn under the caps, and not past the last end, whatever the priority.
 use mathlib.Core.Path.{_≡_, refl}
 use Prim.Native.Nat.{ℕ, zero, suc, _+_, _-_, max, _≤_, _<_}
-use mathlib.Core.Bool.{Bool, true, false, cond}
+use mathlib.Core.Bool.{true}
 use mathlib.Core.List.{List, [], _∷_, _++_}
 use native.Mathlib.Omega.{arith}
 use lib.ListN.{length}
-use Rattle.rules.specs.Basics.{Each, Found, at, nothing, keep}
+use Rattle.rules.specs.Basics.{Found, at, nothing}
 use Rattle.rules.specs.Load.{Load, lastUntil}
 use Rattle.rules.specs.Charge.{Charge, starting, drawOf, loadsOf}
 use Rattle.rules.specs.Search.{Caps}
 use Rattle.rules.specs.Priority.{Crowd, crowdOf, Pick, chosen, nobody, takenBefore, fitsAt, firstFit, picked, withoutTicket}
 use Rattle.rules.specs.Replan.{Placed, all, stuck, placeOn, onLine, placeLines}
+use Rattle.rules.proofs.Lists.{kept-pass}
 use Rattle.rules.proofs.Searches.{Under, under-at}
 use Rattle.rules.proofs.Fitting.{first-fit-first}
 use Rattle.rules.proofs.Picking.{Among, among-each, among-keep, taken-some}
 use Rattle.allowance.specs.Allowance.{drawnTime}
 use Rattle.allowance.proofs.Placings.{PlacedUnder, done, next, under-then}
 use Rattle.allowance.proofs.Drawing.{drawn-append, drawn-without, drawn-lines}
-
-kept-pass : {A : Type 0} (f : A → Bool) (l : List A) → Each (λ a. f a ≡ true) (keep f l)
-kept-pass f [] = tt
-kept-pass f (a ∷ l) = go (f a) refl (kept-pass f l)
-  where
-    go : (b : Bool) → f a ≡ b → Each (λ x. f x ≡ true) (keep f l) → Each (λ x. f x ≡ true) (cond b (a ∷ keep f l) (keep f l))
-    go true p e = (p, e)
-    go false p e = e
 
 stuck-apart : {plan : List Charge} → stuck ≡ all plan → ⊥
 stuck-apart {plan} q = let z : _≡_ {A = ℕ} 0 1 = cc in omega arith

@@ -1,18 +1,17 @@
 -- Charges placed one after another under the caps, and what that says of the counts.
 use mathlib.Core.Path.{_≡_, refl, sym, _∙_}
 use Prim.Native.Nat.{ℕ, _+_, max, _≤_, _<_}
-use mathlib.Core.Bool.{Bool, true, false, cond, _&&_, _||_}
+use mathlib.Core.Bool.{Bool, true, false, _&&_, _||_}
 use mathlib.Core.List.{List, [], _∷_, _++_, append-assoc}
 use native.Mathlib.Omega.{arith}
 use lib.Dec.{ltb, leb, eqb}
 use borrow.Author.Tests.{leb-true, ltb-true, eqb-true}
-use Rattle.rules.specs.Basics.{some}
 use Rattle.rules.specs.Load.{active, draws, count, lastUntil}
 use Rattle.rules.specs.Charge.{Charge, starting, drawOf, loadOf, loadsOf}
 use Rattle.rules.specs.Search.{Caps}
 use Rattle.rules.specs.Replan.{placedActive}
-use Rattle.rules.proofs.Ranges.{and-left, and-right}
-use Rattle.rules.proofs.Lists.{map-append}
+use Rattle.rules.proofs.Ranges.{and-left, and-right, either-way}
+use Rattle.rules.proofs.Lists.{map-append, some-append}
 use Rattle.rules.proofs.Counts.{share-own, count-append}
 use Rattle.rules.proofs.Searches.{Under}
 
@@ -40,14 +39,6 @@ under-then (next c s u h p) q = next c s u h (under-then p q)
 abbrev pub Within : Caps → List Charge → List Charge → Type 0
 Within cap begun placed =
     (l t : ℕ) → placedActive placed l t ≡ true → count (loadsOf (begun ++ placed)) l t ≤ cap l t
-
-some-append : {A : Type 0} (f : A → Bool) (l m : List A) → some f (l ++ m) ≡ some f l || some f m
-some-append f [] m = refl
-some-append f (a ∷ l) m = go (f a) (some-append f l m)
-  where
-    go : (b : Bool) → some f (l ++ m) ≡ some f l || some f m → b || some f (l ++ m) ≡ (b || some f l) || some f m
-    go true ih = refl
-    go false ih = ih
 
 count-placed :
     (begun placed : List Charge) (x : Charge) (l t : ℕ)
@@ -88,11 +79,7 @@ within-more cap begun placed c s u w l t h =
         = ltb-true t (s + c .activeTime) (and-right (leb s t) (ltb t (s + c .activeTime)) q) in
         rw (q, ← same, share-own (c .line) (c .rate)) (u t from until)
     go true false p q e = rw q (let j = w l t (only (placedActive placed l t) (rw (p, q) at e)) in omega arith)
-    go false b p q e = rw (p, q, none b) (let j = w l t (only (placedActive placed l t) (rw p at e)) in omega arith)
-      where
-        none : (b : Bool) → cond {A = ℕ} b 0 0 ≡ 0
-        none true = refl
-        none false = refl
+    go false b p q e = rw (p, q, either-way b 0) (let j = w l t (only (placedActive placed l t) (rw p at e)) in omega arith)
 
 pub under-within :
     {cap : Caps} {clock : ℕ} {begun placed plan : List Charge}

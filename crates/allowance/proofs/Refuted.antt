@@ -25,26 +25,23 @@ pub lowered-to-the-count : LargerAllowance replans loweredToTheCount withTails �
 unfolding limited balanced sound earliest firstUnbalanced fading weights weightOf firstFit picked placeOn opening committing moving
 lowered-to-the-count d = let h : 2 < 2 = d .lower firstCaps 1 12 2 refl in omega arith
 
+not-spent : Spent (planned 7 5 5 1) → ⊥
+not-spent (b, a, n, e) = let z : _≡_ {A = ℕ} 7 2 = cc in omega arith
+
 -- `same`: with 1 only ticket 1 is placed, and it keeps its start
 pub charges-limited : LargerAllowance chargesLimited plays stationH → ⊥
 unfolding limited balanced sound earliest firstUnbalanced fading weights weightOf firstFit picked placeOn round roundsFrom byLines judged opening committing
 charges-limited d =
     let h : planned 0 5 0 1 ≡ planned 7 5 5 1
-    = ap (λ (r : Result). r .answer) (d .same 1 2 (refl, tt) (omega arith) (omega arith) (λ e. apart e)) in
+    = ap (λ (r : Result). r .answer) (d .same 1 2 (refl, tt) (omega arith) (omega arith) not-spent) in
     let z : _≡_ {A = ℕ} 0 7 = cc in
     omega arith
-  where
-    apart : Spent (planned 7 5 5 1) → ⊥
-    apart (b, a, n, e) = let z : _≡_ {A = ℕ} 7 2 = cc in omega arith
 
 -- `same`: one round with 1, two with 2
 pub rounds-told : LargerAllowance roundsTold plays stationH → ⊥
 unfolding limited balanced sound earliest opening committing
 rounds-told d =
     let h : planned 7 5 5 2 ≡ planned 7 5 5 1
-    = ap (λ (r : Result). r .answer) (d .same 1 2 (refl, tt) (omega arith) (omega arith) (λ e. apart e)) in
+    = ap (λ (r : Result). r .answer) (d .same 1 2 (refl, tt) (omega arith) (omega arith) not-spent) in
     let z : _≡_ {A = ℕ} 2 1 = cc in
     omega arith
-  where
-    apart : Spent (planned 7 5 5 1) → ⊥
-    apart (b, a, n, e) = let z : _≡_ {A = ℕ} 7 2 = cc in omega arith

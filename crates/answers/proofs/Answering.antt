@@ -1,4 +1,4 @@
--- A printed text by the text that it is, and an enquiry's answer.
+-- The answer of an enquiry, by its cases.
 use mathlib.Core.Path.{_≡_, refl}
 use mathlib.Core.List.{List, [], _∷_}
 use mathlib.Core.Logic.{_⊎_, ⊎-elim}
@@ -12,11 +12,6 @@ use Rattle.text.specs.Printed.{Printed}
 use Rattle.answers.specs.Answers.{answerText}
 use types.Run.{OneOf}
 use denote.Enum.Declared.{tagOf}
-
--- what was printed is the text that was to be printed: a function's proof ends in this equation of two texts
-pub printed-as :
-    {xs ys before : List ℕ} {at : ℕ} {after : List ℕ} {next : ℕ} → Printed xs before at after next → xs ≡ ys → Printed ys before at after next
-printed-as p e = rw e at p
 
 neither : (x k l : ℕ) → (x ≡ k → ⊥) → (x ≡ l → ⊥) → (x ≡ k) ⊎ (x ≡ l) → ⊥
 neither x k l f g h = ⊎-elim f g h

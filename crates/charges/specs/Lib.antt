@@ -1,4 +1,3 @@
 pub mod Arrays
 pub mod Held
 pub mod Places
-pub mod Board

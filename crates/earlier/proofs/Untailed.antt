@@ -9,7 +9,7 @@ use Rattle.rules.specs.Basics.{Each, Found, at, nothing, firstOf}
 use Rattle.rules.specs.Charge.{Charge, loadOf, loadsOf, isFinished, unfinishedCharges, hasTicket}
 use Rattle.rules.specs.Replan.{Proposal, starts, none, latest, byLines}
 use Rattle.rules.specs.Judgement.{judged}
-use Rattle.rules.specs.Calls.{State, limitsOf, holding, settings, Result, answering, opened, fresh, openRefusals, opening, Call, preview, commit, move, offer, replanLatest, replanLines, enquire, board, withdraw, refusals, drawFor, startFor, previewedAt, previewing, committing, moving, decided, tested, offering, replanningLatest, replanningLines, enquiring, boarding, withdrawing, step, run}
+use Rattle.rules.specs.Calls.{State, limitsOf, holding, settings, Result, answering, fresh, openRefusals, opening, Call, preview, commit, move, offer, replanLatest, replanLines, enquire, board, withdraw, refusals, drawFor, startFor, previewedAt, previewing, committing, moving, decided, tested, offering, replanningLatest, replanningLines, enquiring, boarding, withdrawing, step, run}
 use Rattle.rules.proofs.Lists.{each-append, keep-each}
 use Rattle.rules.proofs.Restarts.{each-restarted}
 use Rattle.earlier.specs.Untailed.{loadBefore, loadsBefore, unfinishedBefore, activeFor, stationBefore, startForBefore, stepBefore, runBefore, openingBefore, WithoutTails}

@@ -4,7 +4,8 @@ use mathlib.Core.List.{List}
 use Rattle.rules.specs.Calls.{State, Call}
 use Rattle.guarantee.specs.Past.{Gives, Order, past, stayingOrders, withdrawnOrders}
 use Rattle.guarantee.specs.DemandThree.{DemandThree}
-use Rattle.guarantee.proofs.Each.{each-in, each-both}
+use Rattle.rules.proofs.Lists.{each-both}
+use Rattle.guarantee.proofs.Each.{each-in}
 use Rattle.excluded.specs.FieldsThree.{Field, limit, balance, tickets, not-early, in-time, reported, not-reported, waits, charges, finished, gone-not-reported, gone-not-held, no-other, unmoved, Holds}
 
 module _ (gives : Gives) (s : State) (calls : List Call) where

@@ -17,7 +17,8 @@ use Rattle.guarantee.specs.DemandTwo.{Better, Taken, GivenStarts, DemandTwo}
 use Rattle.excluded.specs.WrongPlans.{untested, neverTaken, offerCleared, takenLater, begunPutOff, lineChanged, rateLost, takenForTicket, keptForTicket, lateWithTails, alwaysKept, spentAfterNone, byLatestStartInLines, roundsInvented}
 use Rattle.excluded.specs.Stations.{station, stationFour, stationH, stationShort, stationHTwo, stationTailed, stationRated, waitingSince, begunAndWaiting}
 use Rattle.excluded.specs.BreaksTwoPlans.{offerJ}
-use Rattle.guarantee.proofs.DemandTwo.{not-taken, demand-two}
+use Rattle.guarantee.proofs.Taking.{not-taken}
+use Rattle.guarantee.proofs.DemandTwo.{demand-two}
 use Rattle.excluded.proofs.Refuting.{line-one, line-two}
 use Rattle.excluded.proofs.Stations.{h-reached}
 

@@ -1,7 +1,7 @@
 -- Demand 2 is false of these wrong stations for what they make of a withdrawal, each on one station.
 use mathlib.Core.Path.{_≡_, refl, ap}
 use Prim.Native.Nat.{ℕ, _≤_}
-use mathlib.Core.Bool.{true, false, false≢true}
+use mathlib.Core.Bool.{false≢true}
 use native.Mathlib.Omega.{arith}
 use Rattle.rules.specs.Load.{limited, balanced, sound}
 use Rattle.rules.specs.Charge.{loadsOf, withoutTicket, lateness}

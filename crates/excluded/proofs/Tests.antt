@@ -7,8 +7,11 @@ use mathlib.Core.List.{List, [], _∷_}
 use lib.Dec.{leb, ltb, eqb}
 use borrow.Author.Tests.{leb-true, ltb-true, eqb-true, le-leb, lt-ltb, eq-eqb, not-true}
 use Rattle.rules.specs.Basics.{Each}
+use Rattle.rules.specs.Calls.{State, Call, refusals}
 use Rattle.rules.proofs.Ranges.{and-left, and-right, and-both}
+use Rattle.guarantee.specs.DemandOne.{NoneApplies}
 use Rattle.excluded.specs.Same.{every, where-so, sameTest}
+use Rattle.excluded.specs.Free.{Free, noneApplies, free}
 
 -- a test of a fact
 abbrev pub Tests : Bool → Type 0 → Type 0
@@ -40,6 +43,13 @@ is-true b = ((λ e. e), (λ e. e))
 
 pub fails-tests : (b : Bool) → Tests (not b) (b ≡ false)
 fails-tests b = (not-true b, (λ e. rw e))
+
+-- of a table, that no condition applies, and of a call that none refuses
+pub none-tests : (rows : List (Bool × ℕ)) → Tests (noneApplies rows) (NoneApplies rows)
+none-tests rows = every-tests (λ row. fails-tests (row .0)) rows
+
+pub free-tests : (s : State) (c : Call) {b : Bool} {P : Type 0} → Tests b P → Tests (free s c b) (Free s c P)
+free-tests s c h = where-so-tests (none-tests (refusals s c)) h
 
 pub both-tests : {a b : Bool} {P Q : Type 0} → Tests a P → Tests b Q → Tests (a && b) (P × Q)
 both-tests {a = a} {b = b} h k = (

@@ -7,7 +7,7 @@ use Rattle.rules.specs.Calls.{limitsOf}
 use Rattle.guarantee.specs.DemandTwo.{Better}
 use Rattle.excluded.specs.Same.{every}
 use Rattle.excluded.specs.FieldsBetter.{Merit, not-before-clock, not-before-order, unbroken, limit, balance, no-later, less-late, merits, Plan, newOf, Merits, merited}
-use Rattle.guarantee.proofs.DemandTwo.{each-unbroken}
+use Rattle.guarantee.proofs.Taking.{each-unbroken}
 use Rattle.excluded.proofs.Tests.{Tests, leb-tests, ltb-tests, every-tests}
 use Rattle.excluded.proofs.TestsMinutes.{limit-tests, balance-tests}
 

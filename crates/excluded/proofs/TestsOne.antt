@@ -10,7 +10,7 @@ use Rattle.guarantee.specs.Past.{isRefused}
 use Rattle.guarantee.specs.DemandOne.{FirstIs, AnswerTo}
 use Rattle.excluded.specs.Same.{sameList, sameAnswer, numberIn}
 use Rattle.excluded.specs.FieldsOne.{Field, number, same-station, same-list, answered, Trial, calledOn, openedBy, tried, OwnAnswer, Holds, refusalIn, firstIn, answersTo, ownAnswer, tested}
-use Rattle.excluded.proofs.Tests.{Tests, is-true, fails-tests, both-tests, either-tests, every-tests, where-so-tests}
+use Rattle.excluded.proofs.Tests.{Tests, is-true, none-tests, both-tests, either-tests, where-so-tests}
 use Rattle.excluded.proofs.Same.{same-list as same-lists, same-answer, same-state}
 
 -- The number
@@ -163,4 +163,4 @@ one-tested r same-station =
     where-so-tests (is-true (isRefused (tried r .result .answer))) (same-state (tried r .result .state) (tried r .station))
 one-tested r same-list =
     where-so-tests (is-true (isRefused (tried r .result .answer))) (same-lists (tried r .result .list) (tried r .list))
-one-tested r answered = where-so-tests (every-tests (λ row. fails-tests (row .0)) (tried r .rows)) (own-tests r)
+one-tested r answered = where-so-tests (none-tests (tried r .rows)) (own-tests r)

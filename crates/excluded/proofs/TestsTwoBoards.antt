@@ -1,19 +1,14 @@
 -- The test of each field of demand 2 for boards is true exactly where the field holds, and the fields one by one are what
 -- demand 2 says of a board.
 use mathlib.Core.Logic.{_↔_}
-use mathlib.Core.Bool.{Bool}
-use Rattle.rules.specs.Calls.{refusals}
 use Rattle.guarantee.specs.DemandTwo.{BoardShown}
-use Rattle.excluded.specs.FieldsTwoBoards.{Field, answer, shown, same-station, Trial, callOf, resultOf, answerOf, listOf, Free, Holds, free, tested}
-use Rattle.excluded.proofs.Tests.{Tests, fails-tests, every-tests, where-so-tests}
+use Rattle.excluded.specs.FieldsTwoBoards.{Field, answer, shown, same-station, Trial, callOf, resultOf, answerOf, listOf, Holds, tested}
+use Rattle.excluded.proofs.Tests.{Tests, free-tests}
 use Rattle.excluded.proofs.Same.{same-list, same-answer, same-state}
 
-free-tests : (r : Trial) {b : Bool} {P : Type 0} → Tests b P → Tests (free r b) (Free r P)
-free-tests r h = where-so-tests (every-tests (λ row. fails-tests (row .0)) (refusals (r .station) (callOf r))) h
-
 pub boards-tested : (r : Trial) (f : Field) → Tests (tested r f) (Holds r f)
-boards-tested r answer = free-tests r (same-answer (resultOf r .answer) (answerOf r))
-boards-tested r shown = free-tests r (same-list (resultOf r .list) (listOf r))
+boards-tested r answer = free-tests (r .station) (callOf r) (same-answer (resultOf r .answer) (answerOf r))
+boards-tested r shown = free-tests (r .station) (callOf r) (same-list (resultOf r .list) (listOf r))
 boards-tested r same-station = same-state (resultOf r .state) (r .station)
 
 -- The fields one by one

@@ -1,10 +1,11 @@
 -- The test of each field of demand 2 for commits is true exactly where the field holds, and the fields one by one are what
 -- demand 2 says of a commit.
 use mathlib.Core.Logic.{_↔_}
-use Rattle.rules.specs.Calls.{refused, committed, preview, drawFor, refusals}
+use Rattle.rules.specs.Calls.{refused, committed, drawFor}
 use Rattle.guarantee.specs.DemandTwo.{CommitStart}
-use Rattle.excluded.specs.FieldsTwoCommits.{Field, answer, refusal, others-same, Trial, resultOf, Free, Earliest, taken, Claim, Holds, earliest, test, tested}
-use Rattle.excluded.proofs.Tests.{Tests, fails-tests, every-tests, where-so-tests, same-tests, not-tests}
+use Rattle.excluded.specs.Free.{Free}
+use Rattle.excluded.specs.FieldsTwoCommits.{Field, answer, refusal, others-same, Trial, resultOf, orderOf, Earliest, taken, Claim, Holds, earliest, test, tested}
+use Rattle.excluded.proofs.Tests.{Tests, free-tests, where-so-tests, same-tests, not-tests}
 use Rattle.excluded.proofs.TestsStarts.{earliest-tests}
 use Rattle.excluded.proofs.Same.{same-answer, same-state}
 
@@ -19,9 +20,7 @@ claim-tested r others-same = where-so-tests (shown-tests r) (same-state (resultO
 
 pub commits-tested : (r : Trial) (f : Field) → Tests (tested r f) (Holds r f)
 commits-tested r f =
-    where-so-tests
-    (every-tests (λ row. fails-tests (row .0)) (refusals (r .station) (preview (r .line) (r .time) (r .due) (r .rate))))
-    (claim-tested r f)
+    free-tests (r .station) (orderOf r) (claim-tested r f)
 
 -- The fields one by one
 
@@ -34,7 +33,7 @@ module _ (r : Trial) where
   field-holds o refusal = o .refusal
   field-holds o others-same = o .others-same
 
-  pub commit-fields : (Free r → Whole) ↔ ((f : Field) → Holds r f)
+  pub commit-fields : Free (r .station) (orderOf r) Whole ↔ ((f : Field) → Holds r f)
   commit-fields = (
     (λ o f q. field-holds (o q) f),
     (λ h q. record { answer = h answer q; refusal = h refusal q; others-same = h others-same q }),

@@ -10,12 +10,11 @@ use Rattle.rules.specs.Charge.{Charge, starting, begunCharges, waitingCharges, 
 use Rattle.rules.specs.Replan.{Proposal, starts, none}
 use Rattle.rules.specs.Judgement.{restarted}
 use Rattle.rules.specs.Calls.{holding, Answer, planned, lent, refusals}
-use Rattle.guarantee.specs.DemandOne.{NoneApplies}
 use Rattle.guarantee.specs.DemandTwo.{Better, Taken, causeOf, Tested}
 use Rattle.excluded.specs.Same.{every, where-so, numberIn}
 use Rattle.excluded.specs.FieldsBetter.{merits, merited}
-use Rattle.excluded.specs.FieldsTwoPlans.{Field, taken, waiting-starts, begun-same, charges-same, station-same, unchanged, answer, same-list, Trial, resultOf, Given, Holds, isTaken, noneApplies, ofStarts, given, tested}
-use Rattle.excluded.proofs.Tests.{Tests, fails-tests, both-tests, same-tests, not-tests, every-tests, where-so-tests}
+use Rattle.excluded.specs.FieldsTwoPlans.{Field, taken, waiting-starts, begun-same, charges-same, station-same, unchanged, answer, same-list, Trial, resultOf, Given, Holds, isTaken, ofStarts, given, tested}
+use Rattle.excluded.proofs.Tests.{Tests, none-tests, free-tests, both-tests, same-tests, not-tests, where-so-tests}
 use Rattle.excluded.proofs.TestsBetter.{merits-tests}
 use Rattle.excluded.proofs.Same.{same-list as same-lists, same-answer, same-charges, same-state}
 
@@ -53,9 +52,6 @@ module _ (f : List ℕ → Bool) (P : List ℕ → Type 0) (right : (ss : List �
 -- Each field
 
 module _ (r : Trial) where
-  free-tests : Tests (noneApplies r) (NoneApplies (refusals (r .station) (r .call)))
-  free-tests = every-tests (λ row. fails-tests (row .0)) (refusals (r .station) (r .call))
-
   given-tests : (f : List ℕ → Bool) (P : List ℕ → Type 0) → ((ss : List ℕ) → Tests (f ss) (P ss)) → Tests (given r f) (Given r P)
   given-tests f P right =
       each-tests (λ ss. where-so (isTaken (resultOf r .answer)) (f ss)) (λ ss. Taken (resultOf r .answer) → P ss)
@@ -65,7 +61,7 @@ module _ (r : Trial) where
   pub plans-tested : (f : Field) → Tests (tested r f) (Holds r f)
   plans-tested taken =
       same-tests (taken-tests (resultOf r .answer))
-      (both-tests free-tests
+      (both-tests (none-tests (refusals (r .station) (r .call)))
       (proposed-tests (λ ss. every (merited (record { station = r .station; list = ss })) merits)
       (λ ss. Better (r .station) ss (restarted (r .station .clock) (r .station .charges) ss))
       (λ ss. merits-tests (record { station = r .station; list = ss }))
@@ -88,7 +84,7 @@ module _ (r : Trial) where
   plans-tested unchanged =
       where-so-tests (not-tests (taken-tests (resultOf r .answer))) (same-state (resultOf r .state) (r .station))
   plans-tested answer =
-      where-so-tests free-tests
+      free-tests (r .station) (r .call)
       (same-answer (resultOf r .answer)
       (planned (causeOf (r .station) (r .proposal)) (lateness (r .station .charges)) (lateness (resultOf r .state .charges)) (r .rounds)))
   plans-tested same-list = same-lists (resultOf r .list) (lent (r .call))

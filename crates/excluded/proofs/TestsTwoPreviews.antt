@@ -3,28 +3,24 @@
 use mathlib.Core.Logic.{_↔_}
 use mathlib.Core.Path.{_≡_, sym, ap, subst, _∙_}
 use Prim.Native.Nat.{ℕ}
-use mathlib.Core.Bool.{Bool}
 use Rattle.rules.specs.Calls.{limitsOf, previewed, lent, drawFor, refusals}
 use Rattle.guarantee.specs.DemandOne.{NoneApplies}
 use Rattle.guarantee.specs.DemandTwo.{EarliestStart, PreviewStart}
 use Rattle.excluded.specs.Same.{numberIn}
-use Rattle.excluded.specs.FieldsTwoPreviews.{Field, answer, not-early, limit, balance, earliest, same-station, same-list, Trial, callOf, resultOf, startOf, loadsWith, Free, Holds, free, tested}
-use Rattle.excluded.proofs.Tests.{Tests, leb-tests, fails-tests, every-tests, where-so-tests}
+use Rattle.excluded.specs.FieldsTwoPreviews.{Field, answer, not-early, limit, balance, earliest, same-station, same-list, Trial, callOf, resultOf, startOf, loadsWith, Holds, tested}
+use Rattle.excluded.proofs.Tests.{Tests, leb-tests, free-tests}
 use Rattle.excluded.proofs.TestsMinutes.{limit-tests, balance-tests}
 use Rattle.excluded.proofs.TestsStarts.{no-earlier-tests}
 use Rattle.excluded.proofs.Same.{same-list as same-lists, same-answer, same-state}
 
-free-tests : (r : Trial) {b : Bool} {P : Type 0} → Tests b P → Tests (free r b) (Free r P)
-free-tests r h = where-so-tests (every-tests (λ row. fails-tests (row .0)) (refusals (r .station) (callOf r))) h
-
 pub previews-tested : (r : Trial) (f : Field) → Tests (tested r f) (Holds r f)
-previews-tested r answer = free-tests r (same-answer (resultOf r .answer) (previewed (startOf r)))
-previews-tested r not-early = free-tests r (leb-tests (r .station .clock) (startOf r))
-previews-tested r limit = free-tests r (limit-tests (limitsOf (r .station)) (r .station .clock) (loadsWith r (startOf r)))
+previews-tested r answer = free-tests (r .station) (callOf r) (same-answer (resultOf r .answer) (previewed (startOf r)))
+previews-tested r not-early = free-tests (r .station) (callOf r) (leb-tests (r .station .clock) (startOf r))
+previews-tested r limit = free-tests (r .station) (callOf r) (limit-tests (limitsOf (r .station)) (r .station .clock) (loadsWith r (startOf r)))
 previews-tested r balance =
-    free-tests r (balance-tests (limitsOf (r .station)) (r .station .clock) (loadsWith r (startOf r)))
+    free-tests (r .station) (callOf r) (balance-tests (limitsOf (r .station)) (r .station .clock) (loadsWith r (startOf r)))
 previews-tested r earliest =
-    free-tests r (no-earlier-tests (r .station) (drawFor (r .station) (r .line) (r .time) (r .rate)) (startOf r))
+    free-tests (r .station) (callOf r) (no-earlier-tests (r .station) (drawFor (r .station) (r .line) (r .time) (r .rate)) (startOf r))
 previews-tested r same-station = same-state (resultOf r .state) (r .station)
 previews-tested r same-list = same-lists (resultOf r .list) (lent (callOf r))
 

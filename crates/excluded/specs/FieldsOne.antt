@@ -3,12 +3,13 @@
 use mathlib.Core.Logic.{_↔_}
 use mathlib.Core.Path.{_≡_}
 use Prim.Native.Nat.{ℕ}
-use mathlib.Core.Bool.{Bool, true, cond, not, _&&_, _||_}
+use mathlib.Core.Bool.{Bool, true, cond, _&&_, _||_}
 use mathlib.Core.List.{List, [], _∷_}
 use Rattle.rules.specs.Calls.{Settings, settings, State, Answer, refused, opened, previewed, committed, moved, planned, waiting, charging, looked, withdrawn, Result, fresh, openRefusals, Call, preview, commit, move, offer, replanLatest, replanLines, enquire, board, withdraw, lent, refusals}
 use Rattle.guarantee.specs.Past.{Gives, isRefused}
 use Rattle.guarantee.specs.DemandOne.{FirstIs, NoneApplies, AnswerTo}
-use Rattle.excluded.specs.Same.{every, where-so, sameList, sameAnswer, numberIn, sameState}
+use Rattle.excluded.specs.Same.{where-so, sameList, sameAnswer, numberIn, sameState}
+use Rattle.excluded.specs.Free.{noneApplies}
 
 pub data Field : Type 0 where
   number : Field
@@ -89,4 +90,4 @@ tested r number = sameList (refusalIn (tried r .result .answer)) (firstIn (tried
 tested r same-station =
     where-so (isRefused (tried r .result .answer)) (sameState (tried r .result .state) (tried r .station))
 tested r same-list = where-so (isRefused (tried r .result .answer)) (sameList (tried r .result .list) (tried r .list))
-tested r answered = where-so (every (λ row. not (row .0)) (tried r .rows)) (ownAnswer r)
+tested r answered = where-so (noneApplies (tried r .rows)) (ownAnswer r)

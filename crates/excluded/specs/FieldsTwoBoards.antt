@@ -2,16 +2,16 @@
 -- `boards-tested` in proofs/TestsTwoBoards.antt.
 use mathlib.Core.Path.{_≡_}
 use Prim.Native.Nat.{ℕ}
-use mathlib.Core.Bool.{Bool, not}
+use mathlib.Core.Bool.{Bool}
 use mathlib.Core.List.{List, [], _∷_, map}
 use lib.Dec.{leb}
 use lib.ListN.{length}
 use Rattle.rules.specs.Basics.{keep}
-use Rattle.rules.specs.Calls.{State, Answer, looked, Result, Call, enquire, board, refusals, written}
+use Rattle.rules.specs.Calls.{State, Answer, looked, Result, Call, enquire, board, written}
 use Rattle.guarantee.specs.Past.{Gives}
-use Rattle.guarantee.specs.DemandOne.{NoneApplies}
 use Rattle.guarantee.specs.DemandTwo.{shownBy, highest}
-use Rattle.excluded.specs.Same.{every, where-so, sameList, sameAnswer, sameState}
+use Rattle.excluded.specs.Same.{sameList, sameAnswer, sameState}
+use Rattle.excluded.specs.Free.{Free, free}
 
 -- of `BoardShown`
 pub data Field : Type 0 where
@@ -48,22 +48,15 @@ answerOf r = looked (length (keep (λ c. leb (c .ticket) (highest (r .asked))) (
 abbrev pub listOf : Trial → List ℕ
 listOf r = written (map (λ t. shownBy (r .gives (r .station) (enquire t) .answer)) (r .asked)) (r .list)
 
--- what a field says of a board that is not refused
-abbrev pub Free : Trial → Type 0 → Type 0
-Free r P = NoneApplies (refusals (r .station) (callOf r)) → P
-
 -- what a field says; all together they are what demand 2 says of a board (`board-fields` there)
 abbrev pub Holds : Trial → Field → Type 0
-Holds r answer = Free r (resultOf r .answer ≡ answerOf r)
-Holds r shown = Free r (resultOf r .list ≡ listOf r)
+Holds r answer = Free (r .station) (callOf r) (resultOf r .answer ≡ answerOf r)
+Holds r shown = Free (r .station) (callOf r) (resultOf r .list ≡ listOf r)
 Holds r same-station = resultOf r .state ≡ r .station
 
 -- The tests
 
-abbrev pub free : Trial → Bool → Bool
-free r b = where-so (every (λ row. not (row .0)) (refusals (r .station) (callOf r))) b
-
 abbrev pub tested : Trial → Field → Bool
-tested r answer = free r (sameAnswer (resultOf r .answer) (answerOf r))
-tested r shown = free r (sameList (resultOf r .list) (listOf r))
+tested r answer = free (r .station) (callOf r) (sameAnswer (resultOf r .answer) (answerOf r))
+tested r shown = free (r .station) (callOf r) (sameList (resultOf r .list) (listOf r))
 tested r same-station = sameState (resultOf r .state) (r .station)

@@ -5,11 +5,11 @@ use mathlib.Core.Path.{_≡_}
 use Prim.Native.Nat.{ℕ}
 use mathlib.Core.Bool.{Bool, not}
 use mathlib.Core.List.{List, [], _∷_}
-use Rattle.rules.specs.Calls.{State, refused, committed, Result, preview, commit, newCharge, drawFor, refusals, taking}
+use Rattle.rules.specs.Calls.{State, refused, committed, Result, Call, preview, commit, newCharge, drawFor, taking}
 use Rattle.guarantee.specs.Past.{Gives}
-use Rattle.guarantee.specs.DemandOne.{NoneApplies}
 use Rattle.guarantee.specs.DemandTwo.{EarliestStart}
-use Rattle.excluded.specs.Same.{every, where-so, sameTest, sameAnswer, sameState}
+use Rattle.excluded.specs.Same.{where-so, sameTest, sameAnswer, sameState}
+use Rattle.excluded.specs.Free.{Free, free}
 use Rattle.excluded.specs.Starts.{isEarliest}
 
 -- of `CommitStart`
@@ -40,9 +40,9 @@ pub record Trial : Type 0 where
 abbrev pub resultOf : Trial → Result
 resultOf r = r .gives (r .station) (commit (r .line) (r .time) (r .due) (r .rate) (r .shown))
 
--- its order is not refused
-abbrev pub Free : Trial → Type 0
-Free r = NoneApplies (refusals (r .station) (preview (r .line) (r .time) (r .due) (r .rate)))
+-- its order, as a preview
+abbrev pub orderOf : Trial → Call
+orderOf r = preview (r .line) (r .time) (r .due) (r .rate)
 
 -- the start shown is the earliest
 abbrev pub Earliest : Trial → Type 0
@@ -59,7 +59,7 @@ Claim r others-same = Earliest r → resultOf r .state ≡ taken r
 
 -- what a field says; all together they are what demand 2 says of a commit (`commit-fields` there)
 abbrev pub Holds : Trial → Field → Type 0
-Holds r f = Free r → Claim r f
+Holds r f = Free (r .station) (orderOf r) (Claim r f)
 
 -- The tests
 
@@ -72,5 +72,4 @@ test r refusal = where-so (not (earliest r)) (sameAnswer (resultOf r .answer) (r
 test r others-same = where-so (earliest r) (sameState (resultOf r .state) (taken r))
 
 abbrev pub tested : Trial → Field → Bool
-tested r f =
-    where-so (every (λ row. not (row .0)) (refusals (r .station) (preview (r .line) (r .time) (r .due) (r .rate)))) (test r f)
+tested r f = free (r .station) (orderOf r) (test r f)

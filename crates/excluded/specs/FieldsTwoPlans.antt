@@ -12,6 +12,7 @@ use Rattle.rules.specs.Calls.{State, holding, Answer, planned, Result, Call, le
 use Rattle.guarantee.specs.Past.{Gives}
 use Rattle.guarantee.specs.DemandOne.{NoneApplies}
 use Rattle.guarantee.specs.DemandTwo.{Better, Taken, causeOf}
+use Rattle.excluded.specs.Free.{Free, noneApplies, free}
 use Rattle.excluded.specs.FieldsBetter.{merits, merited}
 use Rattle.excluded.specs.Same.{every, where-so, sameTest, sameList, sameAnswer, numberIn, sameCharges, sameState}
 
@@ -75,16 +76,13 @@ Holds r station-same =
     Given r (λ ss. resultOf r .state ≡ holding (r .station) (r .station .clock) (resultOf r .state .charges))
 Holds r unchanged = (Taken (resultOf r .answer) → ⊥) → resultOf r .state ≡ r .station
 Holds r answer =
-    NoneApplies (refusals (r .station) (r .call))
-    → resultOf r .answer
-    ≡ planned (causeOf (r .station) (r .proposal)) (lateness (r .station .charges)) (lateness (resultOf r .state .charges)) (r .rounds)
+    Free (r .station) (r .call)
+    (resultOf r .answer
+    ≡ planned (causeOf (r .station) (r .proposal)) (lateness (r .station .charges)) (lateness (resultOf r .state .charges)) (r .rounds))
 Holds r same-list = resultOf r .list ≡ lent (r .call)
 
 abbrev pub isTaken : Answer → Bool
 isTaken a = sameAnswer a (planned 0 (numberIn 2 a) (numberIn 3 a) (numberIn 4 a))
-
-abbrev pub noneApplies : Trial → Bool
-noneApplies r = every (λ row. not (row .0)) (refusals (r .station) (r .call))
 
 -- a test of the starts that are proposed, `otherwise` where none are
 abbrev pub ofStarts : Bool → (List ℕ → Bool) → Proposal → Bool
@@ -97,7 +95,7 @@ given r f = ofStarts true (λ ss. where-so (isTaken (resultOf r .answer)) (f ss)
 abbrev pub tested : Trial → Field → Bool
 tested r taken =
     sameTest (isTaken (resultOf r .answer))
-    (noneApplies r
+    (noneApplies (refusals (r .station) (r .call))
     && ofStarts false (λ ss. every (merited (record { station = r .station; list = ss })) merits) (r .proposal))
 tested r waiting-starts =
     given r
@@ -115,7 +113,7 @@ tested r station-same =
     given r (λ ss. sameState (resultOf r .state) (holding (r .station) (r .station .clock) (resultOf r .state .charges)))
 tested r unchanged = where-so (not (isTaken (resultOf r .answer))) (sameState (resultOf r .state) (r .station))
 tested r answer =
-    where-so (noneApplies r)
+    free (r .station) (r .call)
     (sameAnswer (resultOf r .answer)
     (planned (causeOf (r .station) (r .proposal)) (lateness (r .station .charges)) (lateness (resultOf r .state .charges)) (r .rounds)))
 tested r same-list = sameList (resultOf r .list) (lent (r .call))

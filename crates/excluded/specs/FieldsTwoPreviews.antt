@@ -2,17 +2,17 @@
 -- `previews-tested` in proofs/TestsTwoPreviews.antt.
 use mathlib.Core.Path.{_≡_}
 use Prim.Native.Nat.{ℕ, _+_, _≤_}
-use mathlib.Core.Bool.{Bool, not}
+use mathlib.Core.Bool.{Bool}
 use mathlib.Core.List.{List, [], _∷_}
 use lib.Dec.{leb}
 use Rattle.rules.specs.Load.{Load, count, IsLine, limitAt, balanceAt, fromOn}
 use Rattle.rules.specs.Charge.{loadsOf}
 use Rattle.rules.specs.Search.{added}
-use Rattle.rules.specs.Calls.{State, limitsOf, previewed, Result, Call, preview, lent, drawFor, refusals}
+use Rattle.rules.specs.Calls.{State, limitsOf, previewed, Result, Call, preview, lent, drawFor}
 use Rattle.guarantee.specs.Past.{Gives}
-use Rattle.guarantee.specs.DemandOne.{NoneApplies}
 use Rattle.guarantee.specs.DemandTwo.{SoundPlan}
-use Rattle.excluded.specs.Same.{every, where-so, sameList, sameAnswer, numberIn, sameState}
+use Rattle.excluded.specs.Same.{sameList, sameAnswer, numberIn, sameState}
+use Rattle.excluded.specs.Free.{Free, free}
 use Rattle.excluded.specs.Starts.{noEarlier}
 
 -- of `PreviewStart`, with those of `EarliestStart` and of `SoundPlan` behind `answer`
@@ -61,42 +61,35 @@ startOf r = numberIn 1 (resultOf r .answer)
 abbrev pub loadsWith : Trial → ℕ → List Load
 loadsWith r u = added (loadsOf (r .station .charges)) (drawFor (r .station) (r .line) (r .time) (r .rate)) u
 
--- what a field says of a preview that is not refused
-abbrev pub Free : Trial → Type 0 → Type 0
-Free r P = NoneApplies (refusals (r .station) (callOf r)) → P
-
 -- what a field says; all together they are what demand 2 says of a preview (`preview-fields` there)
 abbrev pub Holds : Trial → Field → Type 0
-Holds r answer = Free r (resultOf r .answer ≡ previewed (startOf r))
-Holds r not-early = Free r (r .station .clock ≤ startOf r)
+Holds r answer = Free (r .station) (callOf r) (resultOf r .answer ≡ previewed (startOf r))
+Holds r not-early = Free (r .station) (callOf r) (r .station .clock ≤ startOf r)
 Holds r limit =
-    Free r ((l t : ℕ) → IsLine l → r .station .clock ≤ t → count (loadsWith r (startOf r)) l t ≤ r .station .limit)
+    Free (r .station) (callOf r) ((l t : ℕ) → IsLine l → r .station .clock ≤ t → count (loadsWith r (startOf r)) l t ≤ r .station .limit)
 Holds r balance =
-    Free r
+    Free (r .station) (callOf r)
     ((l m t : ℕ)
     → IsLine l
     → IsLine m
     → r .station .clock ≤ t
     → count (loadsWith r (startOf r)) l t ≤ count (loadsWith r (startOf r)) m t + r .station .bound)
 Holds r earliest =
-    Free r ((u : ℕ) → r .station .clock ≤ u → SoundPlan (r .station) (loadsWith r u) → startOf r ≤ u)
+    Free (r .station) (callOf r) ((u : ℕ) → r .station .clock ≤ u → SoundPlan (r .station) (loadsWith r u) → startOf r ≤ u)
 Holds r same-station = resultOf r .state ≡ r .station
 Holds r same-list = resultOf r .list ≡ lent (callOf r)
 
 -- The tests
 
-abbrev pub free : Trial → Bool → Bool
-free r b = where-so (every (λ row. not (row .0)) (refusals (r .station) (callOf r))) b
-
 abbrev pub tested : Trial → Field → Bool
-tested r answer = free r (sameAnswer (resultOf r .answer) (previewed (startOf r)))
-tested r not-early = free r (leb (r .station .clock) (startOf r))
+tested r answer = free (r .station) (callOf r) (sameAnswer (resultOf r .answer) (previewed (startOf r)))
+tested r not-early = free (r .station) (callOf r) (leb (r .station .clock) (startOf r))
 tested r limit =
     let xs : List Load = loadsWith r (startOf r) in
-    free r (fromOn (r .station .clock) xs (limitAt (limitsOf (r .station)) xs))
+    free (r .station) (callOf r) (fromOn (r .station .clock) xs (limitAt (limitsOf (r .station)) xs))
 tested r balance =
     let xs : List Load = loadsWith r (startOf r) in
-    free r (fromOn (r .station .clock) xs (balanceAt (limitsOf (r .station)) xs))
-tested r earliest = free r (noEarlier (r .station) (drawFor (r .station) (r .line) (r .time) (r .rate)) (startOf r))
+    free (r .station) (callOf r) (fromOn (r .station .clock) xs (balanceAt (limitsOf (r .station)) xs))
+tested r earliest = free (r .station) (callOf r) (noEarlier (r .station) (drawFor (r .station) (r .line) (r .time) (r .rate)) (startOf r))
 tested r same-station = sameState (resultOf r .state) (r .station)
 tested r same-list = sameList (resultOf r .list) (lent (callOf r))

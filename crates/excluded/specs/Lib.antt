@@ -7,6 +7,7 @@ pub mod WrongRestores
 pub mod WrongBoards
 pub mod WrongWithdrawals
 pub mod Same
+pub mod Free
 pub mod Stations
 pub mod Breaks
 pub mod FieldsThree

@@ -2,7 +2,7 @@
 use mathlib.Core.Path.{_≡_, refl, sym, _∙_}
 use Prim.Native.Nat.{ℕ, _+_, _≤_}
 use mathlib.Core.Bool.{Bool, true, false, cond, not}
-use mathlib.Core.List.{List, [], _∷_, _++_, map, append-nil}
+use mathlib.Core.List.{List, [], _∷_, map, append-nil}
 use native.Mathlib.Omega.{arith}
 use borrow.Author.Tests.{lt-leb}
 use Rattle.rules.specs.Basics.{Each}
@@ -12,10 +12,11 @@ use Rattle.rules.specs.Calls.{State, limitsOf}
 use Rattle.rules.specs.Valid.{ValidCharge, ValidState}
 use Rattle.rules.proofs.Lists.{keep-all}
 use Rattle.rules.proofs.Counts.{sound-from}
-use Rattle.guarantee.specs.Past.{Order, ordersOf, reportOf, beginning, staying, lastMinute}
+use Rattle.guarantee.specs.Past.{ordersOf, reportOf, beginning, lastMinute}
 use Rattle.guarantee.proofs.Each.{each-in}
 use Rattle.guarantee.proofs.History.{each-until}
 use Rattle.guarantee.proofs.Reports.{Worth, sumReports, sumBegun}
+use Rattle.guarantee.proofs.Staying.{all-stay}
 use Rattle.guarantee.proofs.Steps.{Known}
 
 begun-reports :
@@ -34,10 +35,6 @@ begun-reports f k (c ∷ cs) = go (isBegun k c) (begun-reports f k cs)
 last-ordered : (m k : ℕ) (cs : List Charge) → m ≤ k → Each (λ c. c .orderMinute ≤ k) cs → lastMinute m (ordersOf cs) ≤ k
 last-ordered m k [] h e = h
 last-ordered m k (c ∷ cs) h e = last-ordered (c .orderMinute) k cs (e .0) (e .1)
-
-all-stay : (os : List Order) → staying [] os ≡ os
-all-stay [] = refl
-all-stay (o ∷ os) = rw (all-stay os)
 
 -- its history is what it holds
 pub station-known : (s : State) → ValidState s → Known s (beginning s) (s .charges)

@@ -10,7 +10,7 @@ use Rattle.rules.specs.Basics.{some, firstOf}
 use Rattle.rules.specs.Charge.{Charge, endOf, isBegun, hasTicket}
 use Rattle.rules.specs.Replan.{Proposal, starts, none, latest, Replanned, byLines}
 use Rattle.rules.specs.Judgement.{judged}
-use Rattle.rules.specs.Calls.{Settings, settings, State, limitsOf, Answer, refused, opened, planned, Result, answering, boundOf, fresh, openRefusals, opening, Call, preview, commit, move, offer, replanLatest, replanLines, enquire, board, withdraw, lent, refusals, previewing, committing, moving, decided, tested, offering, replanningLatest, replanningLines, told, enquiring, boarding, withdrawing, granted, step}
+use Rattle.rules.specs.Calls.{Settings, settings, State, limitsOf, Answer, refused, opened, planned, Result, answering, fresh, openRefusals, opening, Call, preview, commit, move, offer, replanLatest, replanLines, enquire, board, withdraw, lent, refusals, previewing, committing, moving, decided, tested, offering, replanningLatest, replanningLines, told, enquiring, boarding, withdrawing, granted, step}
 use Rattle.rules.specs.Valid.{ValidState}
 use Rattle.rules.proofs.Tables.{Numbered, firstOf-none, none-firstOf}
 use Rattle.rules.proofs.Granted.{refusals-numbered, openRefusals-numbered, order-granted, enquire-granted}
@@ -59,9 +59,8 @@ refused-by rows kept list r numbered plain = go (firstOf rows) refl
           same-list = λ p. refl;
         }
 
--- The answers of a call that is not refused
-
-answer-not-refused : (c : Call) (a : Answer) → AnswerTo c a → isRefused a ≡ false
+-- an answer of a call's own kind is no refusal
+pub answer-not-refused : (c : Call) (a : Answer) → AnswerTo c a → isRefused a ≡ false
 answer-not-refused (preview line p d rate) a (s, e) = rw e
 answer-not-refused (commit line p d rate shown) a (t, e) = rw e
 answer-not-refused (move target list) a (n, m, e) = rw e

@@ -1,6 +1,6 @@
 -- Demand 3.
 use mathlib.Core.Path.{_≡_, refl, sym, ap, subst, _∙_}
-use Prim.Native.Nat.{ℕ, zero, suc, _+_, _≤_}
+use Prim.Native.Nat.{ℕ, zero, suc, _≤_}
 use mathlib.Core.Bool.{Bool, true, false, cond, not}
 use mathlib.Core.List.{List, [], _∷_, _++_, map}
 use native.Mathlib.Omega.{arith}
@@ -11,17 +11,18 @@ use Rattle.rules.specs.Load.{count, lastUntil}
 use Rattle.rules.specs.Charge.{Charge, activeUntil, loadsOf, isBegun, unfinishedCharges}
 use Rattle.rules.specs.Calls.{Settings, settings, State, told, opened, answering, fresh, openRefusals, opening, Call, step}
 use Rattle.guarantee.specs.Past.{Order, Past, orderOf, ordersOf, beginning, past, isWithdrawn, stayingOrders, withdrawnOrders, timesReported, enquiry, startIn, startOf, loadOf, countIn, Numbered}
-use Rattle.guarantee.specs.DemandThree.{Kept, Gone, Unmoved, InTime, NoOther, NoneMoved, DemandThree, DemandThreeFrom}
+use Rattle.guarantee.specs.DemandThree.{Kept, Gone, InTime, NoOther, NoneMoved, DemandThree, DemandThreeFrom}
 use Rattle.rules.specs.Valid.{ValidState}
-use Rattle.rules.proofs.Lists.{each-map}
+use Rattle.rules.proofs.Lists.{each-map, each-both, kept-pass}
 use Rattle.rules.proofs.Validity.{opening-valid}
-use Rattle.guarantee.proofs.Each.{each-two, each-both, image-each, each-image}
+use Rattle.guarantee.proofs.Each.{each-two, each-in, image-each, each-image}
+use Rattle.guarantee.proofs.Unmoved.{reported-unmoved}
 use Rattle.guarantee.proofs.History.{Fit}
 use Rattle.guarantee.proofs.Reports.{Worth, sumReports, sumBegun}
 use Rattle.guarantee.proofs.Tickets.{isTicket, isPair, times-sum, not-reported-start, once-reported-start, sum-of-own, sum-ours, enquiry-told, Told, told-each}
 use Rattle.guarantee.proofs.Invariant.{Accepted, ceilingOf}
-use Rattle.guarantee.proofs.Staying.{some-kept, kept-pass, stays-not-withdrawn, withdrawn-none, none-begun, none-told}
-use Rattle.guarantee.proofs.Steps.{Grown, more, on, off, Known, Reach, reach, after-append}
+use Rattle.guarantee.proofs.Staying.{some-kept, stays-not-withdrawn, withdrawn-none, none-begun, none-told}
+use Rattle.guarantee.proofs.Steps.{Known, Reach, reach}
 use Rattle.guarantee.proofs.Beginnings.{station-known}
 
 -- what calls and answers say of one charge of the history
@@ -175,59 +176,22 @@ module _ (s : State) (h : Past) (hs : List Charge) (known : Known s h hs) where
           (subst (λ (os : List Order). Each (λ o. isWithdrawn (h .withdrawn) o ≡ false) os) (sym (known .invariant .orders))
           (stays-not-withdrawn (h .withdrawn) (h .orders)))
 
--- A first part and the whole
-
-unmoved-each :
-    (here there : Past) (a b : List Charge) {k : ℕ} {cs ds : List Charge}
-    → k ≡ here .clock
-    → Grown k cs ds
-    → Each (Said here a) cs
-    → Each (Said there b) ds
-    → Each (λ c. Unmoved step here there (orderOf c)) cs
-unmoved-each here there a b e more p q = tt
-unmoved-each here there a b e (on {c = c} {d = d} t u r) p q = (
-  (λ j.
-      let i : startOf step here (orderOf c) ≡ c .start = p .0 .start in
-      ap (startOf step there) (sym t) ∙ q .0 .start ∙ u (omega arith) ∙ sym i),
-  unmoved-each here there a b e r (p .1) (q .1),
-)
-unmoved-each here there a b e (off {c = c} i r) p q = (
-  (λ j. let w : startOf step here (orderOf c) ≡ c .start = p .0 .start in absurd (omega arith)),
-  unmoved-each here there a b e r (p .1) q,
-)
-
-unmoved-orders :
-    (s : State) (here there : Past) (cs ds : List Charge)
-    → Known s here cs
-    → Known s there ds
-    → Grown (here .clock) cs ds
-    → Each (Unmoved step here there) (stayingOrders here)
-unmoved-orders s here there cs ds p q r =
-    subst (λ (os : List Order). Each (Unmoved step here there) os) (p .invariant .orders)
-    (each-image (Unmoved step here there) orderOf cs
-    (unmoved-each here there
-    (unfinishedCharges (here .clock) cs)
-    (unfinishedCharges (there .clock) ds)
-    refl
-    r
-    (said s here cs p)
-    (said s there ds q)))
-
 -- From any valid station
 
 -- what is known after calls to a valid station
 module _ (s : State) (calls : List Call) (v : ValidState s) where
-  reached : Reach s (beginning s) (s .charges) (past step s calls)
-  reached = reach s calls (beginning s) (s .charges) (station-known s v)
+  after-part : (part : List Call) → Reach s (past step s part)
+  after-part part = reach s part (beginning s) (s .charges) (station-known s v)
+
+  reached : Reach s (past step s calls)
+  reached = after-part calls
 
   unmoved-part : NoneMoved step s calls
-  unmoved-part part rest e =
-      let p : Reach s (beginning s) (s .charges) (past step s part) = reach s part (beginning s) (s .charges) (station-known s v) in
-      let q = reach s rest (past step s part) (p .now) (p .known) in
-      subst (λ (z : List Call). Each (Unmoved step (past step s part) (past step s z)) (stayingOrders (past step s part))) (sym e)
-      (subst (λ (g : Past). Each (Unmoved step (past step s part) g) (stayingOrders (past step s part)))
-      (sym (after-append part rest (beginning s)))
-      (unmoved-orders s (past step s part) _ (p .now) (q .now) (p .known) (q .known) (q .grown)))
+  unmoved-part =
+      reported-unmoved step s calls
+      (λ part rest e.
+      each-in (λ o k. k .reported) (stayingOrders (past step s part))
+      (orders-kept s (past step s part) (after-part part .now) (after-part part .known)))
 
   -- for every valid station and every list of calls
   pub demand-three-from : DemandThreeFrom step s calls

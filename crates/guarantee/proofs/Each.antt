@@ -8,9 +8,6 @@ pub each-two :
 each-two P Q R f [] d e = tt
 each-two P Q R f (a ∷ l) d e = (f a (d .0) (e .0), each-two P Q R f l (d .1) (e .1))
 
-pub each-both : {A : Type 0} (P Q : A → Type 0) (l : List A) → Each P l → Each Q l → Each (λ a. P a × Q a) l
-each-both P Q l d e = each-two P Q (λ a. P a × Q a) (λ a p q. (p, q)) l d e
-
 -- `each-map`, where the facts can be told from the function
 pub each-in : {A : Type 0} {P Q : A → Type 0} → ((a : A) → P a → Q a) → (l : List A) → Each P l → Each Q l
 each-in {P = P} {Q = Q} f l e = each-map P Q f l e

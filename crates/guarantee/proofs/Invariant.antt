@@ -9,7 +9,7 @@ use lib.ListN.{length, length-append}
 use borrow.Author.Tests.{le-ltb, eqb-true}
 use Rattle.rules.specs.Basics.{Each, keep, some}
 use Rattle.rules.specs.Load.{counts, lastUntil, sound}
-use Rattle.rules.specs.Charge.{drawOf, Charge, endOf, activeUntil, loadOf, loadsOf, isBegun, isFinished, unfinishedCharges, hasTicket, withoutTicket, lastEnd}
+use Rattle.rules.specs.Charge.{drawOf, Charge, endOf, activeUntil, loadOf, loadsOf, isBegun, isFinished, unfinishedCharges, hasTicket, withoutTicket}
 use Rattle.rules.specs.Search.{added}
 use Rattle.rules.specs.Judgement.{restarted}
 use Rattle.rules.specs.Calls.{State, limitsOf, isPassed, startBefore, reported, pairs}
@@ -215,7 +215,7 @@ module _
         (ss : List ℕ)
         (ok : Meets (limitsOf b) k (unfinishedCharges k hs) ss (restarted k (unfinishedCharges k hs) ss))
       where
-        pub plan-restarted : Restarted k hs (restarted k hs ss)
+        plan-restarted : Restarted k hs (restarted k hs ss)
         plan-restarted = restarted-is k hs ss (ok .none-early)
 
         pub plan-held : restarted k (unfinishedCharges k hs) ss ≡ unfinishedCharges k (restarted k hs ss)
@@ -304,7 +304,7 @@ module _
         (not-begun : some (λ c. hasTicket t c && isBegun k c) (unfinishedCharges k hs) ≡ false)
         (ok : sound (limitsOf b) k (loadsOf (withoutTicket t (unfinishedCharges k hs))) ≡ true)
       where
-        pub all-wait : Each (Leaves k t) hs
+        all-wait : Each (Leaves k t) hs
         all-wait = leaves-waiting k t 1 hs (inv .rising) held not-begun
 
         pub left-held : withoutTicket t (unfinishedCharges k hs) ≡ unfinishedCharges k (withoutTicket t hs)

@@ -1,4 +1,5 @@
 pub mod Each
+pub mod Unmoved
 pub mod Counted
 pub mod Tables
 pub mod History
@@ -15,5 +16,6 @@ pub mod Proposals
 pub mod Orders
 pub mod Boards
 pub mod Leaving
+pub mod Taking
 pub mod DemandTwo
 pub mod Demands

@@ -11,7 +11,7 @@ use Rattle.rules.specs.Basics.{Each, keep, some}
 use Rattle.rules.specs.Charge.{Charge, isBegun, isFinished, unfinishedCharges, hasTicket, withoutTicket}
 use Rattle.rules.specs.Calls.{told, refused}
 use Rattle.rules.proofs.Ranges.{fails}
-use Rattle.rules.proofs.Lists.{keep-append, each-map, keep-each}
+use Rattle.rules.proofs.Lists.{keep-append, some-append, each-map, kept-pass, keep-each}
 use Rattle.rules.proofs.Withdrawing.{NoneHas, none-some}
 use Rattle.guarantee.specs.Past.{Order, orderOf, ordersOf, isWithdrawn, staying}
 use Rattle.guarantee.proofs.Reports.{sumBegun}
@@ -37,14 +37,6 @@ found P f (a ∷ l) e p = go (f a) refl e (λ q. found P f l q (p .1))
     go true q u rest = (a, (p .0, q))
     go false q u rest = rest u
 
-some-append : {A : Type 0} (f : A → Bool) (l m : List A) → some f (l ++ m) ≡ some f l || some f m
-some-append f [] m = refl
-some-append f (a ∷ l) m = go (f a) (some-append f l m)
-  where
-    go : (b : Bool) → some f (l ++ m) ≡ some f l || some f m → b || some f (l ++ m) ≡ (b || some f l) || some f m
-    go true ih = refl
-    go false ih = ih
-
 pub some-kept : {A : Type 0} (f g : A → Bool) (l : List A) → some f (keep g l) ≡ true → some f l ≡ true
 some-kept f g [] e = e
 some-kept f g (a ∷ l) e = go (f a) (g a) refl e (some-kept f g l)
@@ -58,14 +50,6 @@ some-kept f g (a ∷ l) e = go (f a) (g a) refl e (some-kept f g l)
     go true d p u ih = refl
     go false true p u ih = let w : f a || some f (keep g l) ≡ true = u in ih (rw p at w)
     go false false p u ih = ih u
-
-pub kept-pass : {A : Type 0} (f : A → Bool) (l : List A) → Each (λ a. f a ≡ true) (keep f l)
-kept-pass f [] = tt
-kept-pass f (a ∷ l) = go (f a) refl (kept-pass f l)
-  where
-    go : (b : Bool) → f a ≡ b → Each (λ a. f a ≡ true) (keep f l) → Each (λ a. f a ≡ true) (cond b (a ∷ keep f l) (keep f l))
-    go true p ih = (p, ih)
-    go false p ih = ih
 
 -- One ticket more
 
@@ -120,6 +104,11 @@ staying-new ws os o e =
     (each-map (λ t. t < o .ticket) (λ t. eqb (o .ticket) t ≡ false) (λ t j. ne-eqb (o .ticket) t (λ q. omega arith)) ws e))
 
 -- Withdrawn tickets
+
+-- nobody has withdrawn at the beginning
+pub all-stay : (os : List Order) → staying [] os ≡ os
+all-stay [] = refl
+all-stay (o ∷ os) = rw (all-stay os)
 
 pub stays-not-withdrawn : (ws : List ℕ) (os : List Order) → Each (λ o. isWithdrawn ws o ≡ false) (staying ws os)
 stays-not-withdrawn ws os =

@@ -1,30 +1,26 @@
 -- One call after another: each keeps the invariant.
-use mathlib.Core.Logic.{_⊎_, inl, inr}
-use mathlib.Core.Path.{_≡_, refl, _∙_}
-use Prim.Native.Nat.{ℕ, zero, suc, _+_, _-_, _≤_, _<_}
-use mathlib.Core.Bool.{Bool, true, false, cond, not}
+use mathlib.Core.Path.{_≡_, refl}
+use Prim.Native.Nat.{ℕ, zero, suc, _+_, _-_, _≤_}
+use mathlib.Core.Bool.{not}
 use mathlib.Core.List.{List, [], _∷_, _++_, append-nil}
 use native.Mathlib.Omega.{arith}
-use native.Mathlib.Nat.{le-trans}
 use borrow.Author.Tests.{lt-leb}
-use Rattle.rules.specs.Basics.{Each, Found, at, nothing, firstOf}
+use Rattle.rules.specs.Basics.{Found, at, nothing, firstOf}
 use Rattle.rules.specs.Load.{lastUntil, sound}
-use Rattle.rules.specs.Charge.{Charge, starting, loadsOf, isFinished, unfinishedCharges, hasTicket, withoutTicket}
+use Rattle.rules.specs.Charge.{Charge, loadsOf, isFinished, unfinishedCharges, withoutTicket}
 use Rattle.rules.specs.Search.{added}
 use Rattle.rules.specs.Replan.{Proposal, starts, none, latest, byLines}
 use Rattle.rules.specs.Judgement.{restarted, judged}
 use Rattle.rules.specs.Calls.{State, limitsOf, Answer, refused, Result, answering, Call, preview, commit, move, offer, replanLatest, replanLines, enquire, board, withdraw, lent, newCharge, drawFor, startFor, refusals, previewedAt, previewing, committing, moving, decided, tested, offering, replanningLatest, replanningLines, enquiring, boarding, withdrawing, granted, step}
-use Rattle.rules.proofs.Ranges.{IsFirst, below-or-not}
+use Rattle.rules.proofs.Ranges.{IsFirst}
 use Rattle.rules.proofs.Lists.{keep-append}
 use Rattle.rules.proofs.Searches.{earliest-first}
 use Rattle.rules.proofs.Tables.{NoneHolds}
 use Rattle.rules.proofs.Granted.{refusals-none, order-granted, commit-granted, move-granted, WithdrawGranted, withdraw-granted}
 use Rattle.rules.proofs.Judgements.{judged-meets}
-use Rattle.rules.proofs.Restarts.{Restarted, empty, same, other}
-use Rattle.guarantee.specs.Past.{Order, Report, nothingNew, learnt, Past, orderOf, extended, after}
+use Rattle.guarantee.specs.Past.{Order, Report, nothingNew, learnt, Past, extended, after}
 use Rattle.guarantee.proofs.History.{unfinished-later}
-use Rattle.guarantee.proofs.Withdrawals.{Leaves}
-use Rattle.guarantee.proofs.Invariant.{Invariant, after-order, after-move, after-plan, plan-restarted, plan-held, after-withdrawal, all-wait, left-held}
+use Rattle.guarantee.proofs.Invariant.{Invariant, after-order, after-move, after-plan, plan-held, after-withdrawal, left-held}
 
 -- the station that is left: s is the one that the list of calls began with, k the clock, n the next ticket, hs the history
 abbrev pub stationOf : State → ℕ → ℕ → List Charge → State
@@ -39,64 +35,12 @@ stationOf s k n hs =
       charges = unfinishedCharges k hs;
     }
 
--- The history goes on
-
--- hs goes on as ds; what was begun at clock k has its start
-pub data Grown (k : ℕ) : List Charge → List Charge → Type 0 where
-  more : {ds : List Charge} → Grown k [] ds
-  on :
-      {c d : Charge} {cs ds : List Charge}
-      → orderOf d ≡ orderOf c
-      → (c .start < k → d .start ≡ c .start)
-      → Grown k cs ds
-      → Grown k (c ∷ cs) (d ∷ ds)
-  -- a waiting charge may leave
-  off : {c : Charge} {cs ds : List Charge} → k ≤ c .start → Grown k cs ds → Grown k (c ∷ cs) ds
-
-grown-append : (k : ℕ) (cs ds : List Charge) → Grown k cs (cs ++ ds)
-grown-append k [] ds = more
-grown-append k (c ∷ cs) ds = on refl (λ h. refl) (grown-append k cs ds)
-
-grown-refl : (k : ℕ) (cs : List Charge) → Grown k cs cs
-grown-refl k [] = more
-grown-refl k (c ∷ cs) = on refl (λ h. refl) (grown-refl k cs)
-
-grown-restarted : {k : ℕ} {cs ds : List Charge} → Restarted k cs ds → Grown k cs ds
-grown-restarted empty = more
-grown-restarted (same r) = on refl (λ h. refl) (grown-restarted r)
-grown-restarted (other {c = c} {s = s} i j r) =
-    on {c = c} {d = starting c s} refl (λ h. absurd (omega arith)) (grown-restarted r)
-
-grown-trans : {k m : ℕ} {cs ds es : List Charge} → k ≤ m → Grown k cs ds → Grown m ds es → Grown k cs es
-grown-trans h more b = more
-grown-trans h (on p q a) (on p' q' b) =
-    on (p' ∙ p) (λ j. q' (let e = q j in omega arith) ∙ q j) (grown-trans h a b)
-grown-trans {k} {m} h (on {c = c} {d = d} p q a) (off i b) = off (go (below-or-not (c .start) k)) (grown-trans h a b)
-  where
-    go : (c .start < k) ⊎ (k ≤ c .start) → k ≤ c .start
-    go (inl j) = let e : d .start ≡ c .start = q j in absurd (omega arith)
-    go (inr j) = j
-grown-trans h (off i a) b = off i (grown-trans h a b)
-
-grown-left : (k t : ℕ) (hs : List Charge) → Each (Leaves k t) hs → Grown k hs (withoutTicket t hs)
-grown-left k t [] e = more
-grown-left k t (c ∷ hs) e = go (hasTicket t c) refl (grown-left k t hs (e .1))
-  where
-    go :
-        (x : Bool)
-        → hasTicket t c ≡ x
-        → Grown k hs (withoutTicket t hs)
-        → Grown k (c ∷ hs) (cond (not x) (c ∷ withoutTicket t hs) (withoutTicket t hs))
-    go true p g = off (e .0 p) g
-    go false p g = on refl (λ h. refl) g
-
 -- One call
 
 -- what a call with its result leaves
-pub record Next (s : State) (k n : ℕ) (os : List Order) (ws : List ℕ) (hs : List Charge) (rs : List Report) (c : Call) (r : Result) : Type 0 where
+pub record Next (s : State) (k : ℕ) (os : List Order) (ws : List ℕ) (rs : List Report) (c : Call) (r : Result) : Type 0 where
   pub now : List Charge
   pub next : ℕ
-  pub later : k ≤ learnt k c (r .answer) (r .list) .clock
   pub station :
       r .state
       ≡ stationOf s (learnt k c (r .answer) (r .list) .clock) next now
@@ -108,7 +52,6 @@ pub record Next (s : State) (k n : ℕ) (os : List Order) (ws : List ℕ) (hs : 
       (ws ++ learnt k c (r .answer) (r .list) .withdrawn)
       now
       (rs ++ learnt k c (r .answer) (r .list) .reports)
-  pub grown : Grown k hs now
 
 -- a refusal lets one learn nothing
 refused-learnt : (k j : ℕ) (c : Call) (list : List ℕ) → learnt k c (refused j) list ≡ nothingNew k
@@ -132,46 +75,42 @@ module _
         → learnt k c (r .answer) (r .list) ≡ nothingNew k
         → r .state ≡ stationOf s k n ds
         → Invariant s k n os ws ds rs
-        → Grown k hs ds
-        → Next s k n os ws hs rs c r
-    becomes c r ds e y i g =
+        → Next s k os ws rs c r
+    becomes c r ds e y i =
         record {
           now = ds;
           next = n;
-          later = rw e (omega arith);
           station = rw e y;
           invariant = rw (e, append-nil os, append-nil ws, append-nil rs) i;
-          grown = g;
         }
 
     stays :
         (c : Call) (r : Result)
         → learnt k c (r .answer) (r .list) ≡ nothingNew k
         → r .state ≡ stationOf s k n hs
-        → Next s k n os ws hs rs c r
-    stays c r e y = becomes c r hs e y inv (grown-refl k hs)
+        → Next s k os ws rs c r
+    stays c r e y = becomes c r hs e y inv
 
     tested-next :
         (c : Call) (rounds : ℕ) (p : Proposal) (list : List ℕ)
         → ((a : Answer) → learnt k c a list ≡ nothingNew k)
-        → Next s k n os ws hs rs c (tested (stationOf s k n hs) rounds p list)
+        → Next s k os ws rs c (tested (stationOf s k n hs) rounds p list)
     tested-next c rounds (starts ss) list e = go (judged (limitsOf s) k (unfinishedCharges k hs) ss) refl
       where
         go :
             (j : ℕ)
             → judged (limitsOf s) k (unfinishedCharges k hs) ss ≡ j
-            → Next s k n os ws hs rs c (decided (stationOf s k n hs) rounds ss list j)
+            → Next s k os ws rs c (decided (stationOf s k n hs) rounds ss list j)
         go zero q =
             let ok = judged-meets (limitsOf s) k (unfinishedCharges k hs) ss q in
             becomes c _ (restarted k hs ss) (e _)
             (rw (plan-held s k n os ws hs rs inv ss ok))
             (after-plan s k n os ws hs rs inv ss ok)
-            (grown-restarted (plan-restarted s k n os ws hs rs inv ss ok))
         go (suc j) q = stays c _ (e _) refl
     tested-next c rounds (none cause) list e = stays c _ (e _) refl
 
     preview-next :
-        (line p d rate : ℕ) (f : Found) → Next s k n os ws hs rs (preview line p d rate) (previewedAt (stationOf s k n hs) f)
+        (line p d rate : ℕ) (f : Found) → Next s k os ws rs (preview line p d rate) (previewedAt (stationOf s k n hs) f)
     preview-next line p d rate (at start) = stays (preview line p d rate) _ refl refl
     preview-next line p d rate nothing = stays (preview line p d rate) _ refl refl
 
@@ -179,7 +118,7 @@ module _
         (line p d rate start : ℕ)
         → 1 ≤ p
         → startFor (stationOf s k n hs) (drawFor s line p rate) ≡ at start
-        → Next s k n os ws hs rs (commit line p d rate start) (committing (stationOf s k n hs) line p d rate start)
+        → Next s k os ws rs (commit line p d rate start) (committing (stationOf s k n hs) line p d rate start)
     unfolding committing
     commit-next line p d rate start lasts e =
         let new : Charge = newCharge (stationOf s k n hs) line p d rate start in
@@ -189,7 +128,6 @@ module _
         record {
           now = hs ++ (new ∷ []);
           next = suc n;
-          later = omega arith;
           station =
               rw (
                 keep-append (λ c. not (isFinished k c)) hs (new ∷ []),
@@ -198,31 +136,28 @@ module _
           invariant =
               rw (append-nil ws, append-nil rs)
               (after-order s k n os ws hs rs inv new refl refl lasts refl (r .low) (r .high) (r .here));
-          grown = grown-append k hs (new ∷ []);
         }
 
     withdraw-next :
         (t : ℕ)
         → WithdrawGranted (stationOf s k n hs) t
-        → Next s k n os ws hs rs (withdraw t) (withdrawing (stationOf s k n hs) t)
+        → Next s k os ws rs (withdraw t) (withdrawing (stationOf s k n hs) t)
     unfolding withdrawing
     withdraw-next t g =
         record {
           now = withoutTicket t hs;
           next = n;
-          later = omega arith;
           station = rw (left-held s k n os ws hs rs inv t (g .held) (g .not-begun) (g .rest-sound));
           invariant =
               rw (append-nil os, append-nil rs)
               (after-withdrawal s k n os ws hs rs inv t (g .held) (g .not-begun) (g .rest-sound));
-          grown = grown-left k t hs (all-wait s k n os ws hs rs inv t (g .held) (g .not-begun) (g .rest-sound));
         }
 
     -- a call that is not refused
     granted-next :
         (c : Call)
         → NoneHolds (refusals (stationOf s k n hs) c)
-        → Next s k n os ws hs rs c (granted (stationOf s k n hs) c)
+        → Next s k os ws rs c (granted (stationOf s k n hs) c)
     unfolding previewing moving offering replanningLatest replanningLines enquiring boarding
     granted-next (preview line p d rate) q =
         preview-next line p d rate (startFor (stationOf s k n hs) (drawFor (stationOf s k n hs) line p rate))
@@ -234,12 +169,10 @@ module _
         record {
           now = hs;
           next = n;
-          later = h;
           station = rw (unfinished-later k target hs h);
           invariant =
               rw (append-nil os, append-nil ws)
               (after-move s k n os ws hs rs inv target _ h);
-          grown = grown-refl k hs;
         }
     granted-next (offer ss) q = tested-next (offer ss) 0 (starts ss) ss (λ a. refl)
     granted-next replanLatest q =
@@ -254,15 +187,15 @@ module _
     granted-next (board asked list) q = stays (board asked list) _ refl refl
     granted-next (withdraw ticket) q = withdraw-next ticket (withdraw-granted (stationOf s k n hs) ticket q)
 
-    step-next : (c : Call) → Next s k n os ws hs rs c (step (stationOf s k n hs) c)
+    step-next : (c : Call) → Next s k os ws rs c (step (stationOf s k n hs) c)
     step-next c =
         go (firstOf (refusals (stationOf s k n hs) c))
         (λ e. granted-next c (refusals-none (stationOf s k n hs) c e))
       where
         go :
             (j : ℕ)
-            → (j ≡ 0 → Next s k n os ws hs rs c (granted (stationOf s k n hs) c))
-            → Next s k n os ws hs rs c
+            → (j ≡ 0 → Next s k os ws rs c (granted (stationOf s k n hs) c))
+            → Next s k os ws rs c
             (answering j (stationOf s k n hs) (lent c) (granted (stationOf s k n hs) c))
         go zero f = f refl
         go (suc j) f = stays c _ (refused-learnt k (suc j) c (lent c)) refl
@@ -277,44 +210,22 @@ pub record Known (s : State) (h : Past) (hs : List Charge) : Type 0 where
   pub station : h .station ≡ stationOf s (h .clock) next hs
   pub invariant : Invariant s (h .clock) next (h .orders) (h .withdrawn) hs (h .reports)
 
--- from one past to a later one
-pub record Reach (s : State) (h : Past) (hs : List Charge) (g : Past) : Type 0 where
+-- a past that calls lead to
+pub record Reach (s : State) (h : Past) : Type 0 where
   pub now : List Charge
-  pub known : Known s g now
-  pub later : h .clock ≤ g .clock
-  pub grown : Grown (h .clock) hs now
+  pub known : Known s h now
 
-reach-one :
-    (s : State) (h : Past) (hs : List Charge) (c : Call)
-    → Known s h hs
-    → Reach s h hs (extended h c (step (h .station) c))
+reach-one : (s : State) (h : Past) (hs : List Charge) (c : Call) → Known s h hs → Reach s (extended h c (step (h .station) c))
 reach-one s h hs c known =
-    let x : Next s (h .clock) (known .next) (h .orders) (h .withdrawn) hs (h .reports) c (step (h .station) c)
+    let x : Next s (h .clock) (h .orders) (h .withdrawn) (h .reports) c (step (h .station) c)
     = rw (known .station) (step-next s (h .clock) (known .next) (h .orders) (h .withdrawn) hs (h .reports) (known .invariant) c) in
     record {
       now = x .now;
       known = record { tail = known .tail; next = x .next; station = x .station; invariant = x .invariant };
-      later = x .later;
-      grown = x .grown;
     }
 
-pub reach :
-    (s : State) (calls : List Call) (h : Past) (hs : List Charge)
-    → Known s h hs
-    → Reach s h hs (after step h calls)
-reach s [] h hs known = record { now = hs; known = known; later = omega arith; grown = grown-refl (h .clock) hs }
+pub reach : (s : State) (calls : List Call) (h : Past) (hs : List Charge) → Known s h hs → Reach s (after step h calls)
+reach s [] h hs known = record { now = hs; known = known }
 reach s (c ∷ calls) h hs known =
-    let x : Reach s h hs (extended h c (step (h .station) c)) = reach-one s h hs c known in
-    let r = reach s calls (extended h c (step (h .station) c)) (x .now) (x .known) in
-    record {
-      now = r .now;
-      known = r .known;
-      later = le-trans (x .later) (r .later);
-      grown = grown-trans (x .later) (x .grown) (r .grown);
-    }
-
--- a first part, then the rest
-pub after-append :
-    (part rest : List Call) (h : Past) → after step h (part ++ rest) ≡ after step (after step h part) rest
-after-append [] rest h = refl
-after-append (c ∷ part) rest h = after-append part rest (extended h c (step (h .station) c))
+    let x : Reach s (extended h c (step (h .station) c)) = reach-one s h hs c known in
+    reach s calls (extended h c (step (h .station) c)) (x .now) (x .known)

@@ -10,7 +10,7 @@ use Rattle.rules.specs.Basics.{Each, some}
 use Rattle.rules.specs.Charge.{Charge, endOf, activeUntil, isBegun, isFinished, unfinishedCharges, hasTicket}
 use Rattle.rules.specs.Calls.{State, told, refused, waiting, charging, enquire, enquiring, step}
 use Rattle.rules.specs.Valid.{Rising}
-use Rattle.rules.proofs.Ranges.{or-left, or-right}
+use Rattle.rules.proofs.Ranges.{or-left, or-right, either-way}
 use Rattle.rules.proofs.Tickets.{rising-from}
 use Rattle.guarantee.specs.Past.{Order, Report, ordersOf, timesReported, reportedStart}
 use Rattle.guarantee.proofs.Each.{each-two}
@@ -28,10 +28,6 @@ isTicket t u v = cond (eqb u t) 1 0
 -- 1 for ticket t with start s
 abbrev pub isPair : ℕ → ℕ → Worth
 isPair t s u v = cond (eqb u t && eqb v s) 1 0
-
-none-either-way : (b : Bool) → cond {A = ℕ} b 0 0 ≡ 0
-none-either-way true = refl
-none-either-way false = refl
 
 pub times-sum : (rs : List Report) (t : ℕ) → timesReported rs t ≡ sumReports (isTicket t) rs
 times-sum [] t = refl
@@ -93,7 +89,7 @@ sum-of-none f k i [] r z = refl
 sum-of-none f k i (c ∷ cs) r z =
     rw (
       z (c .ticket) (c .start) (r .0),
-      none-either-way (isBegun k c),
+      either-way (isBegun k c) 0,
       sum-of-none f k (suc (c .ticket)) cs (r .1) (λ t s h. z t s (omega (arith, r .0))),
     )
 
@@ -111,7 +107,7 @@ sum-of-own g z k i (c ∷ cs) r = (
       (λ d. suc (c .ticket) ≤ d .ticket)
       (λ d. sumBegun (g d) k cs ≡ cond (isBegun k d) (g d (d .ticket) (d .start)) 0)
       (λ d. sumBegun (g d) k (c ∷ cs) ≡ cond (isBegun k d) (g d (d .ticket) (d .start)) 0)
-      (λ d h e. rw (z d (c .ticket) (c .start) (λ q. omega arith), none-either-way (isBegun k c), e) (omega arith))
+      (λ d h e. rw (z d (c .ticket) (c .start) (λ q. omega arith), either-way (isBegun k c) 0, e) (omega arith))
       cs
       (rising-from (suc (c .ticket)) cs (r .1))
       (sum-of-own g z k (suc (c .ticket)) cs (r .1)),
@@ -132,7 +128,7 @@ sum-ours t k (c ∷ cs) h = go (eqb (c .ticket) t) h (sum-ours t k cs)
         → b || some (λ (o : Order). eqb (o .ticket) t) (ordersOf cs) ≡ true
     go true u ih = refl
     go false u ih =
-        let v : 1 ≤ 0 + sumBegun (isTicket t) k cs = rw (none-either-way (isBegun k c)) at u in ih (omega arith)
+        let v : 1 ≤ 0 + sumBegun (isTicket t) k cs = rw (either-way (isBegun k c) 0) at u in ih (omega arith)
 
 -- What an enquiry answers
 

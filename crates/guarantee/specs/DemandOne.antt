@@ -5,7 +5,7 @@ use Prim.Native.Nat.{ℕ}
 use mathlib.Core.Bool.{Bool, true, false}
 use mathlib.Core.List.{List, [], _∷_}
 use Rattle.rules.specs.Basics.{Each}
-use Rattle.rules.specs.Calls.{Settings, settings, State, Answer, refused, opened, previewed, committed, moved, planned, waiting, charging, looked, withdrawn, Result, boundOf, fresh, openRefusals, Call, preview, commit, move, offer, replanLatest, replanLines, enquire, board, withdraw, lent, refusals}
+use Rattle.rules.specs.Calls.{Settings, settings, State, Answer, refused, opened, previewed, committed, moved, planned, waiting, charging, looked, withdrawn, Result, fresh, openRefusals, Call, preview, commit, move, offer, replanLatest, replanLines, enquire, board, withdraw, lent, refusals}
 use Rattle.guarantee.specs.Past.{Gives, isRefused}
 
 -- "Where several apply", the first in the call's table, for "its stated place goes before its number": k is the number of a

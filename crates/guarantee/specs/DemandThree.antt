@@ -46,7 +46,7 @@ abbrev pub NoOther : Past → Type 0
 NoOther h = (t : ℕ) → 1 ≤ timesReported (h .reports) t → some (λ (o : Order). eqb (o .ticket) t) (h .orders) ≡ true
 
 -- "No start before the clock has ever changed." Claimed of every list this follows from `reported` after each first
--- part, since reports are only added; of one list it says more.
+-- part, since reports are only added (`reported-unmoved` in proofs/Unmoved.antt); of one list it says more.
 abbrev pub NoneMoved : Gives → State → List Call → Type 0
 NoneMoved gives s calls =
     (part rest : List Call)

@@ -39,6 +39,7 @@ pub record Better (s : State) (ss : List ℕ) (new : List Charge) : Type 0 where
   pub not-before-clock : Each (λ u. s .clock ≤ u) ss
   -- "meets constraints I to IV of the published paper,": I to III as the paper has them, IV with D for its formula (2)
   -- I: follows from the field above, since order minutes are not above the clock and begun charges keep their starts
+  -- (`none-before-order` in proofs/Taking.antt)
   pub not-before-order : Each (λ c. c .orderMinute ≤ c .start) new
   -- II
   pub unbroken : Each Unbroken new
@@ -68,8 +69,8 @@ causeOf s (none cause) = cause
 
 -- "All three end with the same test." The result of a call that comes with a list of starts, or with none, after some rounds.
 pub record Tested (s : State) (call : Call) (proposal : Proposal) (rounds : ℕ) (r : Result) : Type 0 where
-  -- "taken exactly when": not refused, and its list is better. It follows from demand 1 and `answer`, and says when the
-  -- cause is 0 in the demand's own words.
+  -- "taken exactly when": not refused, and its list is better. It follows from demand 1 and `answer` (`taken-follows` in
+  -- proofs/Taking.antt), and says when the cause is 0 in the demand's own words.
   pub taken :
       Taken (r .answer)
       ↔ (NoneApplies (refusals s call)

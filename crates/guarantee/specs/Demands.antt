@@ -1,6 +1,5 @@
 -- The three demands, for every N, c and r that an opening may be given, refused ones too, and every list of calls with any
 -- arguments and any lent lists.
-use Prim.Native.Nat.{ℕ}
 use mathlib.Core.List.{List}
 use Rattle.rules.specs.Calls.{Settings, State, opening, Call, step}
 use Rattle.guarantee.specs.Past.{past}

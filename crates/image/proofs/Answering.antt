@@ -1,11 +1,11 @@
 -- What saving and restoring give, way by way.
 use mathlib.Core.Path.{_≡_, refl, ap, sym, _∙_}
-use Prim.Native.Nat.{ℕ, _≤_}
+use Prim.Native.Nat.{ℕ, _≤_, _<_}
 use mathlib.Core.Bool.{Bool, true, false, true≢false}
 use mathlib.Core.List.{List, []}
 use native.Mathlib.Omega.{arith}
 use lib.Dec.{eqb, leb}
-use lib.ListN.{length}
+use lib.ListN.{length, getD}
 use borrow.Author.Tests.{leb-true, le-leb}
 use Rattle.rules.specs.Calls.{State, Answer, Result, boundOf, settings, fresh, opening}
 use Rattle.rules.proofs.Ranges.{and-right, fails}
@@ -15,16 +15,20 @@ use Rattle.station.specs.View.{view, Valid}
 use Rattle.station.specs.Answers.{giving}
 use Rattle.layout.specs.Image.{imageOf}
 use Rattle.layout.specs.Validity.{settingsRanged, boundRight, isValid}
-use Rattle.layout.specs.Reading.{headerAt, chargeIn, stateIn, same, isOf, restoreRefusal, restoring}
+use Rattle.layout.specs.Lists.{every}
+use Rattle.layout.specs.Reading.{headerAt, stateIn, checked, isOf, restoreRefusal, restoring}
 use Rattle.layout.specs.Blocks.{differing}
 use Rattle.layout.proofs.Testing.{Tested, valid-tested}
 use Rattle.layout.proofs.Validity.{valid-by-test}
-use Rattle.layout.proofs.Refusing.{saving-written, saving-refused}
+use Rattle.layout.proofs.Refusing.{saving-written, saving-refused, refused-contents, not-refused}
 use Rattle.layout.proofs.RoundTrip.{restoring-valid}
 use Rattle.validity.specs.Settled.{settingsValid, Settled}
-use Rattle.image.specs.Columns.{headerRight, ReadFrom}
-use Rattle.image.specs.Answers.{Saves, restored, Restores}
+use Rattle.blocks.specs.Contents.{contentsIn, samePart}
+use Rattle.records.specs.Contents.{contentsOf, chargeFrom, stateFrom, headerRight}
+use Rattle.records.specs.Columns.{ReadFrom}
+use Rattle.image.specs.Answers.{Saves, isFrom, restored, Restores}
 use Rattle.image.specs.declared.restoring.Restored.{Restored}
+use Rattle.image.proofs.Imaging.{state-taken, right-taken}
 
 -- Saving
 
@@ -43,57 +47,69 @@ module _ (s : State) (previous xs : List ℕ) where
       → Saves s previous xs ys (record { answer = 0; blocks = n })
   saves-done ps ys n h l p w e = record { result = rw (e, p, w) (sym (saving-written s previous xs h l)) }
 
--- The contents of an image
+-- Contents
 
 module _ (xs : List ℕ) (s : State) (b : Bool) where
-  pub not-of : b ≡ isValid s → b ≡ false → false ≡ isOf xs s
-  unfolding isOf
+  pub not-of : b ≡ isValid s → b ≡ false → false ≡ isFrom xs s
+  unfolding isFrom
   not-of p q = rw (← p, q)
 
-  pub of-told : (ys : List ℕ) (r : Bool) → b ≡ isValid s → b ≡ true → ys ≡ imageOf s → r ≡ same xs ys → r ≡ isOf xs s
-  unfolding isOf
+  pub of-told : (ys : List ℕ) (r : Bool) → b ≡ isValid s → b ≡ true → ys ≡ contentsOf s → r ≡ samePart xs ys 0 4572 → r ≡ isFrom xs s
+  unfolding isFrom
   of-told ys r p q e h = rw (← p, q, ← e) h
 
 pub tested-valid : (s : Station) (b : Bool) → Settled s → b ≡ isValid (view s) → b ≡ true → Valid s
 tested-valid s b h p q = record { columns = h .columns; state = valid-by-test (view s) (sym p ∙ q) }
 
--- where block 0 is not right, the station that the image would be of is not valid
+-- where block 0 is not right, the station that the contents would be of is not valid
 module _ (xs : List ℕ) where
-  held-in : length (stateIn xs .charges) ≡ headerAt xs 20
-  unfolding stateIn
-  held-in = length-tabulate (chargeIn xs) (headerAt xs 20) 0
+  held-in : length (stateFrom xs .charges) ≡ headerAt xs 20
+  unfolding stateFrom
+  held-in = length-tabulate (chargeFrom xs (headerAt xs 8)) (headerAt xs 20) 0
 
   ranged-in :
-      Tested (stateIn xs)
+      Tested (stateFrom xs)
       → settingsRanged (headerAt xs 0) (headerAt xs 4) (headerAt xs 8) (headerAt xs 12) (headerAt xs 16) ≡ true
-  unfolding stateIn
+  unfolding stateFrom
   ranged-in t = t .settings-ranged
 
-  bound-in : Tested (stateIn xs) → 1 ≤ boundOf (headerAt xs 0) (headerAt xs 4)
-  unfolding stateIn boundRight
+  bound-in : Tested (stateFrom xs) → 1 ≤ boundOf (headerAt xs 0) (headerAt xs 4)
+  unfolding stateFrom boundRight
   bound-in t =
       leb-true 1 (boundOf (headerAt xs 0) (headerAt xs 4))
       (and-right (eqb (boundOf (headerAt xs 0) (headerAt xs 4)) (boundOf (headerAt xs 0) (headerAt xs 4)))
       (leb 1 (boundOf (headerAt xs 0) (headerAt xs 4)))
       (t .bound-right))
 
-  header-passes : isValid (stateIn xs) ≡ true → headerRight xs ≡ true
+  header-passes : isValid (stateFrom xs) ≡ true → headerRight xs ≡ true
   unfolding headerRight settingsValid
   header-passes e =
-      let t = valid-tested (stateIn xs) e in
+      let t = valid-tested (stateFrom xs) e in
       rw (
         le-leb (headerAt xs 20) 180 (omega (arith, held-in, t .few)),
         ranged-in t,
         le-leb 1 (boundOf (headerAt xs 0) (headerAt xs 4)) (bound-in t),
       )
 
-  pub header-wrong : headerRight xs ≡ false → isOf xs (stateIn xs) ≡ false
+  pub header-wrong : headerRight xs ≡ false → isFrom xs (stateFrom xs) ≡ false
   header-wrong e =
       sym
-      (not-of xs (stateIn xs) (isValid (stateIn xs)) refl
-      (fails (isValid (stateIn xs)) (λ t. true≢false (sym (header-passes t) ∙ e))))
+      (not-of xs (stateFrom xs) (isValid (stateFrom xs)) refl
+      (fails (isValid (stateFrom xs)) (λ t. true≢false (sym (header-passes t) ∙ e))))
 
 -- Restoring
+
+-- an image whose checks are right, by the contents that were taken from it
+module _ (xs cs : List ℕ) (long : length xs ≡ 4608) (small : (k : ℕ) → getD xs k 0 < 256) (checks : every (checked xs) 9 ≡ true)
+    (taken : cs ≡ contentsIn xs) where
+  of-taken : isOf xs (stateIn xs) ≡ isFrom cs (stateFrom cs)
+  of-taken = right-taken xs long small checks ∙ ap (λ zs. isFrom zs (stateFrom zs)) (sym taken)
+
+  pub contents-wrong : isFrom cs (stateFrom cs) ≡ false → restoreRefusal xs ≡ 22
+  contents-wrong e = refused-contents xs long checks (of-taken ∙ e)
+
+  pub contents-right : isFrom cs (stateFrom cs) ≡ true → restoreRefusal xs ≡ 0
+  contents-right e = not-refused xs long checks (of-taken ∙ e)
 
 pub open-least : (a : Answer) (s : Station) → giving a s [] ≡ opening (settings 1 100 0) → view s ≡ fresh (settings 1 100 0)
 unfolding opening
@@ -110,12 +126,20 @@ module _ (xs : List ℕ) where
   restores-refused n k r z p d e = record { result = rw (p .0, d, p .1, e, z); valid = p .2 }
 
   pub restores-accepted :
-      (s : Station) → ReadFrom xs s → restoreRefusal xs ≡ 0 → Restores xs (record { answer = 0; station = s })
-  restores-accepted s p e =
+      (s : Station) (cs : List ℕ)
+      → length xs ≡ 4608
+      → cs ≡ contentsIn xs
+      → ReadFrom cs s
+      → restoreRefusal xs ≡ 0
+      → Restores xs (record { answer = 0; station = s })
+  restores-accepted s cs l c p e =
       record {
         result = whole;
         valid = record { columns = p .settled .columns; state = rw (ap (λ z. z .state) whole) (restoring-valid xs) };
       }
     where
+      state-is : view s ≡ stateIn xs
+      state-is = p .state ∙ ap stateFrom c ∙ state-taken xs l
+
       whole : restored (record { answer = 0; station = s }) ≡ restoring xs
-      whole = rw (e, p .state)
+      whole = rw (e, state-is)

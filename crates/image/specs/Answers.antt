@@ -1,11 +1,15 @@
 -- What saving and restoring answer, write and give back.
 use Prim.Native.Nat.{ℕ}
 use mathlib.Core.Path.{_≡_}
+use mathlib.Core.Bool.{Bool, _&&_}
 use mathlib.Core.List.{List}
 use Rattle.rules.specs.Calls.{State}
 use Rattle.station.specs.View.{view, Valid}
+use Rattle.layout.specs.Validity.{isValid}
 use Rattle.layout.specs.Reading.{RestoreResult, restoring}
 use Rattle.layout.specs.Saving.{SaveResult, saving}
+use Rattle.blocks.specs.Contents.{samePart}
+use Rattle.records.specs.Contents.{contentsOf}
 use Rattle.image.specs.declared.restoring.Restored.{Restored}
 use Rattle.image.specs.declared.saving.Saved.{Saved}
 
@@ -15,6 +19,10 @@ saved r image = record { refusal = r .answer; blocks = r .blocks; image = image 
 
 pub record Saves (s : State) (previous before after : List ℕ) (r : Saved) : Type 0 where
   pub result : saved r after ≡ saving s previous before
+
+-- contents that are those of this station, and it is valid
+unfoldable pub isFrom : List ℕ → State → Bool
+isFrom contents s = isValid s && samePart contents (contentsOf s) 0 4572
 
 abbrev pub restored : Restored → RestoreResult
 restored r = record { refusal = r .answer; state = view (r .station) }

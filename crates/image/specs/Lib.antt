@@ -1,4 +1,1 @@
-pub mod Places
-pub mod Numbers
-pub mod Columns
 pub mod Answers

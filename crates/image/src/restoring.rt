@@ -1,18 +1,19 @@
 // An image accepted, or refused with 20, 21 or 22.
-use crate::blocks::all_checked;
-use crate::reading::header_right;
-use crate::reading::read;
-use crate::saving::write;
+use blocks::comparing::same_part;
+use blocks::contents::CONTENTS;
+use blocks::contents::take_blocks;
+use records::reading::header_right;
+use records::reading::read;
+use records::writing::contents_of;
 use station::Station;
 use station::open::Settings;
 use validity::is_valid;
 ghost use mathlib.Core.Path.{_≡_};
 ghost use lib.ListN.{length};
 ghost use Rattle.rules.specs.Calls.{settings, fresh};
-ghost use Rattle.layout.specs.Reading.{same, isOf};
 ghost use Rattle.station.specs.View.{view, Valid};
 ghost use Rattle.validity.specs.Settled.{Settled};
-ghost use Rattle.image.specs.Answers.{Restores};
+ghost use Rattle.image.specs.Answers.{isFrom, Restores};
 
 // 0 or the refusal, and the station beside it.
 pub struct Restored {
@@ -20,29 +21,16 @@ pub struct Restored {
     pub station: Station,
 }
 
-fn same_bytes(a: &[u8], b: &[u8]) -> bool
-    requires { ⌜ (length (now a) ≡ 4608) × (length (now b) ≡ 4608) ⌝ }
-    ensures { λ r. ⌜ r ≡ same (now (a .entry)) (now (b .entry)) ⌝ }
-{
-    for k in 0..4608 {
-        if a[k] != b[k] {
-            return false;
-        }
-    }
-    true
-}
-
-// Whether the image is that of this station, and the station valid: "All else is zero" is found by writing it again.
-fn is_of(image: &[u8], station: Station) -> bool
-    requires { ⌜ (length (now image) ≡ 4608) × Settled station ⌝ }
-    ensures { λ r. ⌜ r ≡ isOf (now (image .entry)) (view station) ⌝ }
+// Whether the contents are those of this station, and the station valid: "All else is zero" is found by writing them again.
+fn is_of(contents: &[u8], station: Station) -> bool
+    requires { ⌜ (length (now contents) ≡ 4572) × Settled station ⌝ }
+    ensures { λ r. ⌜ r ≡ isFrom (now (contents .entry)) (view station) ⌝ }
 {
     if !is_valid(station) {
         return false;
     }
-    let mut again = [0u8; 4608];
-    write(station, &mut again);
-    same_bytes(image, &again)
+    let again = contents_of(station);
+    same_part(contents, &again, 0, CONTENTS)
 }
 
 // "Beside a refused restore stands the fresh station of 1, 100 and r = 0."
@@ -65,14 +53,15 @@ pub fn restore(image: &[u8]) -> Restored
     if image.len() != 4608 {
         return refused(20);
     }
-    if !all_checked(image) {
+    let mut contents = [0u8; CONTENTS];
+    if !take_blocks(image, &mut contents) {
         return refused(21);
     }
-    if !header_right(image) {
+    if !header_right(&contents) {
         return refused(22);
     }
-    let station = read(image);
-    if !is_of(image, station) {
+    let station = read(&contents);
+    if !is_of(&contents, station) {
         return refused(22);
     }
     Restored { answer: 0, station }

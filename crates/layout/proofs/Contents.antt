@@ -50,9 +50,6 @@ module _ (s : State) where
   pub byte-counted : (k : ℕ) → k % 512 < 508 → byteAt s k ≡ content s (k / 512) (k % 512)
   byte-counted k h = rw (lt-ltb (k % 512) 508 h)
 
-  pub byte-check : (k : ℕ) → 508 ≤ k % 512 → byteAt s k ≡ byteOf (k % 512 - 508) (checkOf (content s (k / 512)))
-  byte-check k h = rw (le-ltb (k % 512) 508 h)
-
   pub byte-content : (b i : ℕ) → i < 508 → byteAt s (512 * b + i) ≡ content s b i
   byte-content b i h =
       let p : (512 * b + i) / 512 ≡ b = omega arith in

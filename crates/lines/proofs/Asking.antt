@@ -41,13 +41,17 @@ module _ {p begun : Profile} {t bound : ℕ} (h : Comparable p begun t bound) {o
     asked-none e = rw (← (large ∙ largest-same (levels p t) a b d), ← ex, ← ey, eq-eqb x y e)
 
     pub asked-lowers :
-        {j z : ℕ}
+        {j z line cap : ℕ}
         → (x ≡ y → ⊥)
         → j ≡ smallestLine (ofLines one two three)
         → z ≡ levelOf p j t
-        → Lowers i t (z + bound) ≡ askedIn p begun t bound
-    asked-lowers ne small ez =
+        → line ≡ i
+        → cap ≡ z + bound
+        → Lowers line t cap ≡ askedIn p begun t bound
+    asked-lowers ne small ez same-line same-cap =
         rw (
+          same-line,
+          same-cap,
           ← (large ∙ largest-same (levels p t) a b d),
           ← ex,
           ← ey,

@@ -1,6 +1,6 @@
 -- A round begins with no waiting charge placed, and a line with all of its own left.
 use mathlib.Core.Path.{_≡_, refl, sym, _∙_}
-use Prim.Native.Nat.{ℕ, _+_, _≤_, _<_}
+use Prim.Native.Nat.{ℕ, _+_, _≤_}
 use mathlib.Core.List.{List, [], append-nil}
 use native.Mathlib.Omega.{arith}
 use lib.ListN.{length, getD, replicate}
@@ -11,26 +11,30 @@ use Rattle.rules.specs.Replan.{onLine}
 use Rattle.charges.specs.declared.Charges.{Charges}
 use Rattle.charges.specs.Held.{Listed}
 use Rattle.charges.specs.declared.places.Places.{Places}
-use Rattle.charges.specs.Places.{placesOf, isOnLine, Lists}
+use Rattle.charges.specs.Places.{placesOf, Lists}
+use Rattle.queues.specs.Queues.{isOnLine}
 use Rattle.charges.proofs.Storing.{zeros}
 use Rattle.profile.specs.declared.Profile.{Profile}
 use Rattle.profile.specs.Shows.{Shows}
-use Rattle.priority.specs.Chosen.{numberOf}
-use Rattle.lines.specs.declared.next.Crowd as code
-use Rattle.lines.specs.Next.{Counted}
+use Rattle.priority.specs.declared.crowd.Crowd as code
+use Rattle.priority.specs.Crowds.{CrowdOf}
 use Rattle.planner.specs.Ready.{begunOf}
-use Rattle.lines.specs.Lines.{waitingOf, InOrder, LinesDone}
+use Rattle.lines.specs.Lines.{numbersOf, waitingOf, InOrder, LinesDone}
 use Rattle.planner.proofs.Showing.{begun-end-most}
 use Rattle.lines.proofs.Rearranging.{each-among}
 use Rattle.lines.proofs.Lefts.{own-length, own-total, left-start}
 use Rattle.lines.proofs.Many.{many-next}
+use Rattle.lines.proofs.Nexts.{times-bound}
 use Rattle.lines.proofs.LinePlans.{line-begins, LineSoFar}
 use Rattle.lines.proofs.LineNumbers.{total-some}
 
 pub lines-start :
-    {cap : Caps} {clock : ℕ} {c : Charges} {p : Profile} → Listed c → clock ≤ 1000000 → Shows p clock (loadsOf (begunOf clock c))
-    → LinesDone cap clock c 0 p (replicate 180 0)
-lines-start {cap} {clock} {c} h early s =
+    {cap : Caps} {clock : ℕ} {c : Charges} {l first : ℕ} {p : Profile} → Listed c → clock ≤ 1000000 → Shows p clock (loadsOf (begunOf clock c))
+    → l ≡ 0
+    → first ≡ 0
+    → LinesDone cap clock c l p (replicate 180 first)
+lines-start {cap} {clock} {c} h early s none clear =
+    rw (none, clear)
     record {
       placed = [];
       gives = refl;
@@ -46,11 +50,10 @@ lines-start {cap} {clock} {c} h early s =
     }
 
 module _ {cap : Caps} {clock : ℕ} {c : Charges} {before line : ℕ} {p : Profile} {byPlace : List ℕ} {queue own : Places} {q : code.Crowd}
-    {least from : ℕ} (h : Listed c) (next : line ≡ before + 1) (d : LinesDone cap clock c before p byPlace)
+    {from : ℕ} (h : Listed c) (next : line ≡ before + 1) (d : LinesDone cap clock c before p byPlace)
     (o : InOrder clock c queue) (l : Lists (keep (isOnLine (c .lines) line) (placesOf queue)) own)
-    (k : Counted (c .times) (c .«active_times») (c .rates) (own .places) (own .count) q) (short : (j : ℕ) → j < own .count → least ≤ numberOf (c .times) (own .places) j)
-    (start : from ≡ clock) where
-  pub line-start : LineSoFar cap clock c line (own .places) (own .count) p byPlace q least from
+    (k : CrowdOf (numbersOf c) (own .places) (own .count) q) (start : from ≡ clock) where
+  pub line-start : LineSoFar cap clock c line (own .places) (own .count) p byPlace q from
   line-start =
       let size : own .count ≡ length (onLine line (waitingOf clock c)) = own-length line (waitingOf clock c) h o l in
       let v = left-start line (waitingOf clock c) h o l in
@@ -66,7 +69,6 @@ module _ {cap : Caps} {clock : ℕ} {c : Charges} {before line : ℕ} {p : Profi
         below = λ u a b. absurd (omega arith);
         low = omega arith;
         near = omega arith;
-        least-low = short;
         number = k .number ∙ size;
         total = k .total ∙ own-total line (waitingOf clock c) h o l;
         some = λ b.
@@ -81,6 +83,5 @@ module _ {cap : Caps} {clock : ℕ} {c : Charges} {before line : ℕ} {p : Profi
                   rw (w .is) (h .small (getD (own .places) (w .place) 0) (v .inside (w .place) (w .inside)) .time-low)))
                   (omega (arith, size)),
             );
-        one = k .one;
-        two = k .two;
+        bounds = times-bound (k .times);
       }

@@ -10,7 +10,8 @@ use Rattle.rules.proofs.Rounds.{lowered-at-least}
 use Rattle.charges.specs.declared.Charges.{Charges}
 use Rattle.charges.specs.Arrays.{chargeAt, chargesOf, Filled}
 use Rattle.search.specs.declared.caps.LineCaps.{LineCaps}
-use Rattle.search.specs.Caps.{CapsShown, LoweredAt}
+use Rattle.search.specs.Caps.{CapsShown, CapLowered}
+use Rattle.search.proofs.Lowerings.{lowered-shows}
 use Rattle.lines.specs.declared.rounds.Outcome.the-variants.{Ends, Lowers}
 use Rattle.planner.specs.declared.Proposed.{Proposed}
 use Rattle.lines.specs.declared.rounds.Round.{Round}
@@ -58,20 +59,24 @@ pub rounds-capped :
 rounds-capped v = record { cap = v .cap; shown = v .shown; enough = v .enough }
 
 pub rounds-start :
-    {limit bound clock : ℕ} {c : Charges} {caps : LineCaps} (allowance : ℕ)
+    {limit bound clock : ℕ} {c : Charges} {caps : LineCaps} {made : ℕ} (allowance : ℕ)
     → Ready clock limit bound c
     → CapsShown caps (λ l t. limit)
-    → Rounds limit bound clock allowance c caps 1
+    → made ≡ 1
+    → Rounds limit bound clock allowance c caps made
 unfolding byLines
-rounds-start allowance r s = record { cap = _; shown = s; enough = λ i h l t. r .within-limit i h; whole = refl }
+rounds-start allowance r s e = rw e record { cap = _; shown = s; enough = λ i h l t. r .within-limit i h; whole = refl }
 
 module _ {limit bound clock allowance : ℕ} {c : Charges} {caps : LineCaps} {made : ℕ} (v : Rounds limit bound clock allowance c caps made)
     {r : Round} (h : Plays limit bound clock c caps r) where
   pub rounds-done :
-      r .outcome ≡ Ends
+      {rounds : ℕ}
+      → r .outcome ≡ Ends
+      → rounds ≡ made
       → Replans clock c (byLines (limits limit bound) clock allowance (chargesOf c))
-      (record { proposed = r .proposed; rounds = made })
-  rounds-done e =
+      (record { proposed = r .proposed; rounds = rounds })
+  rounds-done e total =
+      rw total
       record {
         same =
             v .whole
@@ -86,13 +91,15 @@ module _ {limit bound clock allowance : ℕ} {c : Charges} {caps : LineCaps} {ma
     lowers-fit = rw e at (h .fits)
 
     pub rounds-spent :
-        {p : Proposed}
+        {p : Proposed} {rounds : ℕ}
         → allowance ≤ made
         → p .cause ≡ 2
         → Filled 0 (p .starts)
-        → Replans clock c (byLines (limits limit bound) clock allowance (chargesOf c)) (record { proposed = p; rounds = made })
-    rounds-spent {p} l k zeros =
+        → rounds ≡ made
+        → Replans clock c (byLines (limits limit bound) clock allowance (chargesOf c)) (record { proposed = p; rounds = rounds })
+    rounds-spent {p} l k zeros total =
         let none-left : allowance - made ≡ 0 = omega arith in
+        rw total
         record {
           same =
               v .whole
@@ -103,12 +110,19 @@ module _ {limit bound clock allowance : ℕ} {c : Charges} {caps : LineCaps} {ma
         }
 
     pub rounds-next :
-        {next : LineCaps} → Ready clock limit bound c → made < allowance → LoweredAt caps next i t x → Rounds limit bound clock allowance c next (made + 1)
-    rounds-next {next} ready l low =
+        {next : LineCaps} {line minute cap : ℕ}
+        → Ready clock limit bound c
+        → made < allowance
+        → CapLowered caps next line minute cap
+        → line ≡ i
+        → minute ≡ t
+        → cap ≡ x
+        → Rounds limit bound clock allowance c next (made + 1)
+    rounds-next {next} ready l low same-line same-minute same-cap =
         let more : allowance - made ≡ suc (allowance - (made + 1)) = omega arith in
         record {
           cap = lowered (v .cap) i t x;
-          shown = low (v .cap) (v .shown);
+          shown = lowered-shows (rw (same-line, same-minute, same-cap) at low) (v .cap) (v .shown);
           enough =
               λ j h.
               lowered-at-least (chargeAt c j .rate) (v .cap) i t x (omega (arith, lowers-fit .1, ready .within-bound j h)) (v .enough j h);

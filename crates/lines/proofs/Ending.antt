@@ -7,14 +7,15 @@ use Rattle.rules.specs.Search.{Caps}
 use Rattle.charges.specs.declared.Charges.{Charges}
 use Rattle.charges.specs.Held.{Listed}
 use Rattle.profile.specs.declared.Profile.{Profile}
-use Rattle.lines.specs.declared.next.Crowd as code
+use Rattle.search.specs.declared.caps.LineCaps.{LineCaps}
+use Rattle.priority.specs.declared.crowd.Crowd as code
 use Rattle.planner.specs.Placed.{AllPlaced}
-use Rattle.lines.specs.Lines.{linesPlaced, LinesDone}
+use Rattle.lines.specs.Lines.{linesPlaced, LinesDone, LinesUnder}
 use Rattle.lines.proofs.Many.{many-room}
 use Rattle.lines.proofs.LinePlans.{pickIn, place-end, LineSoFar}
 
 module _ {cap : Caps} {clock : ℕ} {c : Charges} {line : ℕ} {left : List ℕ} {n : ℕ} {p : Profile} {byPlace : List ℕ} {q : code.Crowd}
-    {least from : ℕ} (v : LineSoFar cap clock c line left n p byPlace q least from) where
+    {from : ℕ} (v : LineSoFar cap clock c line left n p byPlace q from) where
   pub line-done : n ≡ 0 → LinesDone cap clock c line p byPlace
   line-done e =
       record {
@@ -24,6 +25,12 @@ module _ {cap : Caps} {clock : ℕ} {c : Charges} {line : ℕ} {left : List ℕ}
         plan = v .plan;
         later = v .later;
       }
+
+-- so many lines, however the number is written
+pub lines-same :
+    {caps : LineCaps} {clock : ℕ} {c : Charges} {k l : ℕ} {p : Profile} {byPlace : List ℕ} → LinesUnder caps clock c k p byPlace → k ≡ l
+    → LinesUnder caps clock c l p byPlace
+lines-same d e = λ cap shown. rw e at (d cap shown)
 
 pub lines-end :
     {cap : Caps} {clock : ℕ} {c : Charges} {p : Profile} {byPlace : List ℕ} → Listed c → LinesDone cap clock c 3 p byPlace

@@ -19,20 +19,20 @@ use Rattle.profile.specs.declared.Profile.{Profile}
 use Rattle.search.specs.declared.caps.LineCaps.{LineCaps}
 use Rattle.search.specs.Caps.{CapsShown}
 use Rattle.search.proofs.Lowerings.{can-cap}
-use Rattle.priority.specs.Chosen.{numberOf}
-use Rattle.lines.specs.declared.next.Crowd as code
+use Rattle.priority.specs.declared.crowd.Crowd as code
+use Rattle.priority.specs.Numbers.{numberOf}
 use Rattle.lines.specs.Next.{CanNext}
 use Rattle.planner.specs.Ready.{begunOf}
-use Rattle.lines.specs.Lines.{waitingOf}
+use Rattle.lines.specs.Lines.{numbersOf, waitingOf}
 use Rattle.planner.proofs.Profiles.{shown-can-start}
 use Rattle.planner.proofs.Showing.{length-loads-of, begun-and-waiting}
 use Rattle.lines.proofs.Lefts.{leftAt}
 use Rattle.lines.proofs.LinePlans.{line-room, LineSoFar}
-use Rattle.lines.proofs.LineNumbers.{left-fits, left-short, left-active}
+use Rattle.lines.proofs.LineNumbers.{left-range}
 
 module _ {cap : Caps} {caps : LineCaps} {clock : ℕ} {c : Charges} {line : ℕ} {left : List ℕ} {n : ℕ} {p : Profile} {byPlace : List ℕ}
-    {q : code.Crowd} {least from : ℕ} (h : Listed c) (on : IsLine line) (shown : CapsShown caps cap)
-    (v : LineSoFar cap clock c line left n p byPlace q least from) where
+    {q : code.Crowd} {from : ℕ} (h : Listed c) (on : IsLine line) (shown : CapsShown caps cap)
+    (v : LineSoFar cap clock c line left n p byPlace q from) where
   -- the sums by which two charges of the line are compared
   in-order :
       (i j : ℕ) → i < j → j < n
@@ -57,7 +57,7 @@ module _ {cap : Caps} {caps : LineCaps} {clock : ℕ} {c : Charges} {line : ℕ}
           line-room h on v,
         )
 
-    pub can-next : ((i : ℕ) → i < c .held → (l t : ℕ) → chargeAt c i .rate ≤ cap l t) → CanNext p caps line (c .times) (c .«active_times») (c .dues) (c .rates) left n q least from
+    pub can-next : ((i : ℕ) → i < c .held → (l t : ℕ) → chargeAt c i .rate ≤ cap l t) → CanNext p caps line (numbersOf c) left n q from
     can-next enough =
         record {
           can-start = shown-can-start (v .plan .shows) 1445 few (omega (arith, v .plan .ends, line-room h on v));
@@ -67,19 +67,13 @@ module _ {cap : Caps} {caps : LineCaps} {clock : ℕ} {c : Charges} {line : ℕ}
           some = more;
           can-choose =
               record {
-                can-fit = left-fits h (v .are);
+                range = left-range h (v .are);
                 number-most = omega (arith, v .number, own-few);
                 total-low = v .some more;
-                dues-most = λ j b. h .small (getD left j 0) (v .are .inside j b) .due-most;
-                times-low = λ j b. left-short h (v .are) j b .0;
-                shortest-low = v .least-low;
+                shortest-low = v .bounds .shortest-low;
                 in-order = in-order;
               };
-          short = left-short h (v .are);
-          active = left-active h (v .are);
-          rated = λ j b. h .small (getD left j 0) (v .are .inside j b) .is-rate;
-          one = v .one;
-          two = v .two;
+          bounds = v .bounds;
           low = omega (arith, v .low, v .plan .shows .starts);
           from-fits = omega (arith, v .near, v .plan .ends, line-room h on v);
         }

@@ -16,17 +16,19 @@ use Rattle.rules.proofs.Ranges.{below-or-not}
 use Rattle.rules.proofs.Lists.{map-tabulate, length-tabulate, each-keep, each-tabulate}
 use Rattle.rules.proofs.ThenTicket.{ThenTicket, ticket-decides, ticket-by-number, ticket-by-ticket}
 use Rattle.rules.proofs.LatestStarts.{latest-start-sums, latest-start-ordering}
-use Rattle.rules.proofs.Sorting.{InOrder, Rearranged, sorted-rearranged, sorted-sorted}
+use Rattle.rules.proofs.Sorting.{Rearranged, rearranged-length, sorted-rearranged, sorted-sorted}
 use Rattle.rules.proofs.Picking.{Among, among-each, among-keep}
 use Rattle.charges.specs.declared.Charges.{Charges}
 use Rattle.charges.specs.Arrays.{chargeAt}
 use Rattle.charges.specs.Held.{Listed}
 use Rattle.charges.specs.declared.places.Places.{Places}
-use Rattle.charges.specs.Places.{placeAt, placesOf, isOnLine, Lists, Ordered, Removed}
-use Rattle.charges.proofs.Members.{EachTwo, each-place, two-tabulate, two-keep, two-places, map-keep}
+use Rattle.charges.specs.Places.{placeAt, placesOf, Lists}
+use Rattle.queues.specs.Queues.{isOnLine, Ordered, Removed}
+use Rattle.charges.proofs.Members.{each-place, map-keep}
+use Rattle.queues.proofs.EveryTwo.{two-tabulate, two-keep, two-places}
 use Rattle.priority.specs.Crowds.{sumOf}
 use Rattle.planner.proofs.Queueing.{places-apart}
-use Rattle.lines.proofs.Rearranging.{among-kept, among-to, among-back, keep-rearranged, rearranged-length, rearranged-total, total-places, among-place, PlaceOf, place-among}
+use Rattle.lines.proofs.Rearranging.{among-kept, among-to, among-back, keep-rearranged, rearranged-total, total-places, among-place, PlaceOf, place-among}
 
 -- the j-th charge left
 abbrev pub leftAt : Charges → List ℕ → ℕ → Charge
@@ -50,10 +52,6 @@ before-other a b e other =
     go : ThenTicket (a .due + b .time) (b .due + a .time) a b → latestStartBefore a b ≡ true
     go (inl h) = rw (latest-start-sums a b) (ticket-by-number (a .due + b .time) (b .due + a .time) a b h)
     go (inr h) = rw (latest-start-sums a b) (ticket-by-ticket (a .due + b .time) (b .due + a .time) a b (h .0) (h .1))
-
-two-in-order : (R : Charge → Charge → Type 0) (l : List Charge) → InOrder R l → EachTwo R l
-two-in-order R [] o = tt
-two-in-order R (a ∷ l) o = (o .0, two-in-order R l (o .1))
 
 -- When the round begins
 
@@ -100,7 +98,7 @@ module _ {c : Charges} (line : ℕ) (ws : List Charge) {queue own : Places} (h :
       two-places (λ a b. latestStartBefore b a ≡ false) (leftAt c own-left) (own .count)
       (rw own-charges
       (two-keep (λ a b. latestStartBefore b a ≡ false) (λ x. eqb (x .line) line) (byLatestStart ws)
-      (two-in-order (λ a b. latestStartBefore b a ≡ false) (byLatestStart ws) (sorted-sorted latestStartBefore latest-start-ordering ws))))
+      (sorted-sorted latestStartBefore latest-start-ordering ws)))
 
   pub left-start : Left c line (own .places) (own .count) (onLine line ws)
   left-start =

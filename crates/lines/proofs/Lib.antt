@@ -1,4 +1,5 @@
 pub mod Extremes
+pub mod Seeking
 pub mod Nexts
 pub mod Rearranging
 pub mod Counting
@@ -10,6 +11,7 @@ pub mod LineNumbers
 pub mod Beginning
 pub mod Following
 pub mod Continuing
+pub mod Turns
 pub mod Ending
 pub mod Asking
 pub mod Playing

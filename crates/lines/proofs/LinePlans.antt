@@ -14,12 +14,11 @@ use Rattle.charges.specs.declared.Charges.{Charges}
 use Rattle.charges.specs.Arrays.{chargeAt}
 use Rattle.charges.specs.Held.{Listed}
 use Rattle.profile.specs.declared.Profile.{Profile}
-use Rattle.priority.specs.Chosen.{numberOf}
-use Rattle.priority.specs.Crowds.{LongestOf}
-use Rattle.lines.specs.declared.next.Crowd as code
+use Rattle.priority.specs.declared.crowd.Crowd as code
 use Rattle.planner.specs.Ready.{begunOf}
 use Rattle.planner.specs.Placed.{Missing, PlanShown}
-use Rattle.lines.specs.Lines.{waitingOf, linesPlaced, manyUpTo}
+use Rattle.lines.specs.Next.{Bounds}
+use Rattle.lines.specs.Lines.{numbersOf, waitingOf, linesPlaced, manyUpTo}
 use Rattle.lines.proofs.Lefts.{leftAt, Left}
 use Rattle.lines.proofs.Many.{many-room}
 
@@ -52,7 +51,7 @@ line-begins cap clock c before line placed e g =
 
 -- n charges of the line are left
 pub record LineSoFar (cap : Caps) (clock : ℕ) (c : Charges) (line : ℕ) (left : List ℕ) (n : ℕ) (p : Profile) (byPlace : List ℕ)
-    (q : code.Crowd) (least from : ℕ) : Type 0 where
+    (q : code.Crowd) (from : ℕ) : Type 0 where
   pub placed : List Charge
   pub rest : List Charge
   pub gives : linesPlaced cap clock c line ≡ placeOn (pickIn cap clock c line) n placed rest
@@ -64,14 +63,12 @@ pub record LineSoFar (cap : Caps) (clock : ℕ) (c : Charges) (line : ℕ) (left
   pub below : NoneBelow (fitsAt cap) clock (loadsOf (begunOf clock c ++ placed)) rest from
   pub low : clock ≤ from
   pub near : from ≤ max clock (lastUntil (loadsOf (begunOf clock c ++ placed)))
-  pub least-low : (j : ℕ) → j < n → least ≤ numberOf (c .times) left j
   pub number : q .number ≡ length (onLine line (waitingOf clock c))
   pub total : q .total ≡ totalTime (onLine line (waitingOf clock c))
   pub some : 0 < n → 1 ≤ q .total
-  pub one : LongestOf (c .«active_times») (c .rates) left n 1 (q .«longest_one»)
-  pub two : LongestOf (c .«active_times») (c .rates) left n 2 (q .«longest_two»)
+  pub bounds : Bounds (numbersOf c) left n q
 
 module _ {cap : Caps} {clock : ℕ} {c : Charges} {line : ℕ} {left : List ℕ} {n : ℕ} {p : Profile} {byPlace : List ℕ} {q : code.Crowd}
-    {least from : ℕ} (h : Listed c) (on : IsLine line) (v : LineSoFar cap clock c line left n p byPlace q least from) where
+    {from : ℕ} (h : Listed c) (on : IsLine line) (v : LineSoFar cap clock c line left n p byPlace q from) where
   pub line-room : length (begunOf clock c) + length (v .placed) + n ≤ 180
   line-room = omega (arith, v .many, many-room clock h line (on .high))

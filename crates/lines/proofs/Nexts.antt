@@ -2,197 +2,162 @@
 use mathlib.Core.Logic.{_⊎_, inl, inr, ⊎-elim}
 use mathlib.Core.Path.{_≡_, sym, _∙_}
 use Prim.Native.Nat.{ℕ, _+_, _^_, _≤_, _<_}
-use mathlib.Core.Bool.{Bool, true, false, true≢false}
+use mathlib.Core.Bool.{true, true≢false}
 use mathlib.Core.List.{List}
 use native.Mathlib.Omega.{arith}
 use borrow.Author.Tests.{le-leb}
 use Rattle.rules.specs.Basics.{runOf}
 use Rattle.rules.proofs.Ranges.{below-or-not}
-use Rattle.rules.proofs.Fitting.{Run, run-has}
 use Rattle.profile.specs.declared.Profile.{Profile}
 use Rattle.profile.specs.Shows.{firstMinute, lastMinute}
 use Rattle.search.specs.declared.caps.LineCaps.{LineCaps}
-use Rattle.search.specs.Rooms.{Misses, Least}
 use Rattle.search.specs.Caps.{roomUnder, CanRun}
-use Rattle.search.proofs.Within.{first-last}
-use Rattle.priority.specs.Chosen.{numberOf, fitsRun, CanChoose}
-use Rattle.priority.specs.Crowds.{LongestOf, ShortestOf}
-use Rattle.lines.specs.declared.next.Crowd.{Crowd}
-use Rattle.lines.specs.Next.{Both, ChosenAt, CanSeek, StartFor, NextStart, CanNext, NextIs}
+use Rattle.priority.specs.declared.crowd.Crowd.{Crowd}
+use Rattle.priority.specs.Numbers.{Numbers, numberOf}
+use Rattle.priority.specs.Chosen.{fitsRun, CanChoose, Choice}
+use Rattle.priority.specs.Crowds.{TimesOf, Narrowed}
+use Rattle.lines.specs.Next.{CanChooseAt, ChosenAt, NextStart, Bounds, CanNext, NextIs}
+use Rattle.lines.proofs.Seeking.{rate-of, rate-range, rate-none, rate-long}
 
--- a start that passes has a run at least as long
-run-least : (f : ℕ → Bool) (time most start r : ℕ) → Least f time start r → time ≤ most → time ≤ runOf f most r
-run-least f time most start r m h = go (run-has f most r) (below-or-not (runOf f most r) time)
-  where
-    go : Run f most r (runOf f most r) → (runOf f most r < time) ⊎ (time ≤ runOf f most r) → time ≤ runOf f most r
-    go x (inl l) = absurd (true≢false (sym (m .passes (r + runOf f most r) (omega arith) (omega arith)) ∙ x .stops (omega arith)))
-    go x (inr l) = l
+-- a choice by runs that are the same
+pub chosen-by :
+    {q : Numbers} {left : List ℕ} {n : ℕ} {k : Crowd} {start one two run-one run-two r : ℕ}
+    → Choice q left n k start one two r
+    → one ≡ run-one
+    → two ≡ run-two
+    → Choice q left n k start run-one run-two r
+chosen-by h e f = rw (e, f) at h
 
-module _ {p : Profile} {c : LineCaps} {line : ℕ} {times actives dues rates left : List ℕ} {n : ℕ} {q : Crowd} {least from : ℕ}
-    (can : CanNext p c line times actives dues rates left n q least from) where
+pub times-bound : {q : Numbers} {left : List ℕ} {n : ℕ} {k : Crowd} → TimesOf q left n k → Bounds q left n k
+times-bound t =
+    record {
+      one-most = t .one .most;
+      two-most = t .two .most;
+      one = λ j h e. t .one .each j h e .2;
+      two = λ j h e. t .two .each j h e .2;
+      shortest-low = t .shortest-low;
+    }
+
+module _ {p : Profile} {c : LineCaps} {line : ℕ} {q : Numbers} {left : List ℕ} {n : ℕ} {k : Crowd} {from : ℕ}
+    (can : CanNext p c line q left n k from) where
   runs : (most s : ℕ) → most ≤ 1445 → firstMinute p ≤ s → s + 1445 < 2 ^ 32 → CanRun p c line most s
   runs most s h low fit =
       record { formed = can .can-start .formed; whole = can .whole; on-line = can .on-line; low = low; ends-fit = omega arith }
 
-  pub can-here :
-      CanRun p c line (q .«longest_one») from × CanRun p c line (q .«longest_two») from × CanChoose times dues left n (q .number) (q .total) least
-  can-here =
-      (runs (q .«longest_one») from (can .one .most) (can .low) (can .from-fits), runs (q .«longest_two») from (can .two .most) (can .low) (can .from-fits), can .can-choose)
+  choose-at :
+      {d : Crowd} {s : ℕ} → Bounds q left n d → CanChoose q left n d → firstMinute p ≤ s → s + 1445 < 2 ^ 32
+      → CanChooseAt p c line q left n d s
+  choose-at {d} {s} b h low fit =
+      record {
+        one = runs (d .one .longest) s (b .one-most) low fit;
+        two = runs (d .two .longest) s (b .two-most) low fit;
+        can-choose = h;
+      }
+
+  -- At the last start
+
+  pub can-here : CanChooseAt p c line q left n k from
+  can-here = choose-at (can .bounds) (can .can-choose) (can .low) (can .from-fits)
 
   pub next-here :
-      {r : ℕ} → ChosenAt p c line times actives dues rates left n q from r → r < n
-      → NextIs p c line times actives dues rates left n q from (record { start = from; place = r; shortest = least })
-  next-here k h =
+      {r : ℕ} → ChosenAt p c line q left n k from r → r < n
+      → NextIs p c line q left n k from (record { start = from; place = r; crowd = k })
+  next-here h l =
       record {
-        inside = h;
-        choice = k;
-        shortest-low = can .can-choose .shortest-low;
+        inside = l;
+        choice = h;
+        number = omega arith;
+        total = omega arith;
+        bounds = can .bounds;
         low = can .low;
         high = omega arith;
         none = λ u a b. absurd (omega arith);
       }
 
-  -- a rate of a charge left
-  rate-of : (j : ℕ) → j < n → (1 ≡ numberOf rates left j) ⊎ (2 ≡ numberOf rates left j)
-  rate-of j h =
-      ⊎-elim (λ l. inl (omega (arith, can .rated j h .low))) (λ l. inr (omega (arith, can .rated j h .high))) (below-or-not (numberOf rates left j) 2)
+  -- At the smallest one behind it
 
-  module _ {rate time : ℕ} (z : ShortestOf actives rates left n rate time) where
-    time-most : time ≤ 1445
-    time-most =
-        ⊎-elim
-        (λ l. let f = z .found l in omega (arith, f .time-is, can .active (f .who) (f .inside) .1))
-        (λ l. omega arith)
-        (below-or-not 0 time)
+  module _ {d : Crowd} (w : Narrowed q left n k d) where
+    abbrev one : ℕ
+    one = d .one .shortest
 
-    pub can-seek : CanSeek p c line rate time from
-    can-seek =
-        record {
-          can-start =
-              record {
-                formed = can .can-start .formed;
-                small = can .can-start .small;
-                empty = can .can-start .empty;
-                ends-fit = omega (arith, can .can-start .ends-fit, time-most);
-              };
-          on-line = can .on-line;
-          capped = λ h. let f = z .found h in rw (f .rate-is) (can .capped (f .who) (f .inside));
-          low = can .low;
-        }
+    abbrev two : ℕ
+    two = d .two .shortest
 
-    module _ {a : ℕ} (s : StartFor p c line rate time from a) where
-      rate-range : 1 ≤ time → (firstMinute p ≤ a) × (a ≤ lastMinute p)
-      rate-range h =
-          let e = s .earliest h in (omega (arith, e .least .low, can .low, first-last (can .can-start)), e .high)
-
-      rate-none :
-          (u : ℕ) → from ≤ u → u < a → (j : ℕ) → j < n → rate ≡ numberOf rates left j
-          → Misses (roomUnder p c line (numberOf rates left j)) (numberOf actives left j) u
-      rate-none u b d j h same =
-          let e = z .each j h same in
-          let w = s .earliest (e .0) .least .failed u (omega arith) d in
-          record {
-            minute = w .minute;
-            low = w .low;
-            high = omega (arith, w .high, e .1);
-            fails = rw (← same) (w .fails);
-          }
-
-      rate-long : (h : 1 ≤ time) (most : ℕ) → LongestOf actives rates left n rate most → numberOf actives left (z .found h .who) ≤ runOf (roomUnder p c line rate) most a
-      rate-long h most long =
-          let f = z .found h in
-          omega (
-            arith,
-            f .time-is,
-            run-least (roomUnder p c line rate) time most _ a (s .earliest h .least) (omega (arith, f .time-is, long .each (f .who) (f .inside) (f .rate-is))),
-          )
-
-  module _ {one two : ℕ} (x : ShortestOf actives rates left n 1 one) (y : ShortestOf actives rates left n 2 two) {start : ℕ}
-      (m : NextStart p c line one two from start) where
     present : (1 ≤ one) ⊎ (1 ≤ two)
-    present = ⊎-elim (λ e. inl (x .each 0 (can .some) e .0)) (λ e. inr (y .each 0 (can .some) e .0)) (rate-of 0 (can .some))
+    present =
+        ⊎-elim (λ e. inl (w .times .one .each 0 (can .some) e .0)) (λ e. inr (w .times .two .each 0 (can .some) e .0)) (rate-of can 0 (can .some))
 
-    range : (firstMinute p ≤ start) × (start ≤ lastMinute p)
-    range = go (below-or-not 0 one) (below-or-not 0 two)
+    pub there-range : {start : ℕ} → NextStart p c line d from start → (firstMinute p ≤ start) × (start ≤ lastMinute p)
+    there-range {start} m = go (below-or-not 0 one) (below-or-not 0 two)
       where
         go : (1 ≤ one) ⊎ (one ≤ 0) → (1 ≤ two) ⊎ (two ≤ 0) → (firstMinute p ≤ start) × (start ≤ lastMinute p)
         go (inl a) (inl b) =
-            let r = rate-range x (m .for-one) a in
-            let s = rate-range y (m .for-two) b in
+            let r = rate-range can (m .for-one) a in
+            let s = rate-range can (m .for-two) b in
             (omega (arith, m .smaller, r .0, s .0), omega (arith, m .smaller, r .1))
         go (inl a) (inr b) =
-            let r = rate-range x (m .for-one) a in
+            let r = rate-range can (m .for-one) a in
             let e = m .for-two .none (omega arith) in
             (omega (arith, m .smaller, r .0, r .1, e, can .can-start .ends-fit), omega (arith, m .smaller, r .1))
         go (inr a) (inl b) =
-            let s = rate-range y (m .for-two) b in
+            let s = rate-range can (m .for-two) b in
             let e = m .for-one .none (omega arith) in
             (omega (arith, m .smaller, s .0, s .1, e, can .can-start .ends-fit), omega (arith, m .smaller, s .1))
         go (inr a) (inr b) = absurd (⊎-elim (λ l. omega arith) (λ l. omega arith) present)
 
-    module _ {first second short : ℕ} (a : ShortestOf times rates left n 1 first) (b : ShortestOf times rates left n 2 second)
-        (both : Both first second short) where
-      short-low : (j : ℕ) → j < n → short ≤ numberOf times left j
-      short-low j h =
-          ⊎-elim
-          (λ e. let r = a .each j h e in omega (arith, both .first (r .0), r .1))
-          (λ e. let r = b .each j h e in omega (arith, both .second (r .0), r .1))
-          (rate-of j h)
+    pub can-there : {s : ℕ} → firstMinute p ≤ s → s + 1445 < 2 ^ 32 → CanChooseAt p c line q left n d s
+    can-there =
+        choose-at (times-bound (w .times))
+        (record {
+          range = can .can-choose .range;
+          number-most = omega (arith, w .number, can .can-choose .number-most);
+          total-low = omega (arith, w .total, can .can-choose .total-low);
+          shortest-low = w .times .shortest-low;
+          in-order = can .can-choose .in-order;
+        })
 
-      pub can-there :
-          CanRun p c line (q .«longest_one») start × CanRun p c line (q .«longest_two») start × CanChoose times dues left n (q .number) (q .total) short
-      can-there =
-          let fit : start + 1445 < 2 ^ 32 = omega (arith, range .1, can .can-start .ends-fit) in
-          let k = can .can-choose in (
-            runs (q .«longest_one») start (can .one .most) (range .0) fit,
-            runs (q .«longest_two») start (can .two .most) (range .0) fit,
-            record {
-              can-fit = k .can-fit;
-              number-most = k .number-most;
-              total-low = k .total-low;
-              dues-most = k .dues-most;
-              times-low = k .times-low;
-              shortest-low = short-low;
-              in-order = k .in-order;
-            },
-          )
+    module _ {start : ℕ} (m : NextStart p c line d from start) where
+      range : (firstMinute p ≤ start) × (start ≤ lastMinute p)
+      range = there-range m
 
-      pub next-there :
-          {place : ℕ} → ChosenAt p c line times actives dues rates left n q start place
-          → NextIs p c line times actives dues rates left n q from (record { start = start; place = place; shortest = short })
-      next-there {place} k =
+      found-there :
+          {place : ℕ} → ChosenAt p c line q left n d start place
+          → NextIs p c line q left n k from (record { start = start; place = place; crowd = d })
+      found-there {place} h =
           record {
-            inside = ⊎-elim (λ h. h) (λ h. absurd (found h)) (below-or-not place n);
-            choice = k;
-            shortest-low = short-low;
+            inside = ⊎-elim (λ l. l) (λ l. absurd (found l)) (below-or-not place n);
+            choice = h;
+            number = w .number;
+            total = w .total;
+            bounds = times-bound (w .times);
             low = range .0;
             high = omega (arith, range .1);
-            none = λ u a b j h.
+            none = λ u a b j l.
                 ⊎-elim
-                (λ e. rate-none x (m .for-one) u a (omega (arith, m .smaller)) j h e)
-                (λ e. rate-none y (m .for-two) u a (omega (arith, m .smaller)) j h e)
-                (rate-of j h);
+                (λ f. rate-none can (w .times .one) (m .for-one) u a (omega (arith, m .smaller)) j l f)
+                (λ f. rate-none can (w .times .two) (m .for-two) u a (omega (arith, m .smaller)) j l f)
+                (rate-of can j l);
           }
         where
           run-one : ℕ
-          run-one = runOf (roomUnder p c line 1) (q .«longest_one») start
+          run-one = runOf (roomUnder p c line 1) (d .one .longest) start
 
           run-two : ℕ
-          run-two = runOf (roomUnder p c line 2) (q .«longest_two») start
+          run-two = runOf (roomUnder p c line 2) (d .two .longest) start
 
           one-fits : 1 ≤ one → start ≡ m .first → n ≤ place → ⊥
-          one-fits h e none =
-              let f = x .found h in
-              let fits : fitsRun actives rates left run-one run-two (f .who) ≡ true =
-              rw (← (f .rate-is)) (le-leb (numberOf actives left (f .who)) run-one (rw e (rate-long x (m .for-one) h (q .«longest_one») (can .one)))) in
-              true≢false (sym fits ∙ k .none none (f .who) (f .inside))
+          one-fits l f none =
+              let g = w .times .one .found (omega (arith, w .times .one .in-order)) in
+              let fits : fitsRun q left run-one run-two (g .who) ≡ true =
+              rw (← (g .rate-is)) (le-leb (numberOf (q .actives) left (g .who)) run-one (rw f (rate-long can (w .times .one) (m .for-one) l g))) in
+              true≢false (sym fits ∙ h .none none (g .who) (g .inside))
 
           two-fits : 1 ≤ two → start ≡ m .second → n ≤ place → ⊥
-          two-fits h e none =
-              let f = y .found h in
-              let fits : fitsRun actives rates left run-one run-two (f .who) ≡ true =
-              rw (← (f .rate-is)) (le-leb (numberOf actives left (f .who)) run-two (rw e (rate-long y (m .for-two) h (q .«longest_two») (can .two)))) in
-              true≢false (sym fits ∙ k .none none (f .who) (f .inside))
+          two-fits l f none =
+              let g = w .times .two .found (omega (arith, w .times .two .in-order)) in
+              let fits : fitsRun q left run-one run-two (g .who) ≡ true =
+              rw (← (g .rate-is)) (le-leb (numberOf (q .actives) left (g .who)) run-two (rw f (rate-long can (w .times .two) (m .for-two) l g))) in
+              true≢false (sym fits ∙ h .none none (g .who) (g .inside))
 
           found : n ≤ place → ⊥
           found none = go (below-or-not (m .second) (m .first)) (below-or-not 0 one) (below-or-not 0 two)
@@ -201,8 +166,17 @@ module _ {p : Profile} {c : LineCaps} {line : ℕ} {times actives dues rates lef
               go (inr l) (inl a) b = one-fits a (omega (arith, m .smaller)) none
               go (inl l) a (inl b) = two-fits b (omega (arith, m .smaller)) none
               go (inr l) (inr a) (inl b) =
-                  omega (arith, m .for-one .none (omega arith), rate-range y (m .for-two) b .1, can .can-start .ends-fit)
+                  omega (arith, m .for-one .none (omega arith), rate-range can (m .for-two) b .1, can .can-start .ends-fit)
               go (inl l) (inl a) (inr b) =
-                  omega (arith, m .for-two .none (omega arith), rate-range x (m .for-one) a .1, can .can-start .ends-fit)
+                  omega (arith, m .for-two .none (omega arith), rate-range can (m .for-one) a .1, can .can-start .ends-fit)
               go (inr l) (inr a) (inr b) = ⊎-elim (λ h. omega arith) (λ h. omega arith) present
               go (inl l) (inr a) (inr b) = ⊎-elim (λ h. omega arith) (λ h. omega arith) present
+
+    -- the charge was chosen at that start
+    pub next-there :
+        {start s place : ℕ}
+        → NextStart p c line d from start
+        → ChosenAt p c line q left n d s place
+        → s ≡ start
+        → NextIs p c line q left n k from (record { start = start; place = place; crowd = d })
+    next-there m h e = found-there m (rw e at h)

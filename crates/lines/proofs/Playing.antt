@@ -21,7 +21,8 @@ use Rattle.profile.specs.declared.When.the-variants.{Minute, Never}
 use Rattle.search.specs.declared.caps.LineCaps.{LineCaps}
 use Rattle.profile.specs.Shows.{levelOf, levels, Formed, Shows, foundAt}
 use Rattle.search.specs.Caps.{CapsShown}
-use Rattle.profile.specs.Balance.{Unbalanced}
+use Rattle.profile.specs.Balance.{FirstUnbalanced, Unbalanced}
+use Rattle.profile.proofs.Balances.{unbalanced-shows}
 use Rattle.lines.specs.declared.place.Placement.{Placement}
 use Rattle.planner.specs.declared.Proposed.{Proposed}
 use Rattle.lines.specs.declared.rounds.Outcome.{Outcome}
@@ -48,7 +49,10 @@ module _ {limit bound clock : ℕ} {c : Charges} {caps : LineCaps} {r : Placemen
   pub round-formed : Formed (r .profile)
   round-formed = some-plan .plan .shows .formed
 
-  module _ (u : When) (f : Unbalanced (r .profile) bound u) where
+  module _ (u : When) {d : ℕ} (first : FirstUnbalanced (r .profile) d u) (same-bound : d ≡ bound) where
+    f : Unbalanced (r .profile) bound u
+    f = unbalanced-shows (rw same-bound at first)
+
     found :
         (cap : Caps) (shown : CapsShown caps cap)
         → firstUnbalanced (limits limit bound) clock (loadsOf (begunOf clock c ++ plan cap shown .placed)) ≡ foundAt u

@@ -1,11 +1,10 @@
 -- Charges in another order: the same members, also of those that pass a test, and the same summed time.
 use mathlib.Core.Path.{_≡_, refl, ap, _∙_, sym}
-use Prim.Native.Nat.{ℕ, zero, suc, _+_, _≤_, _<_}
+use Prim.Native.Nat.{ℕ, zero, suc, _+_, _<_}
 use mathlib.Core.Bool.{Bool, true, false, cond}
 use mathlib.Core.List.{List, [], _∷_, _++_}
 use native.Mathlib.Omega.{arith}
 use native.Mathlib.Nat.{zero-add}
-use lib.ListN.{length}
 use Rattle.rules.specs.Basics.{Each, tabulate, keep}
 use Rattle.rules.specs.Charge.{Charge}
 use Rattle.rules.specs.Priority.{totalTime}
@@ -78,15 +77,7 @@ keep-rearranged f (more {a = a} {l = l} {m = m} {n = n} r i) = go (f a) refl (ke
     go true e s = more s (keep-inserted f i e)
     go false e s = rw (keep-dropped f i e) s
 
--- How many, and for how long
-
-inserted-length : {a : Charge} {l m : List Charge} → Inserted a l m → length m ≡ suc (length l)
-inserted-length here = refl
-inserted-length (later i) = ap suc (inserted-length i)
-
-pub rearranged-length : {l m : List Charge} → Rearranged l m → length m ≡ length l
-rearranged-length none = refl
-rearranged-length (more r i) = inserted-length i ∙ ap suc (rearranged-length r)
+-- For how long
 
 inserted-total : {a : Charge} {l m : List Charge} → Inserted a l m → totalTime m ≡ a .time + totalTime l
 inserted-total here = refl

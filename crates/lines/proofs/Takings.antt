@@ -1,9 +1,9 @@
 -- The charge that the code takes is the one that the rules take: at the smallest start, and foremost there.
 use mathlib.Core.Logic.{_⊎_, inl, inr, ⊎-elim}
 use mathlib.Core.Path.{_≡_, refl, sym, _∙_, ap, subst}
-use Prim.Native.Nat.{ℕ, _+_, _-_, _*_, max, _≤_, _<_}
+use Prim.Native.Nat.{ℕ, _-_, _*_, max, _≤_, _<_}
 use mathlib.Core.Bool.{Bool, true, false, _||_, true≢false}
-use mathlib.Core.List.{List, [], _∷_, _++_}
+use mathlib.Core.List.{List, [], _∷_}
 use native.Mathlib.Omega.{arith}
 use lib.ListN.{getD}
 use borrow.Author.Tests.{lt-ltb, le-ltb, eq-eqb}
@@ -11,7 +11,7 @@ use Rattle.rules.specs.Basics.{at, runOf, Each, keep, some}
 use Rattle.rules.specs.Load.{Load, IsLine, lastUntil}
 use Rattle.rules.specs.Charge.{Charge, starting}
 use Rattle.rules.specs.Search.{Caps}
-use Rattle.rules.specs.Priority.{Crowd, takenBefore, chosen, foremost, Fitting, fitsAt, firstFit, picked}
+use Rattle.rules.specs.Priority.{Crowd, urgency, takenBefore, chosen, foremost, Fitting, fitsAt, firstFit, picked}
 use Rattle.rules.proofs.Ranges.{below-or-not}
 use Rattle.rules.proofs.Lists.{each-keep}
 use Rattle.rules.proofs.Fitting.{NoneBelow, first-fit-is}
@@ -24,11 +24,12 @@ use Rattle.profile.specs.Shows.{Shows}
 use Rattle.search.specs.declared.caps.LineCaps.{LineCaps}
 use Rattle.search.specs.Caps.{CapsShown, roomUnder}
 use Rattle.search.proofs.Unders.{run-shows, misses-fails}
-use Rattle.priority.specs.Chosen.{numberOf, fitsRun, weightAt, Ahead}
-use Rattle.priority.specs.Crowds.{LongestOf}
-use Rattle.lines.specs.declared.next.Crowd as code
+use Rattle.priority.specs.declared.crowd.Crowd as code
+use Rattle.priority.specs.Numbers.{numberOf}
+use Rattle.priority.specs.Chosen.{fitsRun, Ahead}
 use Rattle.lines.specs.declared.next.Next.{Next}
 use Rattle.lines.specs.Next.{NextIs}
+use Rattle.lines.specs.Lines.{numbersOf}
 use Rattle.lines.proofs.Rearranging.{each-among, among-kept, PlaceOf}
 use Rattle.lines.proofs.Lefts.{leftAt, Left}
 
@@ -66,9 +67,8 @@ picked-is fits clock xs q left s z e f = rw (e, picked) (rw f)
 module _ {cap : Caps} {caps : LineCaps} {clock : ℕ} {c : Charges} {line : ℕ} {left : List ℕ} {n : ℕ} {p : Profile} {rest : List Charge}
     {q : code.Crowd} {from : ℕ} {next : Next} (own : Crowd) (loads : List Load) (h : Listed c) (on : IsLine line)
     (shown : CapsShown caps cap) (shows : Shows p clock loads) (are : Left c line left n rest)
-    (r : NextIs p caps line (c .times) (c .«active_times») (c .dues) (c .rates) left n q from next)
-    (one : LongestOf (c .«active_times») (c .rates) left n 1 (q .«longest_one»)) (two : LongestOf (c .«active_times») (c .rates) left n 2 (q .«longest_two»))
-    (number : q .number ≡ own .number) (total : q .total ≡ own .total)
+    (r : NextIs p caps line (numbersOf c) left n q from next)
+    (number : next .crowd .number ≡ own .number) (total : next .crowd .total ≡ own .total)
     (below : NoneBelow (fitsAt cap) clock loads rest from) (near : from ≤ max clock (lastUntil loads)) where
   abbrev s : ℕ
   s = next .start
@@ -83,16 +83,16 @@ module _ {cap : Caps} {caps : LineCaps} {clock : ℕ} {c : Charges} {line : ℕ}
   start-near = omega (arith, r .high, near, shows .ends (p .steps - 1) (omega (arith, shows .formed .some)))
 
   -- a charge fits exactly when it is no longer than the run
-  fits-same : (j : ℕ) → j < n → fits s (leftAt c left j) ≡ fitsRun (c .«active_times») (c .rates) left (runOf (roomUnder p caps line 1) (q .«longest_one») s) (runOf (roomUnder p caps line 2) (q .«longest_two») s) j
+  fits-same : (j : ℕ) → j < n → fits s (leftAt c left j) ≡ fitsRun (numbersOf c) left (runOf (roomUnder p caps line 1) (next .crowd .one .longest) s) (runOf (roomUnder p caps line 2) (next .crowd .two .longest) s) j
   fits-same j b =
       rw (are .on-line j b)
       (⊎-elim
       (λ l.
       let e : 1 ≡ numberOf (c .rates) left j = omega (arith, h .small (getD left j 0) (are .inside j b) .is-rate .low) in
-      rw (← e) (run-shows on shows shown 1 (numberOf (c .«active_times») left j) (q .«longest_one») s start-low (one .each j b e)))
+      rw (← e) (run-shows on shows shown 1 (numberOf (c .«active_times») left j) (next .crowd .one .longest) s start-low (r .bounds .one j b e)))
       (λ l.
       let e : 2 ≡ numberOf (c .rates) left j = omega (arith, h .small (getD left j 0) (are .inside j b) .is-rate .high) in
-      rw (← e) (run-shows on shows shown 2 (numberOf (c .«active_times») left j) (q .«longest_two») s start-low (two .each j b e)))
+      rw (← e) (run-shows on shows shown 2 (numberOf (c .«active_times») left j) (next .crowd .two .longest) s start-low (r .bounds .two j b e)))
       (below-or-not (numberOf (c .rates) left j) 2))
 
   taken-fits : fits s (leftAt c left (next .place)) ≡ true
@@ -118,6 +118,12 @@ module _ {cap : Caps} {caps : LineCaps} {clock : ℕ} {c : Charges} {line : ℕ}
   first-is : firstFit (fitsAt cap) clock loads rest ≡ at s
   first-is = first-fit-is (fitsAt cap) clock loads rest s start-low start-near some-fits none-below
 
+  abbrev W : ℕ → ℕ
+  W j = urgency own s (leftAt c left j)
+
+  abbrev T : ℕ → ℕ
+  T = numberOf (c .times) left
+
   -- what is ahead is taken before
   taken-ahead :
       (j : ℕ) → j < n → fits s (leftAt c left j) ≡ true → (j ≡ next .place → ⊥)
@@ -125,25 +131,13 @@ module _ {cap : Caps} {caps : LineCaps} {clock : ℕ} {c : Charges} {line : ℕ}
   taken-ahead j b fit ne = go (rw (number, total) at (r .choice .ahead (r .inside) j b (sym (fits-same j b) ∙ fit) ne))
     where
       go :
-          Ahead (weightAt (c .times) (c .dues) left (own .number) (own .total) s) (numberOf (c .times) left) (next .place) j
+          Ahead W T (next .place) j
           → takenBefore own s (leftAt c left (next .place)) (leftAt c left j) ≡ true
-      go (inl l) =
-          rw
-          (lt-ltb
-          (weightAt (c .times) (c .dues) left (own .number) (own .total) s j * numberOf (c .times) left (next .place))
-          (weightAt (c .times) (c .dues) left (own .number) (own .total) s (next .place) * numberOf (c .times) left j)
-          l)
-          refl
+      go (inl l) = rw (lt-ltb (W j * T (next .place)) (W (next .place) * T j) l) refl
       go (inr l) =
           rw (
-            le-ltb
-                (weightAt (c .times) (c .dues) left (own .number) (own .total) s j * numberOf (c .times) left (next .place))
-                (weightAt (c .times) (c .dues) left (own .number) (own .total) s (next .place) * numberOf (c .times) left j)
-                (omega (arith, l .0)),
-            eq-eqb
-                (weightAt (c .times) (c .dues) left (own .number) (own .total) s (next .place) * numberOf (c .times) left j)
-                (weightAt (c .times) (c .dues) left (own .number) (own .total) s j * numberOf (c .times) left (next .place))
-                (sym (l .0)),
+            le-ltb (W j * T (next .place)) (W (next .place) * T j) (omega (arith, l .0)),
+            eq-eqb (W (next .place) * T j) (W j * T (next .place)) (sym (l .0)),
             are .sorted (next .place) j (l .1) b,
           )
           refl

@@ -10,12 +10,17 @@ use Rattle.rules.specs.Replan.{Placed, all, byLatestStart, onLine, placeLines}
 use Rattle.charges.specs.declared.Charges.{Charges}
 use Rattle.charges.specs.Arrays.{chargeAt, chargesOf}
 use Rattle.charges.specs.declared.places.Places.{Places}
-use Rattle.charges.specs.Places.{Ordered}
+use Rattle.queues.specs.Queues.{Ordered}
 use Rattle.profile.specs.declared.Profile.{Profile}
 use Rattle.search.specs.declared.caps.LineCaps.{LineCaps}
 use Rattle.search.specs.Caps.{CapsShown}
+use Rattle.priority.specs.Numbers.{Numbers}
 use Rattle.planner.specs.Ready.{begunOf}
 use Rattle.planner.specs.Placed.{Missing, PlanShown}
+
+-- the columns that a line is placed by
+abbrev pub numbersOf : Charges → Numbers
+numbersOf c = record { times = c .times; actives = c .«active_times»; dues = c .dues; rates = c .rates }
 
 abbrev pub waitingOf : ℕ → Charges → List Charge
 waitingOf clock c = waitingCharges clock (chargesOf c)

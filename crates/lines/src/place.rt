@@ -1,19 +1,17 @@
 // The waiting charges placed under the caps, line by line: one round of replan by lines.
-use crate::next::crowd_of;
 use crate::next::next_charge;
-use crate::next::shorter;
 use charges::Charges;
 use charges::PLACES;
 use charges::places::Places;
-use charges::places::remove;
-use priority::crowd::shortest;
+use priority::crowd::crowd_of;
 use profile::COLUMNS;
 use profile::Profile;
 use profile::STEPS;
 use profile::loads::add;
+use queues::line::on_line;
+use queues::line::remove;
 use search::caps::LineCaps;
-ghost use mathlib.Core.Path.{_≡_};
-ghost use Prim.Native.Nat.{_+_, _≤_};
+ghost use Prim.Native.Nat.{_-_, _≤_};
 ghost use Rattle.rules.specs.Charge.{loadsOf};
 ghost use Rattle.rules.specs.Load.{IsLine};
 ghost use Rattle.charges.specs.Held.{Listed};
@@ -37,42 +35,40 @@ pub fn place_line(
     clock: u32,
     queue: Places,
     caps: LineCaps,
-    before: u32,
     line: u32,
 ) -> usize
-    requires { ⌜ Listed charges × (clock ≤ 1000000) × InOrder clock charges queue × Capped charges caps × IsLine line × (line ≡ before + 1) × LinesUnder caps clock charges before (profileOf steps (now at) (now counts)) (now «by_place») ⌝ }
+    requires { ⌜ Listed charges × (clock ≤ 1000000) × InOrder clock charges queue × Capped charges caps × IsLine line × LinesUnder caps clock charges (line - 1) (profileOf steps (now at) (now counts)) (now «by_place») ⌝ }
     ensures { λ r. ⌜ LinesUnder caps clock charges line (profileOf r (now (at .exit)) (now (counts .exit))) (now («by_place» .exit)) ⌝ }
 {
-    let own = queue.on_line(&charges.lines, line);
+    let own = on_line(queue, &charges.lines, line);
     let mut left = own.places;
     let mut n = own.count;
-    let crowd = crowd_of(
+    let columns = [
         &charges.times,
         &charges.active_times,
+        &charges.dues,
         &charges.rates,
-        &left,
-        n,
-    );
-    let one = shortest(&charges.times, &charges.rates, &left, n, 1);
-    let two = shortest(&charges.times, &charges.rates, &left, n, 2);
-    let mut least = shorter(one, two);
+    ];
+    let mut crowd = crowd_of(columns, &left, n);
     let mut from = clock;
     let mut held = steps;
     while 0 < n {
+        let columns = [
+            &charges.times,
+            &charges.active_times,
+            &charges.dues,
+            &charges.rates,
+        ];
         let taken = next_charge(
             &*at,
             &*counts,
             held,
             &caps.caps,
             line,
-            &charges.times,
-            &charges.active_times,
-            &charges.dues,
-            &charges.rates,
+            columns,
             &left,
             n,
             crowd,
-            least,
             from,
         );
         let j = taken.place;
@@ -80,7 +76,7 @@ pub fn place_line(
         let time = charges.active_times[i];
         let rate = charges.rates[i];
         from = taken.start;
-        least = taken.shortest;
+        crowd = taken.crowd;
         held = add(at, counts, held, line, time, rate, from);
         by_place[i] = from;
         remove(&mut left, n, j);
@@ -104,8 +100,7 @@ pub fn place_lines(
     let mut at = begun.at;
     let mut counts = begun.counts;
     let mut by_place = [0; PLACES];
-    let mut line = 0;
-    while line < 3 {
+    for line in 1..4 {
         steps = place_line(
             &mut at,
             &mut counts,
@@ -116,9 +111,7 @@ pub fn place_lines(
             queue,
             caps,
             line,
-            line + 1,
         );
-        line += 1;
     }
     let profile = Profile { steps, at, counts };
     Placement { profile, by_place }

@@ -9,6 +9,7 @@ use profile::Profile;
 use profile::When;
 use profile::balance::largest_line;
 use profile::balance::smallest_line;
+use queues::by_latest_start;
 use search::caps::LineCaps;
 ghost use mathlib.Core.Path.{_≡_};
 ghost use Rattle.rules.specs.Charge.{loadsOf};
@@ -91,7 +92,7 @@ pub fn by_lines(charges: Charges, clock: u32, limit: u32, bound: u32, allowance:
     requires { ⌜ Ready clock limit bound charges ⌝ }
     ensures { λ r. ⌜ Replans clock charges (byLines (limits limit bound) clock allowance (chargesOf charges)) r ⌝ }
 {
-    let queue = charges.by_latest_start(clock);
+    let queue = by_latest_start(charges, clock);
     let begun = profile_before(charges, clock, clock);
     let mut caps = LineCaps::new(limit);
     let mut rounds = 1;

@@ -22,7 +22,6 @@ use Rattle.search.specs.declared.candidate.Limits.{Limits}
 use Rattle.search.specs.declared.candidate.Draw.{Draw}
 use Rattle.search.specs.Candidates.{limitsOf, drawOf, fitsIn, CanFit, FirstFitting}
 use Rattle.search.proofs.Starts.{can-start}
-use Rattle.planner.proofs.Showing.{held-end-most}
 use Rattle.orders.specs.Windows.{StartedAdded, CanOrder}
 use Rattle.orders.proofs.Windows.{Window, window-none, window-on, window-counts}
 
@@ -66,15 +65,15 @@ module _ {held : Charges} {clock : ℕ} {y : Limits} {a : Draw} (f : CanOrder he
                 wider .few,
                 keep-length (isBegun until) (chargesOf held),
                 length-tabulate (chargeAt held) (held .held) 0,
-                f .listed .columns .few,
+                f .few,
               ))
-              (omega (arith, wider .last, held-end-most (f .listed), f .clock-most, f .time-most));
+              (omega (arith, wider .last, f .end-most, f .clock-most, f .time-most));
           is-rate = f .is-rate;
           within-limit = f .within-limit;
           within-bound = f .within-bound;
           some = f .some;
           low = omega (arith, wider .shows .starts, k .from);
-          ends-fit = omega (arith, k .most, held-end-most (f .listed), f .clock-most, f .time-most);
+          ends-fit = omega (arith, k .most, f .end-most, f .clock-most, f .time-most);
         }
 
     -- a minute of a start's own below the window's end

@@ -13,12 +13,13 @@ use Rattle.rules.proofs.Counts.{count-append}
 use Rattle.rules.proofs.Ends.{until-kept}
 use Rattle.charges.specs.declared.Charges.{Charges}
 use Rattle.charges.specs.Arrays.{chargeAt, chargesOf}
-use Rattle.charges.specs.Held.{Listed}
 use Rattle.charges.proofs.Walking.{keep-length}
 use Rattle.profile.specs.declared.Profile.{Profile}
 use Rattle.profile.specs.Shows.{levelOf, Shows}
-use Rattle.planner.proofs.Showing.{length-loads-of, listed-ends, listed-rates}
-use Rattle.orders.specs.Windows.{started, CanAddStarted, StartedAdded}
+use Rattle.search.specs.declared.candidate.Limits.{Limits}
+use Rattle.search.specs.declared.candidate.Draw.{Draw}
+use Rattle.planner.proofs.Showing.{length-loads-of}
+use Rattle.orders.specs.Windows.{started, CanAddStarted, StartedAdded, CanOrder}
 use Rattle.orders.proofs.Parts.{count-in-two, length-in-two, count-begun, last-append}
 
 -- p shows, in some order, the held charges that begin before `until`
@@ -43,12 +44,14 @@ window-none held clock p h =
     none = keep-none (isBegun 0) (λ c. le-ltb (c .start) 0 (omega arith)) (chargesOf held)
 
 -- what `add_started` asks
-pub window-room : {held : Charges} {clock : ℕ} {p : Profile} {low high : ℕ} → Listed held → Window held clock low p → low ≤ high → CanAddStarted p held low high
-window-room {held} {clock} {p} {low} {high} v w h =
+pub window-room :
+    {held : Charges} {clock : ℕ} {y : Limits} {a : Draw} {p : Profile} {low high : ℕ}
+    → CanOrder held clock y a → Window held clock low p → low ≤ high → CanAddStarted p held low high
+window-room {held} {clock} {y} {a} {p} {low} {high} v w h =
     record {
-      held = v .columns .few;
-      ends = listed-ends v;
-      rated = listed-rates v;
+      held = v .few;
+      ends = v .ends;
+      rated = v .rated;
       room =
           record {
             clock = clock;
@@ -61,7 +64,7 @@ window-room {held} {clock} {p} {low} {high} v w h =
                   length-in-two low high h (chargesOf held),
                   keep-length (isBegun high) (chargesOf held),
                   length-tabulate (chargeAt held) (held .held) 0,
-                  v .columns .few,
+                  v .few,
                 );
           };
     }

@@ -2,21 +2,35 @@
 use mathlib.Core.Path.{_≡_}
 use Prim.Native.Nat.{ℕ, _+_, _≤_}
 use mathlib.Core.Bool.{true}
-use mathlib.Core.List.{List, _++_}
+use mathlib.Core.List.{List, [], _++_}
 use lib.ListN.{length}
 use Rattle.rules.specs.Basics.{keep}
-use Rattle.rules.specs.Load.{Load, IsRate, sound}
+use Rattle.rules.specs.Load.{Load, IsRate, lastUntil, sound}
 use Rattle.rules.specs.Charge.{Charge, loadsOf}
 use Rattle.rules.specs.Calls.{isPassed}
 use Rattle.charges.specs.declared.Charges.{Charges}
 use Rattle.charges.specs.Arrays.{chargesOf}
-use Rattle.charges.specs.Held.{Listed}
 use Rattle.profile.specs.declared.Profile.{Profile}
 use Rattle.profile.specs.Shows.{Shows}
 use Rattle.search.specs.declared.candidate.Limits.{Limits}
 use Rattle.search.specs.declared.candidate.Draw.{Draw}
 use Rattle.search.specs.Candidates.{limitsOf}
 use Rattle.planner.specs.Ready.{EndsFit, Rated}
+
+-- The charges as far as four arrays tell: the search reads nothing else of them.
+abbrev pub drawing : ℕ → List ℕ → List ℕ → List ℕ → List ℕ → Charges
+drawing held lines activeTimes starts rates =
+    record {
+      held = held;
+      tickets = [];
+      lines = lines;
+      «order_minutes» = [];
+      times = [];
+      «active_times» = activeTimes;
+      dues = [];
+      starts = starts;
+      rates = rates;
+    }
 
 -- the charges with a start from `low` up to `high`
 abbrev pub started : ℕ → ℕ → List Charge → List Charge
@@ -40,9 +54,12 @@ abbrev pub StartedAdded : Profile → Profile → Charges → ℕ → ℕ → Ty
 StartedAdded p q c low high =
     (clock : ℕ) (loads : List Load) → Shows p clock loads → Shows q clock (loads ++ loadsOf (started low high (chargesOf c)))
 
--- what the search for an order's start asks: a sound plan of listed charges, and what none of refusals 4 to 18 turns away
+-- what the search for an order's start asks: a sound plan of charges with numbers in range, and what none of refusals 4 to 18 turns away
 pub record CanOrder (held : Charges) (clock : ℕ) (y : Limits) (a : Draw) : Type 0 where
-  pub listed : Listed held
+  pub few : held .held ≤ 180
+  pub ends : EndsFit held
+  pub rated : Rated held
+  pub end-most : lastUntil (loadsOf (chargesOf held)) ≤ 100001445
   pub clock-most : clock ≤ 1000000
   pub sound-on : sound (limitsOf y) clock (loadsOf (chargesOf held)) ≡ true
   pub some : 1 ≤ a .time

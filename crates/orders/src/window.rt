@@ -1,5 +1,5 @@
 // The charges of one window of an order's search, put into the profile of those before it.
-use charges::Charges;
+use charges::PLACES;
 use profile::COLUMNS;
 use profile::STEPS;
 use profile::loads::add;
@@ -7,7 +7,14 @@ ghost use mathlib.Core.Path.{_≡_};
 ghost use mathlib.Core.Bool.{_&&_};
 ghost use lib.Dec.{leb, ltb};
 ghost use Rattle.profile.specs.Shows.{profileOf};
-ghost use Rattle.orders.specs.Windows.{CanAddStarted, StartedAdded};
+ghost use Rattle.orders.specs.Windows.{drawing, CanAddStarted, StartedAdded};
+
+// A window: of the first `held` charges those with a start from `low` up to `high`.
+pub struct Window {
+    pub held: usize,
+    pub low: u32,
+    pub high: u32,
+}
 
 // Whether a start is not before `low` and before `high`.
 fn is_between(low: u32, high: u32, start: u32) -> bool
@@ -16,25 +23,28 @@ fn is_between(low: u32, high: u32, start: u32) -> bool
     if low <= start { start < high } else { false }
 }
 
-// Adds the charges with a start from `low` up to `high`. The answer: the number of steps.
-pub fn add_started(
+// Adds the charges of a window. Of all held ones what they draw is lent. The answer: the number of steps.
+pub fn add_started<'a>(
     at: &mut [u32; STEPS],
     counts: &mut [u32; COLUMNS * STEPS],
     n: usize,
-    held: Charges,
-    low: u32,
-    high: u32,
+    lines: &'a [u32; PLACES],
+    active_times: &'a [u32; PLACES],
+    starts: &'a [u32; PLACES],
+    rates: &'a [u32; PLACES],
+    window: Window,
 ) -> usize
-    requires { ⌜ CanAddStarted (profileOf n (now at) (now counts)) held low high ⌝ }
-    ensures { λ r. ⌜ StartedAdded (profileOf n (now (at .entry)) (now (counts .entry))) (profileOf r (now (at .exit)) (now (counts .exit))) held low high ⌝ }
+    requires { ⌜ CanAddStarted (profileOf n (now at) (now counts)) (drawing (window .held) (now lines) (now «active_times») (now starts) (now rates)) (window .low) (window .high) ⌝ }
+    ensures { λ r. ⌜ StartedAdded (profileOf n (now (at .entry)) (now (counts .entry))) (profileOf r (now (at .exit)) (now (counts .exit))) (drawing (window .held) (now (lines .entry)) (now («active_times» .entry)) (now (starts .entry)) (now (rates .entry))) (window .low) (window .high) ⌝ }
 {
+    let held = window.held;
     let mut steps = n;
-    for i in 0..held.held {
-        let start = held.starts[i];
-        if is_between(low, high, start) {
-            let line = held.lines[i];
-            let time = held.active_times[i];
-            let rate = held.rates[i];
+    for i in 0..held {
+        let start = starts[i];
+        if is_between(window.low, window.high, start) {
+            let line = lines[i];
+            let time = active_times[i];
+            let rate = rates[i];
             steps = add(at, counts, steps, line, time, rate, start);
         }
     }

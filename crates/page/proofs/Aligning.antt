@@ -11,14 +11,10 @@ use Rattle.text.specs.Numbers.{decimal}
 use Rattle.text.specs.Printed.{Printed}
 use Rattle.text.proofs.Values.{decimal-small, decimal-more, decimal-longer}
 use Rattle.text.proofs.Printing.{printed-byte, printed-then}
+pub use Rattle.text.proofs.Printing.{printed-as}
 use Rattle.rules.proofs.Ranges.{below-or-not}
 use Rattle.page.specs.Lines.{spaces, atRight, atLeft, column}
 use Rattle.page.specs.Lined.{Fits}
-
--- what was printed is the text that was to be printed: a function's proof ends in this equation of two texts
-pub printed-as :
-    {xs ys before : List ℕ} {at : ℕ} {after : List ℕ} {next : ℕ} → Printed xs before at after next → xs ≡ ys → Printed ys before at after next
-printed-as p e = rw e at p
 
 -- one space more
 pub spaces-more : (n : ℕ) → spaces (n + 1) ≡ spaces n ++ (32 ∷ [])
@@ -33,11 +29,12 @@ length-spaces zero = refl
 length-spaces (suc n) = ap suc (length-spaces n)
 
 pub printed-space :
-    (before : List ℕ) (at i : ℕ) (after : List ℕ) → at + i < length after → Printed (spaces i) before at after (at + i)
-    → Printed (spaces (i + 1)) before at (set after (at + i) 32) (at + (i + 1))
-printed-space before at i after r p =
+    (before : List ℕ) (at i : ℕ) (after : List ℕ) {byte : ℕ} → byte ≡ 32 → at + i < length after
+    → Printed (spaces i) before at after (at + i)
+    → Printed (spaces (i + 1)) before at (set after (at + i) byte) (at + (i + 1))
+printed-space before at i after b r p =
     let e : at + (i + 1) ≡ at + i + 1 = omega arith in
-    rw (e, spaces-more i) (printed-then p (printed-byte 32 after (at + i) r))
+    rw (e, spaces-more i, b) (printed-then p (printed-byte 32 after (at + i) r))
 
 -- a text that fits fills its column
 pub length-right : (width : ℕ) (text : List ℕ) → length text ≤ width → length (atRight width text) ≡ width
@@ -82,19 +79,19 @@ module _ (n width : ℕ) where
 
   -- a number of one digit, behind spaces
   pub printed-small :
-      (before : List ℕ) (at : ℕ) (after : List ℕ) (next : ℕ) → n < 10 → next < length after
+      (before : List ℕ) (at : ℕ) (after : List ℕ) (next : ℕ) {place : ℕ} → place ≡ next → n < 10 → next < length after
       → Printed (spaces (width - 1)) before at after next
-      → Printed (atRight width (decimal n)) before at (set after next (48 + n)) (next + 1)
-  printed-small before at after next h r p =
-      printed-as (printed-then p (printed-byte (48 + n) after next r)) (right-small h)
+      → Printed (atRight width (decimal n)) before at (set after place (48 + n)) (next + 1)
+  printed-small before at after next e h r p =
+      rw e (printed-as (printed-then p (printed-byte (48 + n) after next r)) (right-small h))
 
   -- one digit more
   pub printed-more :
-      (before : List ℕ) (at : ℕ) (after : List ℕ) (next : ℕ) → 10 ≤ n → n < 2 ^ 64 → next < length after
+      (before : List ℕ) (at : ℕ) (after : List ℕ) (next : ℕ) {place : ℕ} → place ≡ next → 10 ≤ n → n < 2 ^ 64 → next < length after
       → Printed (atRight (width - 1) (decimal (n / 10))) before at after next
-      → Printed (atRight width (decimal n)) before at (set after next (48 + n % 10)) (next + 1)
-  printed-more before at after next h l r p =
-      printed-as (printed-then p (printed-byte (48 + n % 10) after next r)) (right-more h l)
+      → Printed (atRight width (decimal n)) before at (set after place (48 + n % 10)) (next + 1)
+  printed-more before at after next e h l r p =
+      rw e (printed-as (printed-then p (printed-byte (48 + n % 10) after next r)) (right-more h l))
 
 -- the numbers of a row have no more digits than their columns have places
 module _ {ticket line start end : ℕ} (f : Fits ticket line start end) where

@@ -4,11 +4,16 @@ use mathlib.Core.Bool.{Bool, true, _&&_}
 use mathlib.Core.List.{List, [], _∷_, _++_}
 use Prim.Native.Nat.{ℕ}
 use lib.Dec.{eqb}
+use Rattle.rules.specs.Load.{limited, balanced, sound}
+use Rattle.rules.specs.Search.{earliest}
+use Rattle.rules.specs.Calls.{settings, State, opening, committing, run}
+use Rattle.rules.specs.Entry.{stateAfter}
+use Rattle.rules.specs.CasesAToL.{ordersE}
 use Rattle.text.specs.Numbers.{digitsWithin}
 use Rattle.text.specs.Parts.{sameText}
-use Rattle.page.specs.Lines.{rowOf, blank, noStation}
-use Rattle.page.specs.Pages.{texts, rowAt, rows, page, pageCount, pages}
-use Rattle.page.specs.Cases.{casesOfRows, caseE, caseELines}
+use Rattle.page.specs.Lines.{rowOf, blank}
+use Rattle.page.specs.Pages.{texts, rowAt, rows, page, pageCount, pages, pagesOf}
+use Rattle.page.specs.Cases.{stationE, casesOfRows, caseELines}
 
 abbrev eachSame : List (List ℕ × List ℕ) → Bool
 eachSame [] = true
@@ -18,8 +23,15 @@ pub rows-hold : eachSame casesOfRows ≡ true
 unfolding sameText rowOf digitsWithin
 rows-hold = refl
 
+abbrev openedE : State
+openedE = opening (settings 2 50 0) .state
+
+pub e-reached : stateAfter openedE (run openedE ordersE) ≡ stationE
+unfolding limited balanced sound earliest opening committing
+e-reached = refl
+
 -- case e before the move: the heading, six rows, and 18 unused ones
-pub page-holds : sameText (pages 0 caseE) (caseELines ++ texts (λ i. blank) 18) ≡ true
+pub page-holds : sameText (pagesOf stationE) (caseELines ++ texts (λ i. blank) 18) ≡ true
 unfolding sameText rowOf digitsWithin texts rowAt rows page pageCount pages
 page-holds = refl
 

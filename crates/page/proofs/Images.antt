@@ -1,8 +1,7 @@
 -- Images printed: that of case e, and two that are refused.
-use mathlib.Core.Path.{_≡_, refl, _∙_}
-use mathlib.Core.List.{List, [], _++_}
+use mathlib.Core.Path.{_≡_, refl}
+use mathlib.Core.List.{[]}
 use native.Mathlib.Omega.{arith}
-use lib.ListN.{length}
 use Rattle.rules.specs.Load.{limited, balanced, sound}
 use Rattle.layout.specs.Lists.{every}
 use Rattle.layout.specs.Image.{imageOf}

@@ -1,8 +1,13 @@
 pub mod Cases
 pub mod Aligning
+pub mod Characters
 pub mod Paging
+pub mod Counting
 pub mod Walling
 pub mod Images
 pub mod Lining
+pub mod LinedPages
 pub mod Rowing
+pub mod Standing
+pub mod TicketsShown
 pub mod Showing

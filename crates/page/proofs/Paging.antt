@@ -1,13 +1,12 @@
--- Texts one behind another, and how many pages there are.
+-- Texts one behind another: the rows of a page, and all pages.
 use mathlib.Core.Path.{_≡_, refl, sym, ap, _∙_}
-use mathlib.Core.Bool.{Bool, cond}
+use mathlib.Core.Bool.{Bool}
 use mathlib.Core.List.{List, [], _++_}
-use Prim.Native.Nat.{ℕ, zero, suc, _+_, _*_, _/_, _≤_, _<_}
+use Prim.Native.Nat.{ℕ, _+_, _*_, _≤_, _<_}
 use native.Mathlib.Numerals.{add-one}
 use native.Mathlib.Omega.{arith}
-use lib.Dec.{ltb, eqb}
 use lib.ListN.{length, getD}
-use borrow.Author.Tests.{lt-ltb, le-ltb, eq-eqb, ne-eqb}
+use borrow.Author.Tests.{lt-ltb, le-ltb}
 use Rattle.rules.specs.Charge.{Charge, endOf, isBegun}
 use Rattle.rules.specs.Basics.{Each}
 use Rattle.rules.proofs.Lists.{length-tabulate, getD-tabulate, tabulate-each}
@@ -89,14 +88,6 @@ module _ (clock : ℕ) (cs : List Charge) (k : ℕ) where
   pub whole-page : (text : List ℕ) → text ≡ rows clock cs k → heading ++ text ≡ page clock cs k
   unfolding page
   whole-page text e = rw e
-
-pub one-page : (held : ℕ) → held ≡ 0 → pageCount held ≡ 1
-unfolding pageCount
-one-page held e = rw (eq-eqb held 0 e)
-
-pub some-pages : (held : ℕ) → (held ≡ 0 → ⊥) → pageCount held ≡ (held + 23) / 24
-unfolding pageCount
-some-pages held n = rw (ne-eqb held 0 n)
 
 -- all pages
 

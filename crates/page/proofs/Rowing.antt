@@ -1,23 +1,18 @@
 -- "Rows go by ticket": where each row stands.
-use mathlib.Core.Path.{_≡_, refl, sym, ap, _∙_}
-use mathlib.Core.Logic.{_⊎_, inl, inr, ⊎-elim}
-use mathlib.Core.List.{List, [], _∷_, _++_, append-assoc, append-nil}
-use Prim.Native.Nat.{ℕ, zero, suc, _+_, _-_, _*_, _/_, _%_, _≤_, _<_}
+use mathlib.Core.Path.{_≡_, sym, ap, _∙_}
+use mathlib.Core.Logic.{_⊎_, inl, inr}
+use mathlib.Core.List.{List, [], _++_, append-assoc, append-nil}
+use Prim.Native.Nat.{ℕ, zero, suc, _+_, _*_, _/_, _%_, _≤_, _<_}
 use native.Mathlib.Omega.{arith}
-use lib.ListN.{length, take, drop, length-append}
+use lib.ListN.{length}
 use Rattle.rules.specs.Basics.{Each}
 use Rattle.rules.specs.Charge.{Charge}
 use Rattle.rules.proofs.Ranges.{below-or-not}
 use Rattle.page.specs.Lines.{heading}
 use Rattle.page.specs.Pages.{texts, rowAt, rows, page, pageCount, pages}
-use Rattle.page.specs.Lined.{ChargeFits, Lined, no-line, one-more, StandsAt, lineOfRow}
-use Rattle.page.proofs.Paging.{texts-none}
-use Rattle.page.proofs.Lining.{lined-join, heading-lined, texts-lined, row-at-lined, page-lined}
-
--- n lines have 38 bytes each
-pub lined-length : {n : ℕ} {xs : List ℕ} → Lined n xs → length xs ≡ 38 * n
-lined-length no-line = refl
-lined-length (one-more n line rest l c p) = length-append line (10 ∷ rest) ∙ omega (arith, l, lined-length p)
+use Rattle.page.specs.Lined.{ChargeFits, Lined, StandsAt, lineOfRow}
+use Rattle.page.proofs.Lining.{heading-lined}
+use Rattle.page.proofs.LinedPages.{lined-join, texts-lined, row-at-lined, page-lined}
 
 -- one of some texts, between those before it and what follows
 record Between (f : ℕ → List ℕ) (n i : ℕ) : Type 0 where

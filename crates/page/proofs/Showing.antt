@@ -1,111 +1,29 @@
 -- Each charge held stands in exactly one row: its ticket can be read off its line, and off no other.
-use mathlib.Core.Path.{_≡_, refl, sym, ap, _∙_}
+use mathlib.Core.Path.{_≡_, sym, ap, _∙_}
 use mathlib.Core.Logic.{_⊎_, inl, inr, ⊎-elim}
-use mathlib.Core.Bool.{cond}
-use mathlib.Core.List.{List, [], _∷_, _++_, append-assoc}
+use mathlib.Core.List.{List, [], _∷_}
 use Prim.Native.Nat.{ℕ, zero, suc, _+_, _-_, _*_, _/_, _%_, _≤_, _<_}
 use native.Mathlib.Omega.{arith}
-use lib.Dec.{eqb}
-use lib.ListN.{length, take, drop, getD}
-use borrow.Author.Tests.{lt-ltb, le-ltb, ne-eqb}
+use lib.ListN.{length, getD}
 use Rattle.rules.specs.Basics.{Each}
-use Rattle.rules.specs.Charge.{Charge, endOf, isBegun}
+use Rattle.rules.specs.Charge.{Charge}
 use Rattle.rules.specs.Calls.{State}
 use Rattle.rules.specs.Valid.{Rising, ValidState}
-use Rattle.rules.proofs.Lists.{each-append}
 use Rattle.rules.proofs.Ranges.{below-or-not}
 use Rattle.layout.specs.Image.{noCharge, heldAt}
 use Rattle.layout.proofs.Rising.{each-place}
-use Rattle.text.specs.Numbers.{valueFrom, numberOf, digitsWithin, decimal}
-use Rattle.text.specs.declared.number.Number.{Number}
-use Rattle.text.specs.declared.number.Number.the-variants.{Value, NotANumber, TooLarge}
-use Rattle.text.proofs.Values.{read-back}
-use Rattle.page.specs.Lines.{spaces, atRight, atLeft, column, lineOf, heading, stateOf, rowOf, row, blank}
+use Rattle.text.specs.declared.number.Number.the-variants.{Value}
+use Rattle.page.specs.Lines.{heading, row, blank}
 use Rattle.page.specs.Pages.{rowAt, pageCount, pagesOf}
 use Rattle.page.specs.Lined.{ChargeFits, Lined, StandsAt, lineOfRow}
-use Rattle.page.proofs.Aligning.{length-right, ticket-digits}
-use Rattle.page.proofs.Paging.{row-held, row-unused, row-fits}
+use Rattle.page.proofs.Counting.{pages-enough}
+use Rattle.page.proofs.Paging.{row-held, row-unused}
 use Rattle.page.proofs.Walling.{valid-fits}
-use Rattle.page.proofs.Lining.{heading-lined, row-at-lined, pages-enough}
-use Rattle.page.proofs.Rowing.{lined-length, heading-stands, row-stands}
-
--- Line j of a text
-
-front-taken : (xs ys : List ℕ) → take (length xs) (xs ++ ys) ≡ xs
-front-taken [] ys = refl
-front-taken (x ∷ xs) ys = ap (λ (l : List ℕ). x ∷ l) (front-taken xs ys)
-
-front-dropped : (xs ys : List ℕ) → drop (length xs) (xs ++ ys) ≡ ys
-front-dropped [] ys = refl
-front-dropped (x ∷ xs) ys = front-dropped xs ys
-
-line-read : {line text : List ℕ} (j : ℕ) → Lined 1 line → StandsAt j line text → take 38 (drop (38 * j) text) ≡ line
-line-read {line} {text} j l s =
-    let f : 38 * j ≡ length (s .front) = sym (lined-length (s .behind)) in
-    let n : 38 ≡ length line = sym (lined-length l) in
-    rw (s .is, f, front-dropped (s .front) (line ++ s .rest)) (ap (λ (k : ℕ). take k (line ++ s .rest)) n ∙ front-taken line (s .rest))
-
-pub same-line : {a b text : List ℕ} (j : ℕ) → Lined 1 a → Lined 1 b → StandsAt j a text → StandsAt j b text → a ≡ b
-same-line j la lb sa sb = sym (line-read j la sa) ∙ line-read j lb sb
-
--- The ticket of a line
-
-abbrev afterSpaces : List ℕ → List ℕ
-afterSpaces [] = []
-afterSpaces (b ∷ bs) = cond (eqb b 32) (afterSpaces bs) (b ∷ bs)
-
-abbrev pub ticketIn : List ℕ → Number
-ticketIn line = numberOf (afterSpaces (take 6 line))
-
-no-spaces : (xs : List ℕ) → Each (λ b. 48 ≤ b) xs → afterSpaces xs ≡ xs
-no-spaces [] e = refl
-no-spaces (b ∷ bs) e = rw (ne-eqb b 32 (λ f. omega (arith, e .0)))
-
-spaces-passed : (n : ℕ) (xs : List ℕ) → afterSpaces (spaces n ++ xs) ≡ afterSpaces xs
-spaces-passed zero xs = refl
-spaces-passed (suc n) xs = spaces-passed n xs
-
-digits-high : (k n : ℕ) → Each (λ b. 48 ≤ b) (digitsWithin k n)
-unfolding digitsWithin
-digits-high zero n = tt
-digits-high (suc k) n =
-    ⊎-elim
-    (λ h. rw (lt-ltb n 10 h) (omega arith, tt))
-    (λ h. rw (le-ltb n 10 h) (each-append (λ (b : ℕ). 48 ≤ b) (digitsWithin k (n / 10)) ((48 + n % 10) ∷ []) (digits-high k (n / 10)) (omega arith, tt)))
-    (below-or-not n 10)
-
-front-column : (xs more : List ℕ) → length xs ≡ 6 → take 6 ((xs ++ (32 ∷ [])) ++ more) ≡ xs
-front-column xs more e =
-    rw (append-assoc xs (32 ∷ []) more) (ap (λ (k : ℕ). take k (xs ++ (32 ∷ more))) (sym e) ∙ front-taken xs (32 ∷ more))
-
-first-column : (t l s e w : List ℕ) → length t ≤ 6 → take 6 (lineOf t l s e w) ≡ atRight 6 t
-first-column t l s e w h =
-    front-column (atRight 6 t) (column 1 l ++ (column 9 s ++ (column 9 e ++ (atLeft 8 w ++ (10 ∷ []))))) (length-right 6 t h)
-
-pub row-ticket : (clock : ℕ) (c : Charge) → ChargeFits c → ticketIn (row clock c) ≡ Value (c .ticket)
-unfolding rowOf
-row-ticket clock c f =
-    let d : List ℕ = decimal (c .ticket) in
-    ap (λ (l : List ℕ). numberOf (afterSpaces l))
-    (first-column d (decimal (c .line)) (decimal (c .start)) (decimal (endOf c)) (stateOf (isBegun clock c)) (ticket-digits (row-fits f)))
-    ∙ ap numberOf (spaces-passed (6 - length d) d ∙ no-spaces d (digits-high 20 (c .ticket)))
-    ∙ read-back (c .ticket) (omega (arith, f .ticket-small))
-
-heading-none : ticketIn heading ≡ NotANumber
-unfolding numberOf valueFrom
-heading-none = refl
-
-blank-none : ticketIn blank ≡ NotANumber
-unfolding numberOf
-blank-none = refl
-
-abbrev valueOr : Number → ℕ
-valueOr (Value n) = suc n
-valueOr NotANumber = 0
-valueOr TooLarge = 0
-
-not-a-ticket : (n : ℕ) → Value n ≡ NotANumber → ⊥
-not-a-ticket n e = omega (arith, ap valueOr e)
+use Rattle.page.proofs.Lining.{heading-lined}
+use Rattle.page.proofs.LinedPages.{row-at-lined}
+use Rattle.page.proofs.Rowing.{heading-stands, row-stands}
+use Rattle.page.proofs.Standing.{same-line}
+use Rattle.page.proofs.TicketsShown.{ticketIn, row-ticket, heading-none, blank-none, valueOr, not-a-ticket}
 
 -- Tickets rise with the places
 

@@ -34,16 +34,16 @@ grown begun placed x s =
 module _ {clock : ℕ} {c : Charges} {placed : List Charge} {p : Profile} {starts : List ℕ} (h : Listed c)
     (v : PlanShown clock c placed p starts) (i s : ℕ) (low : i < c .held)
     (near : s ≤ max clock (lastUntil (loadsOf (begunOf clock c ++ placed)))) where
-  pub plan-can-add : {rate : ℕ} → length (begunOf clock c) + length placed < 180 → IsRate rate → CanAdd p (chargeAt c i .activeTime) rate s
-  plan-can-add {rate} few rated =
-      shown-can-add (v .shows) (chargeAt c i .activeTime) rate s
+  pub plan-can-add : {time rate : ℕ} → length (begunOf clock c) + length placed < 180 → time ≤ 1445 → IsRate rate → CanAdd p time rate s
+  plan-can-add {time} {rate} few short rated =
+      shown-can-add (v .shows) time rate s
       (omega (
         arith,
         length-loads-of (begunOf clock c ++ placed),
         length-append (begunOf clock c) placed,
       ))
       rated
-      (omega (arith, near, v .ends, h .small i low .active-most))
+      (omega (arith, near, v .ends))
 
   module _ (fresh : Missing (chargeAt c i .ticket) placed) where
     stored-on :
@@ -67,17 +67,18 @@ module _ {clock : ℕ} {c : Charges} {placed : List Charge} {p : Profile} {start
             ∙ sym (getD-set-other starts i k s 0 ne)
 
     pub plan-on :
-        {next : Profile} {rate : ℕ}
-        → LoadAdded p next (chargeAt c i .line) (chargeAt c i .activeTime) rate s
+        {next : Profile} {time rate : ℕ}
+        → LoadAdded p next (chargeAt c i .line) time rate s
+        → time ≡ chargeAt c i .activeTime
         → rate ≡ chargeAt c i .rate
         → PlanShown clock c (placed ++ (starting (chargeAt c i) s ∷ [])) next (set starts i s)
-    plan-on a whole =
+    plan-on a long whole =
         let many : length (placed ++ (starting (chargeAt c i) s ∷ [])) ≡ length placed + 1 =
         length-append placed (starting (chargeAt c i) s ∷ []) in
         record {
           shows =
               rw (grown (begunOf clock c) placed (chargeAt c i) s)
-              (added-shows (h .small i low .is-rate) (rw whole at a) clock (loadsOf (begunOf clock c ++ placed)) (v .shows));
+              (added-shows (h .small i low .is-rate) (rw (long, whole) at a) clock (loadsOf (begunOf clock c ++ placed)) (v .shows));
           stored = stored-on;
           size = length-set starts i s ∙ v .size;
           ends =

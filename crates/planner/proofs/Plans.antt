@@ -13,7 +13,8 @@ use Rattle.rules.proofs.Lists.{each-append}
 use Rattle.charges.specs.declared.Charges.{Charges}
 use Rattle.charges.specs.Held.{Listed}
 use Rattle.charges.specs.declared.places.Places.{Places}
-use Rattle.charges.specs.Places.{placeAt, PlacesIn}
+use Rattle.charges.specs.Places.{placeAt}
+use Rattle.queues.specs.Queues.{PlacesIn}
 use Rattle.charges.proofs.Storing.{zeros}
 use Rattle.profile.specs.declared.Profile.{Profile}
 use Rattle.profile.specs.Shows.{Shows, LoadAdded, CanAdd}
@@ -112,7 +113,7 @@ module _ {find : List Charge → Charge → Found} {clock : ℕ} {c : Charges} {
       pub next-can-add : {rate : ℕ} → IsRate rate → CanAdd p (chargeIn c q k .activeTime) rate s
       next-can-add rated =
           plan-can-add h (v .plan) (placeAt q k) s (next-inside h (u .places) low) (near (v .placed) (chargeIn c q k) s found)
-          (omega (arith, v .many, u .room)) rated
+          (omega (arith, v .many, u .room)) (h .small (placeAt q k) (next-inside h (u .places) low) .active-most) rated
 
       pub next-placed :
           {p′ : Profile} {rate : ℕ}
@@ -128,7 +129,7 @@ module _ {find : List Charge → Charge → Found} {clock : ℕ} {c : Charges} {
             many = length-append (v .placed) (starting (chargeIn c q k) s ∷ []) ∙ ap (λ (m : ℕ). m + 1) (v .many);
             plan =
                 plan-on h (v .plan) (placeAt q k) s (next-inside h (u .places) low) (near (v .placed) (chargeIn c q k) s found)
-                (v .fresh k (omega arith) low) a whole;
+                (v .fresh k (omega arith) low) a refl whole;
             fresh =
                 λ j l m.
                 each-append (λ y. y .ticket ≡ chargeIn c q j .ticket → ⊥) (v .placed) (starting (chargeIn c q k) s ∷ [])

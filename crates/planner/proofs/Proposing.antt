@@ -9,7 +9,7 @@ use Rattle.rules.specs.Replan.{Proposal, starts, none, stuck, placeAll, soundSt
 use Rattle.charges.specs.declared.Charges.{Charges}
 use Rattle.charges.specs.Arrays.{chargesOf, Filled}
 use Rattle.charges.specs.declared.places.Places.{Places}
-use Rattle.charges.specs.Places.{Ordered}
+use Rattle.queues.specs.Queues.{Ordered}
 use Rattle.profile.specs.declared.Profile.{Profile}
 use Rattle.planner.specs.Starts.{waitingCount, WaitingStarts}
 use Rattle.planner.specs.declared.Proposed.{Proposed}

@@ -15,9 +15,10 @@ use Rattle.charges.specs.declared.Charges.{Charges}
 use Rattle.charges.specs.Arrays.{chargeAt, chargesOf}
 use Rattle.charges.specs.Held.{Listed}
 use Rattle.charges.specs.declared.places.Places.{Places}
-use Rattle.charges.specs.Places.{placeAt, PlacesIn, Ordered}
-use Rattle.charges.proofs.Passing.{rising-all}
-use Rattle.charges.proofs.Sorting.{length-sorted}
+use Rattle.charges.specs.Places.{placeAt}
+use Rattle.queues.specs.Queues.{PlacesIn, Ordered}
+use Rattle.charges.proofs.TicketOrder.{rising-all}
+use Rattle.rules.proofs.Sorting.{length-sorted}
 use Rattle.planner.specs.Ready.{begunOf}
 use Rattle.planner.proofs.Showing.{begun-and-waiting}
 

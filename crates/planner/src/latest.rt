@@ -6,6 +6,7 @@ use charges::Charges;
 use charges::PLACES;
 use profile::When;
 use profile::loads::add;
+use queues::by_latest_start;
 use search::start::earliest;
 ghost use Rattle.rules.specs.Load.{limits};
 ghost use Rattle.rules.specs.Replan.{latest as latestOf};
@@ -18,7 +19,7 @@ pub fn latest(charges: Charges, clock: u32, limit: u32, bound: u32) -> Proposed
     requires { ⌜ Ready clock limit bound charges ⌝ }
     ensures { λ r. ⌜ Proposes clock charges (latestOf (limits limit bound) clock (chargesOf charges)) r ⌝ }
 {
-    let queue = charges.by_latest_start(clock);
+    let queue = by_latest_start(charges, clock);
     let begun = profile_before(charges, clock, clock);
     let n = queue.count;
     let mut steps = begun.steps;

@@ -2,102 +2,51 @@
 use mathlib.Core.Logic.{_⊎_, inl, inr, ⊎-elim}
 use mathlib.Core.Path.{_≡_, sym, _∙_}
 use Prim.Native.Nat.{ℕ, _+_, _-_, _*_, _≤_, _<_}
-use mathlib.Core.Bool.{true, false, true≢false}
+use mathlib.Core.Bool.{true, true≢false}
 use mathlib.Core.List.{List}
 use native.Mathlib.Omega.{arith}
 use native.Mathlib.Nat.{mul-le-mul-left, mul-le-mul-right}
-use borrow.Author.Tests.{le-leb, lt-leb}
 use Rattle.rules.proofs.Ranges.{below-or-not}
 use Rattle.rules.proofs.Foremost.{ratio-onwards}
-use Rattle.priority.specs.Chosen.{numberOf, runFor, fitsRun, weightAt, Ahead, FirstFitting, CanWeigh, CanChoose, Choice}
+use Rattle.priority.specs.declared.crowd.Crowd.{Crowd}
+use Rattle.priority.specs.Numbers.{Numbers, numberOf}
+use Rattle.priority.specs.Chosen.{fitsRun, weightAt, Ahead, FirstFitting, CanWeigh, CanChoose, Choice}
 use Rattle.priority.proofs.Weighing.{slack-falls}
 
--- The first that fits
-
-pub record NoneYet (times rates left : List ℕ) (n one two from j : ℕ) : Type 0 where
-  pub low : from ≤ j
-  pub high : j ≤ n
-  pub passed : (i : ℕ) → from ≤ i → i < j → fitsRun times rates left one two i ≡ false
-
-pub none-more :
-    {times rates left : List ℕ} {n one two from j : ℕ}
-    → NoneYet times rates left n one two from j
-    → {run : ℕ}
-    → run ≡ runFor one two (numberOf rates left j)
-    → run < numberOf times left j
-    → j < n
-    → NoneYet times rates left n one two from (j + 1)
-none-more {times} {rates} {left} {one = one} {two = two} {j = j} w same short h =
-    record {
-      low = omega (arith, w .low);
-      high = omega arith;
-      passed = λ i a b.
-          ⊎-elim (λ l. w .passed i a l) (λ l. let q : i ≡ j = omega arith in rw q e) (below-or-not i j);
-    }
-  where
-    e : fitsRun times rates left one two j ≡ false
-    e = lt-leb (numberOf times left j) (runFor one two (numberOf rates left j)) (omega (arith, same))
-
-pub fits-here :
-    {times rates left : List ℕ} {n one two from j : ℕ}
-    → NoneYet times rates left n one two from j
-    → {run : ℕ}
-    → run ≡ runFor one two (numberOf rates left j)
-    → numberOf times left j ≤ run
-    → FirstFitting times rates left n one two from j
-fits-here {times} {rates} {left} {one = one} {two = two} {j = j} w same long =
-    record {
-      low = w .low;
-      high = w .high;
-      passed = w .passed;
-      here = λ l. le-leb (numberOf times left j) (runFor one two (numberOf rates left j)) (omega (arith, same));
-    }
-
-pub fits-nowhere :
-    {times rates left : List ℕ} {n one two from j : ℕ}
-    → NoneYet times rates left n one two from j
-    → n ≤ j
-    → from ≤ n
-    → FirstFitting times rates left n one two from n
-fits-nowhere w e f =
-    record { low = f; high = omega arith; passed = λ i a b. w .passed i a (omega arith); here = λ l. absurd (omega arith) }
-
--- The charge that is taken
-
 -- the best of those that fit among the first j; the j-th is the next that fits
-pub record BestSoFar (times actives dues rates left : List ℕ) (n number total start one two best time weight j : ℕ) : Type 0 where
+pub record BestSoFar (q : Numbers) (left : List ℕ) (n : ℕ) (c : Crowd) (start one two best time weight j : ℕ) : Type 0 where
   pub before : best < j
   pub high : j ≤ n
-  pub fits : fitsRun actives rates left one two best ≡ true
-  pub time-is : time ≡ numberOf times left best
-  pub weight-is : weight ≡ weightAt times dues left number total start best
+  pub fits : fitsRun q left one two best ≡ true
+  pub time-is : time ≡ numberOf (q .times) left best
+  pub weight-is : weight ≡ weightAt q left c start best
   pub ahead :
       (i : ℕ)
       → i < j
-      → fitsRun actives rates left one two i ≡ true
+      → fitsRun q left one two i ≡ true
       → (i ≡ best → ⊥)
-      → Ahead (weightAt times dues left number total start) (numberOf times left) best i
-  pub here : j < n → fitsRun actives rates left one two j ≡ true
+      → Ahead (weightAt q left c start) (numberOf (q .times) left) best i
+  pub here : j < n → fitsRun q left one two j ≡ true
 
 pub can-weigh :
-    {times dues left : List ℕ} {n number total shortest j : ℕ}
-    → CanChoose times dues left n number total shortest
+    {q : Numbers} {left : List ℕ} {n : ℕ} {c : Crowd} {j : ℕ}
+    → CanChoose q left n c
     → j < n
-    → CanWeigh dues left number total j
+    → CanWeigh q left c j
 can-weigh {j = j} can h =
     record {
-      low = omega (arith, can .can-fit .few);
-      inside = can .can-fit .inside j h;
-      due-most = can .dues-most j h;
+      low = omega (arith, can .range .can-fit .few);
+      inside = can .range .can-fit .inside j h;
+      due-most = can .range .dues-most j h;
       number-most = can .number-most;
       total-low = can .total-low;
     }
 
 pub none-fits :
-    {times actives dues rates left : List ℕ} {n number total start one two r : ℕ}
-    → FirstFitting actives rates left n one two 0 r
+    {q : Numbers} {left : List ℕ} {n : ℕ} {c : Crowd} {start one two r : ℕ}
+    → FirstFitting q left n one two 0 r
     → n ≤ r
-    → Choice times actives dues rates left n number total start one two n
+    → Choice q left n c start one two n
 none-fits f h =
     record {
       high = omega arith;
@@ -107,13 +56,13 @@ none-fits f h =
     }
 
 pub best-first :
-    {times actives dues rates left : List ℕ} {n number total start one two best time weight j : ℕ}
-    → FirstFitting actives rates left n one two 0 best
+    {q : Numbers} {left : List ℕ} {n : ℕ} {c : Crowd} {start one two best time weight j : ℕ}
+    → FirstFitting q left n one two 0 best
     → best < n
-    → FirstFitting actives rates left n one two (best + 1) j
-    → time ≡ numberOf times left best
-    → weight ≡ weightAt times dues left number total start best
-    → BestSoFar times actives dues rates left n number total start one two best time weight j
+    → FirstFitting q left n one two (best + 1) j
+    → time ≡ numberOf (q .times) left best
+    → weight ≡ weightAt q left c start best
+    → BestSoFar q left n c start one two best time weight j
 best-first {best = best} f low g t w =
     record {
       before = omega (arith, g .low);
@@ -129,16 +78,16 @@ best-first {best = best} f low g t w =
       here = g .here;
     }
 
-module _ {times actives dues rates left : List ℕ} {n number total start one two best time weight j : ℕ}
-    (b : BestSoFar times actives dues rates left n number total start one two best time weight j) where
+module _ {q : Numbers} {left : List ℕ} {n : ℕ} {c : Crowd} {start one two best time weight j : ℕ}
+    (b : BestSoFar q left n c start one two best time weight j) where
   abbrev W : ℕ → ℕ
-  W = weightAt times dues left number total start
+  W = weightAt q left c start
 
   abbrev T : ℕ → ℕ
-  T = numberOf times left
+  T = numberOf (q .times) left
 
   -- no other fits
-  pub best-done : n ≤ j → Choice times actives dues rates left n number total start one two best
+  pub best-done : n ≤ j → Choice q left n c start one two best
   best-done h =
       record {
         high = omega (arith, b .before, b .high);
@@ -147,8 +96,8 @@ module _ {times actives dues rates left : List ℕ} {n number total start one tw
         ahead = λ l i k e ne. b .ahead i (omega arith) e ne;
       }
 
-  module _ {shortest next heavy : ℕ} (can : CanChoose times dues left n number total shortest) (more : j < n)
-      (next-is : next ≡ numberOf times left j) (heavy-is : heavy ≡ weightAt times dues left number total start j) where
+  module _ {next heavy : ℕ} (can : CanChoose q left n c) (more : j < n)
+      (next-is : next ≡ numberOf (q .times) left j) (heavy-is : heavy ≡ weightAt q left c start j) where
     not-heavier : heavy * time ≤ weight * next → Ahead W T best j
     not-heavier h =
         ⊎-elim
@@ -160,7 +109,7 @@ module _ {times actives dues rates left : List ℕ} {n number total start one tw
         h′ = rw (← heavy-is, ← (b .weight-is), ← (b .time-is), ← next-is) h
 
     -- no later one is heavier for its time
-    pub best-stop : heavy * time ≤ weight * shortest → Choice times actives dues rates left n number total start one two best
+    pub best-stop : heavy * time ≤ weight * c .shortest → Choice q left n c start one two best
     best-stop h =
         record {
           high = omega (arith, b .before, b .high);
@@ -169,12 +118,12 @@ module _ {times actives dues rates left : List ℕ} {n number total start one tw
           ahead = λ l i k e ne. ⊎-elim (λ a. b .ahead i a e ne) (λ a. later i k a) (below-or-not i j);
         }
       where
-        h′ : W j * T best ≤ W best * shortest
+        h′ : W j * T best ≤ W best * c .shortest
         h′ = rw (← heavy-is, ← (b .weight-is), ← (b .time-is)) h
 
         falls : (i : ℕ) → j ≤ i → i < n → W i ≤ W j
         falls i a k =
-            slack-falls (numberOf dues left j - (start + T j)) (numberOf dues left i - (start + T i)) number total (can .total-low)
+            slack-falls (numberOf (q .dues) left j - (start + T j)) (numberOf (q .dues) left i - (start + T i)) (c .number) (c .total) (can .total-low)
             (⊎-elim
             (λ less. omega (arith, can .in-order j i less k))
             (λ same. let e : i ≡ j = omega arith in rw e (omega arith))
@@ -183,15 +132,15 @@ module _ {times actives dues rates left : List ℕ} {n number total start one tw
         later : (i : ℕ) → i < n → j ≤ i → Ahead W T best i
         later i k a =
             let one : W i * T best ≤ W j * T best = mul-le-mul-right (T best) (falls i a k) in
-            let two : W best * shortest ≤ W best * T i = mul-le-mul-left (W best) (can .shortest-low i k) in
+            let two : W best * c .shortest ≤ W best * T i = mul-le-mul-left (W best) (can .shortest-low i k) in
             ⊎-elim
             (λ l. inl l)
             (λ l. inr (omega (arith, one, two, h′), omega (arith, b .before)))
             (below-or-not (W i * T best) (W best * T i))
 
-    module _ {after : ℕ} (g : FirstFitting actives rates left n one two (j + 1) after) where
+    module _ {after : ℕ} (g : FirstFitting q left n one two (j + 1) after) where
       -- those between the j-th and the next that fits do not fit
-      looked : (i : ℕ) → i < after → fitsRun actives rates left one two i ≡ true → (i < j) ⊎ (i ≡ j)
+      looked : (i : ℕ) → i < after → fitsRun q left one two i ≡ true → (i < j) ⊎ (i ≡ j)
       looked i a e =
           ⊎-elim
           (λ l. inl l)
@@ -204,7 +153,7 @@ module _ {times actives dues rates left : List ℕ} {n number total start one tw
 
       pub best-stays :
           heavy * time ≤ weight * next
-          → BestSoFar times actives dues rates left n number total start one two best time weight after
+          → BestSoFar q left n c start one two best time weight after
       best-stays h =
           record {
             before = omega (arith, b .before, g .low);
@@ -219,7 +168,7 @@ module _ {times actives dues rates left : List ℕ} {n number total start one tw
 
       pub best-moves :
           weight * next < heavy * time
-          → BestSoFar times actives dues rates left n number total start one two j next heavy after
+          → BestSoFar q left n c start one two j next heavy after
       best-moves h =
           record {
             before = omega (arith, g .low);
@@ -240,10 +189,10 @@ module _ {times actives dues rates left : List ℕ} {n number total start one tw
               (λ a. a)
               (λ a.
               absurd
-              (omega (arith, h′, ratio-onwards (W j) (T j) (W i) (T i) (W best) (T best) (can .times-low i (omega arith)) a m)))
+              (omega (arith, h′, ratio-onwards (W j) (T j) (W i) (T i) (W best) (T best) (can .range .short i (omega arith) .0) a m)))
               (below-or-not (W i * T j) (W j * T i))
 
-          earlier : (i : ℕ) → i < j → fitsRun actives rates left one two i ≡ true → W i * T j < W j * T i
+          earlier : (i : ℕ) → i < j → fitsRun q left one two i ≡ true → W i * T j < W j * T i
           earlier i l e = split (below-or-not i best) (below-or-not best i)
             where
               not-best : (i ≡ best → ⊥) → W i * T j < W j * T i

@@ -1,3 +1,4 @@
 pub mod Weighing
+pub mod Passing
 pub mod Choosing
 pub mod Crowding

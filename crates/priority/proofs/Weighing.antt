@@ -1,6 +1,7 @@
 -- Weights fall with the slack; and the products that are compared are numbers of 64 bits.
 use mathlib.Core.Logic.{_⊎_, inl, inr}
-use mathlib.Core.Path.{_≡_, refl, ap, subst⁻¹}
+use mathlib.Core.Path.{_≡_, refl, sym, ap, subst⁻¹, _∙_}
+use mathlib.Core.Bool.{true}
 use mathlib.Core.List.{List}
 use lib.ListN.{getD}
 use Prim.Native.Nat.{ℕ, zero, suc, _+_, _-_, _*_, _/_, _^_, _≤_, _<_}
@@ -8,9 +9,10 @@ use native.Mathlib.Omega.{arith}
 use native.Mathlib.Nat.{le-of-lt, lt-of-le-of-lt, mul-le-mul, mul-le-mul-left, mul-le-mul-right, mul-lt-mul-of-pos-right, zero-div, zero-mul}
 use lib.Ieee.Nearest.{div-mono}
 use lib.Pow.{pow-pos, pow-add}
-use Rattle.rules.specs.Priority.{fading, weights, weightOf}
+use lib.Seq.{ext-getD}
+use Rattle.rules.specs.Priority.{fading, weights, weightOf, keepsTheRule}
 use Rattle.rules.proofs.Ranges.{below-or-not}
-use Rattle.rules.proofs.Weights.{weight-within, weight-beyond}
+use Rattle.rules.proofs.Weights.{keeps-rule, weights-table, weight-within, weight-beyond, table-weight}
 
 -- 256 × m × n
 pub scaled-fits : {m n : ℕ} → m ≤ 2000000 → n ≤ 180 → 256 * m * n < 2 ^ 64
@@ -22,11 +24,21 @@ scaled-fits {m} {n} h j =
 pub no-slack : (m n p : ℕ) → m ≡ 0 → 256 * m * n / p ≡ 0
 no-slack m n p e = rw (e, zero-mul n) (zero-div p)
 
+-- a weight, by what k comes to
+pub weighs : {r k l : ℕ} → r ≡ weightOf k → k ≡ l → r ≡ weightOf l
+weighs e f = rw f at e
+
 -- the product of two numbers of k bits has at most k + k
 pub product-fits : (k : ℕ) {a b : ℕ} → a < 2 ^ k → b < 2 ^ k → a * b < 2 ^ (k + k)
 product-fits k {a} {b} ha hb =
     subst⁻¹ (λ (n : ℕ). a * b < n) (pow-add 2 k k)
     (lt-of-le-of-lt (mul-le-mul-left a (le-of-lt hb)) (mul-lt-mul-of-pos-right ha (pow-pos k)))
+
+-- a table that passes the test of the rules is theirs
+pub table-kept : (table : List ℕ) → keepsTheRule table ≡ true → table ≡ weights
+unfolding weightOf
+table-kept table e =
+    ext-getD 0 table weights (keeps-rule table e .size ∙ sym (weights-table .size)) (λ k h. table-weight table e k)
 
 -- the weight stands in the table
 pub table-at : (table : List ℕ) (k : ℕ) → table ≡ weights → getD table k 0 ≡ weightOf k

@@ -1,44 +1,60 @@
 -- The charges left on a line, taken together.
-use mathlib.Core.Logic.{_⊎_}
 use mathlib.Core.Path.{_≡_}
-use Prim.Native.Nat.{ℕ, zero, suc, _+_, _≤_, _<_}
+use Prim.Native.Nat.{ℕ, zero, suc, _+_, min, max, _≤_, _<_}
 use mathlib.Core.List.{List}
-use Rattle.priority.specs.Chosen.{numberOf}
+use Rattle.priority.specs.Numbers.{Numbers, numberOf}
+use Rattle.priority.specs.declared.crowd.Span.{Span}
+use Rattle.priority.specs.declared.crowd.Crowd.{Crowd}
 
 -- the first n numbers summed
 abbrev pub sumOf : (ℕ → ℕ) → ℕ → ℕ
 sumOf f zero = 0
 sumOf f (suc k) = sumOf f k + f k
 
--- charging times, or active ones
-abbrev pub ShortTimes : List ℕ → List ℕ → ℕ → Type 0
-ShortTimes times left n = (j : ℕ) → j < n → (1 ≤ numberOf times left j) × (numberOf times left j ≤ 1445)
+-- one more time; a longest time of 0 is that of none
+pub record Widened (s : Span) (time : ℕ) (r : Span) : Type 0 where
+  pub none : s .longest ≡ 0 → (r .shortest ≡ time) × (r .longest ≡ time)
+  pub some : 1 ≤ s .longest → s .shortest ≤ s .longest → (r .shortest ≡ min (s .shortest) time) × (r .longest ≡ max (s .longest) time)
 
--- r is the longer of `most` and the time, if the rates are the same
-pub record Longer (rate other time most r : ℕ) : Type 0 where
-  pub low : most ≤ r
-  pub same : rate ≡ other → time ≤ r
-  pub one : (r ≡ most) ⊎ (r ≡ time)
+-- one more charge
+pub record Joined (c : Crowd) (time active rate : ℕ) (r : Crowd) : Type 0 where
+  pub number : r .number ≡ c .number + 1
+  pub total : r .total ≡ c .total + time
+  pub shortest : r .shortest ≡ min (c .shortest) time
+  pub one : rate ≡ 1 → Widened (c .one) active (r .one) × (r .two ≡ c .two)
+  pub two : (rate ≡ 1 → ⊥) → Widened (c .two) active (r .two) × (r .one ≡ c .one)
 
--- no charge of the rate is longer
-pub record LongestOf (times rates left : List ℕ) (n rate r : ℕ) : Type 0 where
-  pub most : r ≤ 1445
-  pub each : (j : ℕ) → j < n → rate ≡ numberOf rates left j → numberOf times left j ≤ r
-
--- r is the shorter of `least` and the time, if the rates are the same; a `least` of 0 is none
-pub record Shorter (rate other time least r : ℕ) : Type 0 where
-  pub kept : 1 ≤ least → (1 ≤ time → 1 ≤ r) × (r ≤ least)
-  pub same : rate ≡ other → (1 ≤ time → 1 ≤ r) × (r ≤ time)
-  pub one : (r ≡ least) ⊎ ((r ≡ time) × (rate ≡ other))
-
--- a charge with this rate and time
-pub record Found (times rates left : List ℕ) (n rate time : ℕ) : Type 0 where
+-- a charge with this rate and active time
+pub record Found (q : Numbers) (left : List ℕ) (n rate time : ℕ) : Type 0 where
   pub who : ℕ
   pub inside : who < n
-  pub rate-is : rate ≡ numberOf rates left who
-  pub time-is : time ≡ numberOf times left who
+  pub rate-is : rate ≡ numberOf (q .rates) left who
+  pub time-is : time ≡ numberOf (q .actives) left who
 
--- no charge of the rate is shorter, and one is so short; 0 where there is none
-pub record ShortestOf (times rates left : List ℕ) (n rate r : ℕ) : Type 0 where
-  pub each : (j : ℕ) → j < n → rate ≡ numberOf rates left j → (1 ≤ r) × (r ≤ numberOf times left j)
-  pub found : 1 ≤ r → Found times rates left n rate r
+-- no charge of the rate is shorter or longer, and one is as short as that; 0 where there is none
+pub record SpanOf (q : Numbers) (left : List ℕ) (n rate : ℕ) (r : Span) : Type 0 where
+  pub most : r .longest ≤ 1445
+  pub in-order : r .shortest ≤ r .longest
+  pub each :
+      (j : ℕ)
+      → j < n
+      → rate ≡ numberOf (q .rates) left j
+      → (1 ≤ r .shortest) × (r .shortest ≤ numberOf (q .actives) left j) × (numberOf (q .actives) left j ≤ r .longest)
+  pub found : 1 ≤ r .longest → Found q left n rate (r .shortest)
+
+-- the times of those left
+pub record TimesOf (q : Numbers) (left : List ℕ) (n : ℕ) (r : Crowd) : Type 0 where
+  pub one : SpanOf q left n 1 (r .one)
+  pub two : SpanOf q left n 2 (r .two)
+  pub shortest-low : (j : ℕ) → j < n → r .shortest ≤ numberOf (q .times) left j
+
+pub record CrowdOf (q : Numbers) (left : List ℕ) (n : ℕ) (r : Crowd) : Type 0 where
+  pub number : r .number ≡ n
+  pub total : r .total ≡ sumOf (numberOf (q .times) left) n
+  pub times : TimesOf q left n r
+
+-- number and sum stay, and the times are of those left
+pub record Narrowed (q : Numbers) (left : List ℕ) (n : ℕ) (c r : Crowd) : Type 0 where
+  pub number : r .number ≡ c .number
+  pub total : r .total ≡ c .total
+  pub times : TimesOf q left n r

@@ -1,2 +1,3 @@
-pub mod Chosen
+pub mod Numbers
 pub mod Crowds
+pub mod Chosen

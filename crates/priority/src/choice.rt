@@ -1,12 +1,19 @@
 // The charges left on a line, in the order of d − p, then ticket: those that fit at a start, and the one that is taken.
-use crate::table;
-use crate::urgency;
+use crate::columns::ACTIVE_TIMES;
+use crate::columns::Columns;
+use crate::columns::DUES;
+use crate::columns::RATES;
+use crate::columns::TIMES;
+use crate::crowd::Crowd;
+use crate::table::table;
+use crate::weight::urgency;
 use charges::PLACES;
 ghost use mathlib.Core.Path.{_≡_};
 ghost use Prim.Native.Nat.{_*_, _≤_};
 ghost use lib.Dec.{ltb};
 ghost use Rattle.rules.specs.Priority.{weights as weightsOf};
-ghost use Rattle.priority.specs.Chosen.{runFor, FirstFitting, CanFit, CanWeigh, WeighedAt, CanChoose, Choice};
+ghost use Rattle.priority.specs.Numbers.{numbersIn, CanFit};
+ghost use Rattle.priority.specs.Chosen.{runFor, FirstFitting, CanWeigh, WeighedAt, CanChoose, Choice};
 
 fn run_for(one: u32, two: u32, rate: u32) -> u32
     ensures { λ r. ⌜ r ≡ runFor one two rate ⌝ }
@@ -16,21 +23,22 @@ fn run_for(one: u32, two: u32, rate: u32) -> u32
 
 // The first of them, from the given one on, that is no longer than the run of minutes with room for its rate; n where
 // there is none.
-pub fn fitting<'a>(
-    times: &'a [u32; PLACES],
-    rates: &'a [u32; PLACES],
-    left: &'a [usize; PLACES],
+pub fn fitting<'a, 'b>(
+    columns: Columns<'a>,
+    left: &'b [usize; PLACES],
     n: usize,
     one: u32,
     two: u32,
     from: usize,
 ) -> usize
     requires { ⌜ CanFit (now left) n × (from ≤ n) ⌝ }
-    ensures { λ r. ⌜ FirstFitting (now (times .entry)) (now (rates .entry)) (now (left .entry)) n one two from r ⌝ }
+    ensures { λ r. ⌜ FirstFitting (numbersIn (columns .entry)) (now (left .entry)) n one two from r ⌝ }
 {
+    let active_times = columns[ACTIVE_TIMES];
+    let rates = columns[RATES];
     for j in from..n {
         let i = left[j];
-        if times[i] <= run_for(one, two, rates[i]) {
+        if active_times[i] <= run_for(one, two, rates[i]) {
             return j;
         }
     }
@@ -44,22 +52,22 @@ pub struct Weighed {
 }
 
 // The j-th charge at a start.
-fn weigh<'a>(
-    weights: &'a [u32; 512],
-    times: &'a [u32; PLACES],
-    dues: &'a [u32; PLACES],
-    left: &'a [usize; PLACES],
-    number: u32,
-    total: u32,
+fn weigh<'a, 'b>(
+    weights: &'b [u32; 512],
+    columns: Columns<'a>,
+    left: &'b [usize; PLACES],
+    crowd: Crowd,
     start: u32,
     j: usize,
 ) -> Weighed
-    requires { ⌜ (now weights ≡ weightsOf) × CanWeigh (now dues) (now left) number total j ⌝ }
-    ensures { λ r. ⌜ WeighedAt (now (times .entry)) (now (dues .entry)) (now (left .entry)) number total start j r ⌝ }
+    requires { ⌜ (now weights ≡ weightsOf) × CanWeigh (numbersIn columns) (now left) crowd j ⌝ }
+    ensures { λ r. ⌜ WeighedAt (numbersIn (columns .entry)) (now (left .entry)) crowd start j r ⌝ }
 {
+    let times = columns[TIMES];
+    let dues = columns[DUES];
     let i = left[j];
     let time = times[i];
-    let weight = urgency(weights, dues[i], time, start, number, total);
+    let weight = urgency(weights, dues[i], time, start, crowd.number, crowd.total);
     Weighed { time, weight }
 }
 
@@ -75,40 +83,35 @@ pub fn heavier(weight: u32, time: u32, other_weight: u32, other_time: u32) -> bo
 // "among those that fit there takes the one with the largest weight/p, unrounded, then the smaller d − p, then the smaller
 // ticket"; n where none fits. Weights fall along the order: where the next one would not be heavier for its time even if it
 // were as short as the shortest, no later one is.
-pub fn choose<'a>(
-    times: &'a [u32; PLACES],
-    active_times: &'a [u32; PLACES],
-    dues: &'a [u32; PLACES],
-    rates: &'a [u32; PLACES],
-    left: &'a [usize; PLACES],
+pub fn choose<'a, 'b>(
+    columns: Columns<'a>,
+    left: &'b [usize; PLACES],
     n: usize,
-    number: u32,
-    total: u32,
-    shortest: u32,
+    crowd: Crowd,
     start: u32,
     one: u32,
     two: u32,
 ) -> usize
-    requires { ⌜ CanChoose (now times) (now dues) (now left) n number total shortest ⌝ }
-    ensures { λ r. ⌜ Choice (now (times .entry)) (now («active_times» .entry)) (now (dues .entry)) (now (rates .entry)) (now (left .entry)) n number total start one two r ⌝ }
+    requires { ⌜ CanChoose (numbersIn columns) (now left) n crowd ⌝ }
+    ensures { λ r. ⌜ Choice (numbersIn (columns .entry)) (now (left .entry)) n crowd start one two r ⌝ }
 {
-    let mut best = fitting(active_times, rates, left, n, one, two, 0);
+    let mut best = fitting(columns, left, n, one, two, 0);
     if n <= best {
         return n;
     }
     let weights = table();
-    let mut taken = weigh(&weights, times, dues, left, number, total, start, best);
-    let mut j = fitting(active_times, rates, left, n, one, two, best + 1);
+    let mut taken = weigh(&weights, columns, left, crowd, start, best);
+    let mut j = fitting(columns, left, n, one, two, best + 1);
     while j < n {
-        let next = weigh(&weights, times, dues, left, number, total, start, j);
-        if !heavier(next.weight, shortest, taken.weight, taken.time) {
+        let next = weigh(&weights, columns, left, crowd, start, j);
+        if !heavier(next.weight, crowd.shortest, taken.weight, taken.time) {
             return best;
         }
         if heavier(next.weight, next.time, taken.weight, taken.time) {
             best = j;
             taken = next;
         }
-        j = fitting(active_times, rates, left, n, one, two, j + 1);
+        j = fitting(columns, left, n, one, two, j + 1);
     }
     best
 }

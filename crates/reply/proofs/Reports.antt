@@ -1,8 +1,8 @@
 -- How much of the lent list is printed: a report or the answers of a board, and nothing with any other answer.
 use mathlib.Core.Path.{_≡_, refl}
-use mathlib.Core.Bool.{Bool, true, false, cond, not, _||_}
+use mathlib.Core.Bool.{Bool, true, false, cond}
 use mathlib.Core.List.{List, [], _∷_}
-use Prim.Native.Nat.{ℕ, zero, suc, _*_, _≤_}
+use Prim.Native.Nat.{ℕ, zero, suc, _≤_}
 use native.Mathlib.Omega.{arith}
 use lib.Dec.{ltb, eqb}
 use borrow.Author.Tests.{ltb-false}
@@ -15,12 +15,11 @@ use Rattle.rules.specs.Judgement.{judged}
 use Rattle.rules.specs.Calls as rules
 use Rattle.rules.specs.Calls.{State, Answer, refused, opened, previewed, committed, moved, planned, waiting, charging, looked, withdrawn, preview, commit, move, offer, replanLines, enquire, board, withdraw, Result, step, refusals, answering, drawFor, startFor, previewedAt, decided, tested, limitsOf, previewing, committing, moving, offering, replanningLatest, replanningLines, enquiring, boarding, withdrawing, risesFrom, isPassed, startBefore}
 use Rattle.rules.proofs.Lists.{length-keep}
-use Rattle.charges.proofs.Sorting.{length-sorted}
+use Rattle.rules.proofs.Sorting.{length-sorted}
 use Rattle.answers.specs.Answers.{answerText, listedOf}
 use Rattle.calls.specs.declared.Call.{Call}
 use Rattle.calls.specs.declared.Call.the-variants.{Preview, Commit, Move, Offer, ReplanLatest, ReplanLines, Enquire, Board, Withdraw}
 use Rattle.calls.specs.Applied.{callOf, Lends, none, reads, writes, both, lends, lentOf}
-use Rattle.reply.specs.Reply.{told}
 
 -- where nothing of the lent list is printed, any other would do
 text-same : (a : Answer) (asked : ℕ) (list other : List ℕ) → listedOf a asked ≡ 0 → answerText a asked list ≡ answerText a asked other

@@ -1,18 +1,20 @@
 -- What is claimed of a list of calls that began with an image from elsewhere.
 use mathlib.Core.Logic.{_⊎_, inl, inr}
-use mathlib.Core.Path.{_≡_, refl, sym, ap, subst, _∙_}
+use mathlib.Core.Path.{_≡_, refl, subst, _∙_}
 use Prim.Native.Nat.{ℕ, _+_, _≤_, _<_}
 use mathlib.Core.Bool.{Bool, true, false, cond, not}
-use mathlib.Core.List.{List, [], _∷_, _++_, map, append-assoc, append-nil}
+use mathlib.Core.List.{List, [], _∷_, _++_, map}
 use native.Mathlib.Omega.{arith}
 use Rattle.rules.specs.Basics.{Each, keep}
 use Rattle.rules.specs.Charge.{begunCharges}
 use Rattle.rules.specs.Calls.{State, Call, step}
 use Rattle.rules.specs.Valid.{ValidState}
 use Rattle.rules.proofs.Ranges.{below-or-not}
-use Rattle.guarantee.specs.Past.{Order, Report, Past, orderOf, ordersOf, reportOf, learnt, beginning, extended, after, past, isWithdrawn, staying, stayingOrders, withdrawnOrders, timesReported, startOf}
+use Rattle.guarantee.specs.Past.{Order, Report, orderOf, ordersOf, reportOf, beginning, past, isWithdrawn, stayingOrders, withdrawnOrders, timesReported, startOf}
 use Rattle.guarantee.specs.DemandThree.{Kept, Unmoved, DemandThreeFrom}
 use Rattle.guarantee.proofs.Each.{each-two, each-in, image-each}
+use Rattle.guarantee.proofs.Unmoved.{reports-added}
+use Rattle.guarantee.proofs.Staying.{all-stay}
 use Rattle.guarantee.proofs.DemandThree.{demand-three-from, beginning-starts}
 use Rattle.restarts.specs.Restarts.{FromElsewhere}
 
@@ -35,22 +37,9 @@ each-split R f (a ∷ l) d e = go (f a) d e (each-split R f l)
     go true p q rest = (q .0, rest p (q .1))
     go false p q rest = (p .0, rest (p .1) q)
 
--- nobody has withdrawn at the beginning
-all-stay : (os : List Order) → staying [] os ≡ os
-all-stay [] = refl
-all-stay (o ∷ os) = ap (λ (l : List Order). o ∷ l) (all-stay os)
-
 times-append : (xs ys : List Report) (t : ℕ) → timesReported (xs ++ ys) t ≡ timesReported xs t + timesReported ys t
 times-append [] ys t = omega arith
 times-append (x ∷ xs) ys t = rw (times-append xs ys t) (omega arith)
-
--- reports are only added
-reports-added : (calls : List Call) (h : Past) → (new : List Report) × (after step h calls .reports ≡ h .reports ++ new)
-reports-added [] h = ([], sym (append-nil (h .reports)))
-reports-added (c ∷ calls) h =
-    let later = reports-added calls (extended h c (step (h .station) c)) in
-    let added : List Report = learnt (h .clock) c (step (h .station) c .answer) (step (h .station) c .list) .reports in
-    (added ++ later .0, later .1 ∙ append-assoc (h .reports) added (later .0))
 
 module _ (s : State) (calls : List Call) (v : ValidState s) where
   from : DemandThreeFrom step s calls
@@ -129,5 +118,5 @@ module _ (s : State) (calls : List Call) (v : ValidState s) where
 
   pub from-elsewhere : FromElsewhere s calls
   from-elsewhere =
-      let new = reports-added calls (beginning s) in
+      let new = reports-added step calls (beginning s) in
       record { three = from; begun = each-in (λ c f j. f (omega (arith, j))) (s .charges) begun-starts; not-again = (new .0, new .1, not-again (new .0) (new .1)) }

@@ -8,15 +8,16 @@ use lib.Dec.{ltb, eqb}
 use lib.ListN.{length, getD}
 use borrow.Author.Tests.{ltb-true, ltb-false, lt-ltb, le-ltb}
 use Rattle.rules.specs.Basics.{Each}
-use Rattle.rules.specs.Calls.{settings, State, fresh, opening, step}
+use Rattle.rules.specs.Calls.{settings, State, fresh, step}
 use Rattle.rules.specs.Valid.{ValidState}
 use Rattle.rules.proofs.Lists.{map-append, each-append}
 use Rattle.rules.proofs.Validity.{opening-valid}
 use Rattle.guarantee.specs.Past.{Past, beginning}
-use Rattle.guarantee.proofs.Steps.{after-append}
+use Rattle.guarantee.proofs.Unmoved.{after-append}
 use Rattle.guarantee.proofs.DemandOne.{after-valid}
 use Rattle.layout.specs.Image.{imageOf}
 use Rattle.layout.specs.Reading.{restoreRefusal, RestoreResult, restoring}
+use Rattle.layout.proofs.Refusing.{fresh-valid}
 use Rattle.layout.proofs.RoundTrip.{restored-saved, restoring-valid}
 use Rattle.restarts.specs.Events.{Event, opens, made, saves, restores, brings, anImage, aRefusedRestore, first, CallList, beginningWith, left, Lists, upTo, brought, next}
 use Rattle.restarts.specs.Restarts.{Controller, does, read, shows, due}
@@ -41,10 +42,6 @@ nothing-read : (restoring [] .refusal ≡ 20) × (restoring [] .state ≡ fresh 
 unfolding restoreRefusal
 nothing-read = (refl, refl)
 
-refused-valid : ValidState (fresh (settings 1 100 0))
-unfolding opening
-refused-valid = opening-valid (settings 1 100 0)
-
 both-more : (k n : ℕ) → ltb (suc k) (suc n) ≡ ltb k n
 both-more k n = go (ltb k n) refl
   where
@@ -59,7 +56,7 @@ saved-read :
     → (restoring (getD (map imageAfter saved) k []) .refusal ≡ cond (ltb k (length saved)) 0 20)
     × (restoring (getD (map imageAfter saved) k []) .state ≡ left (upTo saved k))
     × Right (upTo saved k)
-saved-read [] k v = (rw (le-ltb k 0 (omega arith)) (nothing-read .0), nothing-read .1, refused-valid)
+saved-read [] k v = (rw (le-ltb k 0 (omega arith)) (nothing-read .0), nothing-read .1, fresh-valid)
 saved-read (l ∷ saved) zero v =
     let r = restored-saved (left l) (left-valid l (v .0)) in (
       rw (lt-ltb 0 (suc (length saved)) (omega arith)) (ap (λ (x : RestoreResult). x .refusal) r),
@@ -74,7 +71,7 @@ brought-valid image = go (eqb (restoring image .refusal) 0)
   where
     go : (b : Bool) → Right (beginningWith (cond b (anImage image) aRefusedRestore))
     go true = restoring-valid image
-    go false = refused-valid
+    go false = fresh-valid
 
 brought-left : (image : List ℕ) → restoring image .state ≡ left (brought image)
 brought-left image = go (eqb (restoring image .refusal) 0) refl
@@ -94,7 +91,7 @@ together-next c l (made call) t =
     record {
       station =
           ap (λ (s : State). step s call .state) (t .station)
-          ∙ ap (λ (h : Past). h .station) (sym (after-append (l .now .calls) (call ∷ []) (beginning (first (l .now .beginning)))));
+          ∙ ap (λ (h : Past). h .station) (sym (after-append step (l .now .calls) (call ∷ []) (beginning (first (l .now .beginning)))));
       images = t .images;
       now = t .now;
       saved = t .saved;

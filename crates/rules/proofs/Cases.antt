@@ -20,7 +20,7 @@ use Rattle.rules.specs.CasesOfPriority.{casesOfPriority}
 use Rattle.rules.specs.CasesOnBusyEvenings.{testedIn, casesOnBusyEvenings}
 use Rattle.rules.specs.CasesOfTails.{casesOfTails}
 use Rattle.rules.specs.CasesOnTheBoard.{casesOnTheBoard}
-use Rattle.rules.specs.CasesOfWithdrawals.{casesOfWithdrawals, fullYard}
+use Rattle.rules.specs.CasesOfWithdrawals.{casesOfWithdrawals}
 
 abbrev pub cases : List Case
 cases = casesAToL ++ casesAtEdges ++ casesInAHurry ++ casesPreviewed ++ casesOfTwoRates ++ casesOfPriority ++ casesOfTails ++ casesOnTheBoard ++ casesOfWithdrawals
@@ -73,10 +73,3 @@ pub last-ticket-given :
     ≡ committed 65535 0 ∷ refused 14 ∷ refused 14 ∷ withdrawn ∷ refused 14 ∷ []
 unfolding limited balanced sound earliest committing withdrawing
 last-ticket-given = refl
-
--- "its place is free": in a yard of 180 the next order is taken, with the next ticket, and then the yard is full again
-pub place-taken-again :
-    map (λ r. r .answer) (run fullYard (preview 1 1 1 1 ∷ withdraw 60 ∷ commit 1 1 1 1 0 ∷ preview 1 1 1 1 ∷ []))
-    ≡ refused 13 ∷ withdrawn ∷ committed 181 0 ∷ refused 13 ∷ []
-unfolding limited balanced sound earliest committing withdrawing
-place-taken-again = refl

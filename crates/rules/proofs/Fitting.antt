@@ -3,17 +3,17 @@
 use mathlib.Core.Logic.{_⊎_, inl, inr}
 use mathlib.Core.Path.{_≡_, refl, sym, ap, _∙_}
 use Prim.Native.Nat.{ℕ, zero, suc, _+_, _-_, max, _≤_, _<_}
-use mathlib.Core.Bool.{Bool, true, false, cond, not, _||_, true≢false}
+use mathlib.Core.Bool.{Bool, true, false, cond, not, true≢false}
 use mathlib.Core.List.{List, [], _∷_, _++_, append-assoc}
 use native.Mathlib.Omega.{arith}
 use lib.Dec.{leb, eqb}
 use borrow.Author.Tests.{leb-true, le-leb, lt-leb}
-use Rattle.rules.specs.Basics.{Found, at, first, runOf, keep, some}
+use Rattle.rules.specs.Basics.{at, runOf, keep, some}
 use Rattle.rules.specs.Load.{Load, Draw, count, lastUntil}
 use Rattle.rules.specs.Charge.{Charge, drawOf, loadOf, loadsOf}
 use Rattle.rules.specs.Search.{added, Caps, roomFor, fitsUnder}
 use Rattle.rules.specs.Priority.{Fitting, fitsAt, firstFit, withoutTicket}
-use Rattle.rules.proofs.Ranges.{fails, same-test, below-or-not, or-left, or-right, or-none, IsFirst, first-found, first-is}
+use Rattle.rules.proofs.Ranges.{fails, below-or-not, along, or-left, or-right, or-none, IsFirst, first-found, first-is}
 use Rattle.rules.proofs.Lists.{map-append}
 use Rattle.rules.proofs.Searches.{count-added, under-at, under-all}
 
@@ -37,9 +37,6 @@ run-has f (suc k) a = go (f a) refl (run-has f k (suc a))
           stops = λ h. rw (along a (runOf f k (suc a))) (r .stops (omega arith));
         }
       where
-        along : (x y : ℕ) → x + suc y ≡ suc x + y
-        along x y = omega arith
-
         within : (t : ℕ) → a ≤ t → t < a + suc (runOf f k (suc a)) → (a < t) ⊎ (t ≤ a) → f t ≡ true
         within t i j (inl h) = r .passes t h (omega arith)
         within t i j (inr h) = let same : t ≡ a = omega arith in rw same p
@@ -69,9 +66,6 @@ run-is f k a r x =
 
 -- A charge fits at a start exactly when the run of minutes from it on with room for its rate is at least its time.
 module _ (cap : Caps) (xs : List Load) (a : Draw) where
-  room : ℕ → Bool
-  room t = roomFor cap xs (a .line) (a .rate) t
-
   pub fits-run :
       (most s : ℕ)
       → a .time ≤ most

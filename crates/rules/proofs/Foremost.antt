@@ -1,7 +1,7 @@
 -- The charge that is taken comes before all others: no other has a larger weight/p, nor an equal one and a smaller d − p,
 -- nor equal ones and a smaller ticket.
 use mathlib.Core.Path.{_≡_, refl, sym, subst}
-use Prim.Native.Nat.{ℕ, _+_, _*_, _≤_, _<_}
+use Prim.Native.Nat.{ℕ, _+_, _*_, _≤_}
 use mathlib.Core.Bool.{Bool, true, false, _&&_, true≢false}
 use mathlib.Core.List.{List, [], _∷_}
 use native.Mathlib.Omega.{arith}

@@ -2,13 +2,13 @@
 use mathlib.Core.Logic.{_⊎_, inl, inr}
 use mathlib.Core.Path.{_≡_, refl, ap}
 use Prim.Native.Nat.{ℕ, zero, suc, _+_, _≤_, _<_}
-use mathlib.Core.Bool.{Bool, true, false, cond}
+use mathlib.Core.Bool.{Bool, true, false, cond, _||_}
 use mathlib.Core.List.{List, [], _∷_, _++_, map}
 use native.Mathlib.Omega.{arith}
 use native.Mathlib.Numerals.{add-one}
 use lib.ListN.{length, getD}
-use Rattle.rules.specs.Basics.{Each, tabulate, keep}
-use Rattle.rules.proofs.Ranges.{below-or-not}
+use Rattle.rules.specs.Basics.{Each, tabulate, keep, some}
+use Rattle.rules.proofs.Ranges.{below-or-not, along}
 
 pub length-tabulate : {A : Type 0} (f : ℕ → A) (k a : ℕ) → length (tabulate f k a) ≡ k
 length-tabulate f zero a = refl
@@ -32,9 +32,6 @@ tabulate-more f zero a = rw (nothing-added a)
     nothing-added a = omega arith
 tabulate-more f (suc k) a =
     ap (λ l. f a ∷ l) (rw (along a k) (tabulate-more f k (suc a)))
-  where
-    along : (a k : ℕ) → a + suc k ≡ suc a + k
-    along a k = omega arith
 
 -- one number more, as code counts
 pub tabulate-next :
@@ -57,9 +54,6 @@ getD-tabulate f (suc k) a zero d h = ap f (same a)
     same : (a : ℕ) → a ≡ a + 0
     same a = omega arith
 getD-tabulate f (suc k) a (suc i) d h = rw (along a i) (getD-tabulate f k (suc a) i d (omega arith))
-  where
-    along : (a i : ℕ) → a + suc i ≡ suc a + i
-    along a i = omega arith
 
 pub map-append : {A : Type 0} {B : Type 0} (g : A → B) (xs ys : List A) → map g (xs ++ ys) ≡ map g xs ++ map g ys
 map-append g [] ys = refl
@@ -76,6 +70,14 @@ keep-append f (x ∷ xs) ys = go (f x) (keep-append f xs ys)
         → keep f (xs ++ ys) ≡ keep f xs ++ keep f ys
         → cond b (x ∷ keep f (xs ++ ys)) (keep f (xs ++ ys)) ≡ cond b (x ∷ keep f xs) (keep f xs) ++ keep f ys
     go true ih = rw ih
+    go false ih = ih
+
+pub some-append : {A : Type 0} (f : A → Bool) (xs ys : List A) → some f (xs ++ ys) ≡ some f xs || some f ys
+some-append f [] ys = refl
+some-append f (x ∷ xs) ys = go (f x) (some-append f xs ys)
+  where
+    go : (b : Bool) → some f (xs ++ ys) ≡ some f xs || some f ys → b || some f (xs ++ ys) ≡ (b || some f xs) || some f ys
+    go true ih = refl
     go false ih = ih
 
 pub keep-all : {A : Type 0} (f : A → Bool) (l : List A) → Each (λ a. f a ≡ true) l → keep f l ≡ l
@@ -108,6 +110,10 @@ pub each-map : {A : Type 0} (P Q : A → Type 0) → ((a : A) → P a → Q a) �
 each-map P Q f [] e = tt
 each-map P Q f (a ∷ l) e = (f a (e .0), each-map P Q f l (e .1))
 
+pub each-both : {A : Type 0} (P Q : A → Type 0) (l : List A) → Each P l → Each Q l → Each (λ a. P a × Q a) l
+each-both P Q [] d e = tt
+each-both P Q (a ∷ l) d e = ((d .0, e .0), each-both P Q l (d .1) (e .1))
+
 pub each-append : {A : Type 0} (P : A → Type 0) (l m : List A) → Each P l → Each P m → Each P (l ++ m)
 each-append P [] m d e = e
 each-append P (a ∷ l) m d e = (d .0, each-append P l m (d .1) e)
@@ -128,6 +134,14 @@ each-keep P f (a ∷ l) e = go (f a) refl (each-keep P f l (e .1))
         → Each (λ a. P a × (f a ≡ true)) (cond b (a ∷ keep f l) (keep f l))
     go true p r = ((e .0, p), r)
     go false p r = r
+
+pub kept-pass : {A : Type 0} (f : A → Bool) (l : List A) → Each (λ a. f a ≡ true) (keep f l)
+kept-pass f [] = tt
+kept-pass f (a ∷ l) = go (f a) refl (kept-pass f l)
+  where
+    go : (b : Bool) → f a ≡ b → Each (λ a. f a ≡ true) (keep f l) → Each (λ a. f a ≡ true) (cond b (a ∷ keep f l) (keep f l))
+    go true p ih = (p, ih)
+    go false p ih = ih
 
 pub keep-each : {A : Type 0} (P : A → Type 0) (f : A → Bool) (l : List A) → Each P l → Each P (keep f l)
 keep-each P f l e = each-map (λ a. P a × (f a ≡ true)) P (λ a p. p .0) (keep f l) (each-keep P f l e)

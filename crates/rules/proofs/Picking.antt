@@ -8,17 +8,17 @@ use native.Mathlib.Omega.{arith}
 use lib.Dec.{eqb}
 use lib.ListN.{length}
 use borrow.Author.Tests.{eq-eqb, ne-eqb}
-use Rattle.rules.specs.Basics.{Each, Found, at, nothing, first, keep, some}
+use Rattle.rules.specs.Basics.{Each, at, keep, some}
 use Rattle.rules.specs.Load.{Load, lastUntil, IsLine}
 use Rattle.rules.specs.Charge.{Charge, starting, drawOf, loadsOf, isWaiting, begunCharges, waitingCharges}
 use Rattle.rules.specs.Search.{Caps}
-use Rattle.rules.specs.Priority.{Crowd, crowdOf, takenBefore, Pick, chosen, nobody, foremost, Fitting, fitsAt, firstFit, picked, withoutTicket}
-use Rattle.rules.specs.Replan.{Placed, all, stuck, placeOn, onLine, placeLine, placeLines}
+use Rattle.rules.specs.Priority.{Crowd, crowdOf, takenBefore, Pick, chosen, foremost, Fitting, fitsAt, firstFit, picked, withoutTicket}
+use Rattle.rules.specs.Replan.{all, placeOn, onLine, placeLines}
 use Rattle.rules.specs.Valid.{Rising}
 use Rattle.rules.proofs.Ranges.{below-or-not, first-none, found-or-not}
 use Rattle.rules.proofs.Lists.{map-append, keep-each}
 use Rattle.rules.proofs.Searches.{under-past}
-use Rattle.rules.proofs.Sorting.{Inserted, here, later, Rearranged, none, more}
+use Rattle.rules.proofs.Sorting.{Inserted, here, later, Rearranged, none, more, inserted-length}
 use Rattle.rules.proofs.Tickets.{rising-from, rising-keep}
 use Rattle.rules.proofs.Rounds.{AtLeast}
 use Rattle.rules.proofs.Fitting.{first-fit-first}
@@ -132,10 +132,6 @@ left-out i {c} (behind {d = d} {l = l} m) r =
     let low : suc (d .ticket) ≤ c .ticket
     = among-each (λ x. suc (d .ticket) ≤ x .ticket) m (rising-from (suc (d .ticket)) l (r .1)) in
     rw (ne-eqb (d .ticket) (c .ticket) (λ q. absurd (omega arith))) (later (left-out (suc (d .ticket)) m (r .1)))
-
-inserted-length : {A : Type 0} {a : A} {l m : List A} → Inserted a l m → length m ≡ suc (length l)
-inserted-length here = refl
-inserted-length (later r) = rw (inserted-length r)
 
 tickets-length : (l : List Charge) → length (tickets l) ≡ length l
 tickets-length [] = refl

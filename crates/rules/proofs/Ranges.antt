@@ -2,7 +2,7 @@
 use mathlib.Core.Logic.{_⊎_, inl, inr}
 use mathlib.Core.Path.{_≡_, refl}
 use Prim.Native.Nat.{ℕ, zero, suc, _+_, _≤_, _<_}
-use mathlib.Core.Bool.{Bool, true, false, _&&_, _||_, false≢true, true≢false}
+use mathlib.Core.Bool.{Bool, true, false, cond, _&&_, _||_, false≢true, true≢false}
 use native.Mathlib.Omega.{arith}
 use lib.Dec.{ltb}
 use borrow.Author.Tests.{ltb-true, ltb-false}
@@ -44,6 +44,11 @@ pub fails : (a : Bool) → (a ≡ true → ⊥) → a ≡ false
 fails true f = absurd (f refl)
 fails false f = refl
 
+-- a test between a number and itself
+pub either-way : (b : Bool) (n : ℕ) → cond b n n ≡ n
+either-way true n = refl
+either-way false n = refl
+
 -- one number is below another, or not
 pub below-or-not : (a b : ℕ) → (a < b) ⊎ (b ≤ a)
 below-or-not a b = go (ltb a b) refl
@@ -51,6 +56,10 @@ below-or-not a b = go (ltb a b) refl
     go : (t : Bool) → ltb a b ≡ t → (a < b) ⊎ (b ≤ a)
     go true e = inl (ltb-true a b e)
     go false e = inr (ltb-false a b e)
+
+-- one place more from a on is that place from its successor on
+pub along : (a i : ℕ) → a + suc i ≡ suc a + i
+along a i = omega arith
 
 -- A test over a range
 

@@ -7,7 +7,7 @@ use mathlib.Core.List.{List, [], _∷_}
 use native.Mathlib.Omega.{arith}
 use lib.Dec.{leb}
 use borrow.Author.Tests.{le-leb, leb-true, not-false}
-use Rattle.rules.specs.Basics.{throughout, at, nothing}
+use Rattle.rules.specs.Basics.{at, nothing}
 use Rattle.rules.specs.Load.{Load, Draw, loadFrom, draws, count, counts, lastUntil, Limits, balanceAt, sound}
 use Rattle.rules.specs.Search.{added, earliest, Caps, fitsUnder, firstUnbalanced}
 use Rattle.rules.proofs.Ranges.{fails, below-or-not, throughout-all, throughout-at, IsFirst, first-found, first-none, found-or-not}

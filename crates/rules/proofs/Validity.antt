@@ -8,7 +8,7 @@ use Rattle.rules.specs.Load.{sound}
 use Rattle.rules.specs.Charge.{loadsOf}
 use Rattle.rules.specs.Replan.{Proposal, starts, none, latest, byLines}
 use Rattle.rules.specs.Judgement.{judged}
-use Rattle.rules.specs.Calls.{Settings, settings, State, limitsOf, Result, answering, opened, fresh, boundOf, openRefusals, opening, Call, preview, commit, move, offer, replanLatest, replanLines, enquire, board, withdraw, drawFor, startFor, refusals, previewedAt, previewing, committing, moving, decided, tested, offering, replanningLatest, replanningLines, enquiring, boarding, withdrawing, step}
+use Rattle.rules.specs.Calls.{Settings, settings, State, limitsOf, Result, answering, opened, fresh, openRefusals, opening, Call, preview, commit, move, offer, replanLatest, replanLines, enquire, board, withdraw, drawFor, startFor, refusals, previewedAt, previewing, committing, moving, decided, tested, offering, replanningLatest, replanningLines, enquiring, boarding, withdrawing, step}
 use Rattle.rules.specs.Valid.{ValidState}
 use Rattle.rules.proofs.Tables.{firstOf-none}
 use Rattle.rules.proofs.Granted.{refusals-none, openRefusals-numbered, OpenGranted, open-granted, OrderGranted, order-granted, commit-granted, move-granted, withdraw-granted}

@@ -3,7 +3,7 @@
 use Prim.Native.Nat.{ℕ, zero, suc}
 use mathlib.Core.List.{List, [], _∷_, _++_, map}
 use lib.ListN.{replicate}
-use Rattle.rules.specs.Calls.{refused, opened, committed, moved, planned, charging, Call, preview, commit, move, offer, replanLatest, replanLines, enquire}
+use Rattle.rules.specs.Calls.{refused, opened, committed, moved, planned, charging, withdrawn, Call, preview, commit, move, offer, replanLatest, replanLines, enquire, withdraw}
 use Rattle.rules.specs.Entry.{gives, givesWith, Case, lentList, startsFrom, reports, opens, case, replanned}
 use Rattle.rules.specs.CasesAToL.{ordersH, givenH}
 
@@ -81,20 +81,25 @@ refusalsAtEdges =
     (move 1000001 lentList ∷ move 1000000 lentList ∷ move 1000000 lentList ∷ move 999999 lentList ∷ [])
     (map (λ a. givesWith a lentList) (refused 8 ∷ moved 0 0 ∷ moved 0 0 ∷ refused 12 ∷ []))
     -- 180 places: 60 charges fit on each line in minute 0, the 180th order is taken and the next one refused, with 13 also
-    -- where its due minute cannot be met or the start shown is not the earliest. The move reports them all, which fills the list,
-    -- and gives the places back.
+    -- where its due minute cannot be met or the start shown is not the earliest. A withdrawal frees one place: the next order is
+    -- taken, with the next ticket, and then the yard is full again. The move reports them all, which fills the list, and gives the
+    -- places back.
     ∷ case 60 100 60
     (replicate 60 (commit 1 1 1 1 0)
     ++ (replicate 60 (commit 2 1 1 1 0)
     ++ (replicate 60 (commit 3 1 1 1 0)
-    ++ (preview 1 1 1 1 ∷ commit 1 1 0 1 1 ∷ commit 1 1 1 1 9 ∷ move 1 lentList ∷ commit 1 1 2 1 1 ∷ []))))
+    ++ (preview 1 1 1 1
+    ∷ commit 1 1 0 1 1
+    ∷ commit 1 1 1 1 9
+    ∷ withdraw 60
+    ∷ commit 1 1 1 1 0
+    ∷ preview 1 1 1 1
+    ∷ move 1 lentList
+    ∷ commit 1 1 2 1 1
+    ∷ []))))
     (startsFrom 1 (replicate 180 0)
-    ++ (gives (refused 13)
-    ∷ gives (refused 13)
-    ∷ gives (refused 13)
-    ∷ givesWith (moved 180 180) (fullReport 180 1)
-    ∷ gives (committed 181 1)
-    ∷ []))
+    ++ (map gives (refused 13 ∷ refused 13 ∷ refused 13 ∷ withdrawn ∷ committed 181 0 ∷ refused 13 ∷ [])
+    ++ (givesWith (moved 180 180) (fullReport 59 1 ++ fullReport 121 61) ∷ gives (committed 182 1) ∷ [])))
     ∷ []
 
 -- Clock moves
@@ -142,6 +147,11 @@ plans =
     ∷ case 2 50 1
     (commit 1 10 60 1 0 ∷ commit 1 10 60 1 10 ∷ offer (0 ∷ 0 ∷ []) ∷ [])
     (startsFrom 1 (0 ∷ 10 ∷ []) ++ (givesWith (planned 6 0 0 0) (0 ∷ 0 ∷ []) ∷ []))
+    -- Over all minutes: at 0, 0, 5 minutes 0 to 4 count 2, which is not above N but differs by 2 from 0, and minutes 5 to 9 count 3,
+    -- which is above N. So the count goes before the difference, though the difference comes first in time. No end is later than 30.
+    ∷ case 2 50 1
+    (commit 1 10 60 1 0 ∷ commit 1 10 60 1 10 ∷ commit 1 10 60 1 20 ∷ offer (0 ∷ 0 ∷ 5 ∷ []) ∷ [])
+    (startsFrom 1 (0 ∷ 10 ∷ 20 ∷ []) ++ (givesWith (planned 5 0 0 0) (0 ∷ 0 ∷ 5 ∷ []) ∷ []))
     -- By d − p, and then by ticket; by lines with the same starts.
     ∷ replanned ordersByStart replanLatest (0 ∷ 10 ∷ 20 ∷ []) (planned 0 7 0 0) (12 ∷ 0 ∷ 10 ∷ [])
     ∷ replanned ordersByStart (replanLines 1) (0 ∷ 10 ∷ 20 ∷ []) (planned 0 7 0 1) (12 ∷ 0 ∷ 10 ∷ [])

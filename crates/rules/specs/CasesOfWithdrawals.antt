@@ -1,9 +1,6 @@
 -- Cases of N11, withdrawing an order, each worked out by hand: who may withdraw, what the rest needs, and what is left.
-use Prim.Native.Nat.{ℕ}
 use mathlib.Core.List.{List, [], _∷_, _++_, map}
-use Rattle.rules.specs.Basics.{tabulate}
-use Rattle.rules.specs.Charge.{Charge}
-use Rattle.rules.specs.Calls.{settings, State, refused, opened, committed, moved, waiting, looked, withdrawn, notHeld, commit, move, enquire, board, withdraw}
+use Rattle.rules.specs.Calls.{settings, refused, opened, committed, moved, waiting, looked, withdrawn, notHeld, commit, move, enquire, board, withdraw}
 use Rattle.rules.specs.Entry.{gives, givesWith, Case, lentList, reports, case}
 use Rattle.rules.specs.CasesAToL.{ordersE, givenE, givenF, minuteG, ordersH, givenH}
 
@@ -55,20 +52,3 @@ casesOfWithdrawals =
     ++ (reports (moved 5 2) (1 ∷ 0 ∷ 2 ∷ 0 ∷ 3 ∷ 0 ∷ 4 ∷ 0 ∷ 6 ∷ 0 ∷ [])
     ∷ map gives (committed 7 5 ∷ refused 26 ∷ withdrawn ∷ refused 15 ∷ [])))
     ∷ []
-
--- A yard of 180, written down: 60 charges of one minute on each line, as the orders of an entry in CasesAtEdges.antt leave it.
-abbrev oneMinute : ℕ → ℕ → Charge
-oneMinute line ticket =
-    record { ticket = ticket; line = line; orderMinute = 0; time = 1; activeTime = 1; due = 1; start = 0; rate = 1 }
-
-abbrev pub fullYard : State
-fullYard =
-    record {
-      limit = 60;
-      percent = 100;
-      bound = 60;
-      tail = 0;
-      clock = 0;
-      next = 181;
-      charges = tabulate (oneMinute 1) 60 1 ++ (tabulate (oneMinute 2) 60 61 ++ tabulate (oneMinute 3) 60 121);
-    }

@@ -1,6 +1,7 @@
 -- A clock move: the result is that of the rules.
 use mathlib.Core.Path.{_≡_, ap, sym, _∙_}
 use Prim.Native.Nat.{ℕ, _-_, _≤_}
+use mathlib.Core.Bool.{not}
 use mathlib.Core.List.{List, [], _∷_, map}
 use native.Mathlib.Omega.{arith}
 use lib.Dec.{ltb}
@@ -8,15 +9,15 @@ use lib.ListN.{length, length-map}
 use borrow.Author.Tests.{ltb-false}
 use Rattle.rules.specs.Basics.{firstOf}
 use Rattle.rules.specs.Load.{count}
-use Rattle.rules.specs.Charge.{Charge, unfinishedCharges}
+use Rattle.rules.specs.Charge.{Charge, isFinished, unfinishedCharges}
 use Rattle.rules.specs.Calls.{moved, refusals, reported, pairs, written, moving, move, step}
-use Rattle.rules.proofs.Lists.{length-tabulate}
+use Rattle.rules.proofs.Lists.{length-tabulate, length-keep}
 use Rattle.charges.specs.declared.Charges.{Charges}
 use Rattle.charges.specs.declared.places.Places.{Places}
 use Rattle.charges.specs.Arrays.{chargeAt, chargesOf, Holds}
-use Rattle.charges.specs.Places.{placeAt, placesOf, Ordered}
+use Rattle.charges.specs.Places.{placeAt, placesOf}
+use Rattle.queues.specs.Queues.{Ordered}
 use Rattle.charges.proofs.Storing.{holds-length}
-use Rattle.charges.proofs.Walking.{keep-length, isUnfinished}
 use Rattle.rules.proofs.Granted.{refusals-none, MoveGranted, move-granted}
 use Rattle.station.specs.declared.Station.{Station}
 use Rattle.station.specs.View.{view}
@@ -42,7 +43,7 @@ movedStation s target left =
 module _ (s : Station) (target : ℕ) (left : Charges) (h : Holds (unfinishedCharges target (chargesOf (s .charges))) left) where
   pub left-few : left .held ≤ s .charges .held
   left-few =
-      omega (arith, holds-length h, keep-length (isUnfinished target) (chargesOf (s .charges)), length-tabulate (chargeAt (s .charges)) (s .charges .held) 0)
+      omega (arith, holds-length h, length-keep (λ x. not (isFinished target x)) (chargesOf (s .charges)), length-tabulate (chargeAt (s .charges)) (s .charges .held) 0)
 
   pub call-moved :
       (k : ℕ) (list after : List ℕ) (p : Places)

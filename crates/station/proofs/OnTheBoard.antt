@@ -11,7 +11,7 @@ use Rattle.rules.specs.Calls.{looked, refusals, risesFrom, boarding, board, ste
 use Rattle.rules.proofs.Ranges.{or-left}
 use Rattle.rules.proofs.Tables.{NoneHolds}
 use Rattle.rules.proofs.Granted.{refusals-none}
-use Rattle.charges.specs.Board.{CanBoard, Boarded}
+use Rattle.boards.specs.Board.{CanBoard, Boarded}
 use Rattle.station.specs.declared.Station.{Station}
 use Rattle.station.specs.View.{view, Valid}
 use Rattle.station.specs.Answers.{giving}

@@ -4,22 +4,29 @@ use Prim.Native.Nat.{ℕ, zero, suc, _+_, _≤_, _<_}
 use mathlib.Core.List.{List, [], _∷_, _++_}
 use native.Mathlib.Omega.{arith}
 use native.Mathlib.Numerals.{add-one}
+use lib.ListN.{set}
 use Rattle.rules.specs.Basics.{Found, at, nothing, firstOf}
 use Rattle.rules.specs.Load.{IsRate}
 use Rattle.rules.specs.Charge.{Charge}
-use Rattle.rules.specs.Calls.{Answer, refused, committed, Result, answering, preview, commit, drawFor, startFor, orderRefusals, previewedAt, previewing, committing, step}
+use Rattle.rules.specs.Search.{earliest}
+use Rattle.rules.specs.Calls.{State, Answer, refused, previewed, committed, answering, preview, commit, limitsOf, drawFor, startFor, orderRefusals, previewedAt, previewing, committing, step}
 use Rattle.rules.proofs.Tables.{NoneHolds}
-use Rattle.rules.proofs.Granted.{order-granted}
-use Rattle.rules.proofs.Shown.{preview-shown, commit-taken}
+use Rattle.rules.proofs.Granted.{order-granted, refusals-none}
+use Rattle.rules.proofs.Shown.{preview-shown, commit-refused, commit-taken}
 use Rattle.rules.proofs.Lists.{length-tabulate}
 use Rattle.charges.specs.declared.Charges.{Charges}
-use Rattle.charges.specs.Arrays.{charge, chargeAt, chargesOf, Holds}
+use Rattle.charges.specs.Arrays.{charge, chargeAt, chargesOf, Columns, Holds}
+use Rattle.charges.proofs.Storing.{holds-put}
+use Rattle.orders.specs.Windows.{drawing, CanOrder}
+use Rattle.orders.proofs.Drawings.{drawingOf, drawing-loads, listed-can-order}
 use Rattle.station.specs.declared.Station.{Station}
+use Rattle.station.specs.declared.order.Sought.{Sought}
 use Rattle.station.specs.declared.order.PreviewAnswer.{PreviewAnswer}
-use Rattle.station.specs.declared.order.PreviewAnswer.the-variants.{Previewed}
+use Rattle.station.specs.declared.order.PreviewAnswer.the-variants.{Previewed, Refused}
 use Rattle.station.specs.View.{view, Valid}
 use Rattle.station.specs.Answers.{giving, previewAnswer}
-use Rattle.station.proofs.Refusing.{call-refused, call-granted}
+use Rattle.station.specs.Shown.{soughtOf, drawSought, startSought, CanSeek, shown}
+use Rattle.station.proofs.Listing.{valid-listed}
 
 -- what none of refusals 4 to 18 turns away, read off the arrays
 pub record Orderable (s : Station) (line time due rate : ℕ) : Type 0 where
@@ -49,23 +56,58 @@ orderable s line time due rate v e =
 
 -- What is answered
 
-module _ (s : Station) (line time due rate : ℕ) where
-  pub shown-refused :
-      (k : ℕ)
-      → k ≡ firstOf (orderRefusals (view s) line time due rate)
-      → 0 < k
-      → refused k ≡ step (view s) (preview line time due rate) .answer
-  shown-refused k e h = ap (λ (r : Result). r .answer) (call-refused s (preview line time due rate) k e h)
+shown-answering : (s : State) (k : ℕ) (f : Found) → shown k f ≡ answering k s [] (previewedAt s f) .answer
+shown-answering s zero (at start) = refl
+shown-answering s zero nothing = refl
+shown-answering s (suc k) f = refl
 
-  pub shown-found :
-      (k : ℕ) (f : Found)
-      → k ≡ firstOf (orderRefusals (view s) line time due rate)
-      → k ≡ 0
-      → startFor (view s) (drawFor (view s) line time rate) ≡ f
-      → previewedAt (view s) f .answer ≡ step (view s) (preview line time due rate) .answer
+pub shown-first : (k : ℕ) (f : Found) → 0 < k → refused k ≡ shown k f
+shown-first zero f h = absurd (omega arith)
+shown-first (suc k) f h = refl
+
+pub shown-found : (k start : ℕ) (f : Found) → k ≡ 0 → f ≡ at start → previewed start ≡ shown k f
+shown-found k start f z e = rw (z, e)
+
+-- a refusal that is shown is the order's first
+pub shown-refused : (number k : ℕ) (f : Found) → refused number ≡ shown k f → number ≡ k
+shown-refused number zero (at start) e = let z : _≡_ {A = ℕ} 0 1 = cc in absurd (omega arith)
+shown-refused number zero nothing e = cc
+shown-refused number (suc k) f e = cc
+
+module _ (s : Station) (line time due rate : ℕ) {q : Sought} (e : q ≡ soughtOf s line time due rate) where
+  -- the search is given what it asks
+  pub can-seek : Valid s → CanSeek q (drawing (q .held) (s .charges .lines) (s .charges .«active_times») (s .charges .starts) (s .charges .rates))
+  can-seek v = rw e (λ none. go (orderable s line time due rate v (refusals-none (view s) (preview line time due rate) none)))
+    where
+      go : Orderable s line time due rate → CanOrder (drawingOf (s .charges)) (s .clock) (soughtOf s line time due rate .limits) (drawSought (soughtOf s line time due rate))
+      go g =
+          listed-can-order (valid-listed s v) (v .state .clock-high) (v .state .sound-on) (omega (arith, g .some)) (omega (arith, g .active-most)) (g .is-rate)
+          (g .within-limit) (g .within-bound)
+
+  -- what is shown is what the rules answer
+  pub shown-step :
+      {a : Answer}
+      → a ≡ shown (q .refusal) (startSought q (drawing (q .held) (s .charges .lines) (s .charges .«active_times») (s .charges .starts) (s .charges .rates)))
+      → a ≡ step (view s) (preview line time due rate) .answer
   unfolding previewing
-  shown-found k f e z q =
-      sym (ap (λ (r : Result). r .answer) (call-granted s (preview line time due rate) k e z ∙ ap (previewedAt (view s)) q))
+  shown-step h =
+      (rw e at h)
+      ∙ ap (λ loads. shown (firstOf (orderRefusals (view s) line time due rate)) (earliest (limitsOf (view s)) (s .clock) loads (drawFor (view s) line time rate)))
+      (drawing-loads (s .charges))
+      ∙ shown-answering (view s) (firstOf (orderRefusals (view s) line time due rate)) (startFor (view s) (drawFor (view s) line time rate))
+
+  -- a commit is refused by the number of the preview's refusal
+  pub commit-refused-so :
+      {a : PreviewAnswer} {number : ℕ} (start : ℕ)
+      → Valid s
+      → a ≡ Refused number
+      → previewAnswer a ≡ shown (q .refusal) (startSought q (drawing (q .held) (s .charges .lines) (s .charges .«active_times») (s .charges .starts) (s .charges .rates)))
+      → giving (refused (q .refusal)) s [] ≡ step (view s) (commit line time due rate start)
+  commit-refused-so {a} {number} start v r h =
+      let told : refused number ≡ shown (q .refusal) (startSought q (drawing (q .held) (s .charges .lines) (s .charges .«active_times») (s .charges .starts) (s .charges .rates))) =
+      sym (ap previewAnswer r) ∙ h in
+      let same : number ≡ q .refusal = shown-refused number (q .refusal) _ told in
+      sym (commit-refused (view s) line time due rate (q .refusal) start (v .state) (ap refused (sym same) ∙ shown-step told))
 
 -- what the start that was found says of the order
 pub found-granted :
@@ -104,6 +146,23 @@ committedStation s c =
       next = s .next + 1;
       charges = c;
     }
+
+-- lists with a charge's numbers put behind those held hold it too
+pub put-behind :
+    (c : Charges) (x : Charge) {ts ls os ps us ds ss rs : List ℕ}
+    → Columns c
+    → c .held < 180
+    → ts ≡ set (c .tickets) (c .held) (x .ticket)
+    → ls ≡ set (c .lines) (c .held) (x .line)
+    → os ≡ set (c .«order_minutes») (c .held) (x .orderMinute)
+    → ps ≡ set (c .times) (c .held) (x .time)
+    → us ≡ set (c .«active_times») (c .held) (x .activeTime)
+    → ds ≡ set (c .dues) (c .held) (x .due)
+    → ss ≡ set (c .starts) (c .held) (x .start)
+    → rs ≡ set (c .rates) (c .held) (x .rate)
+    → Holds (chargesOf c ++ (x ∷ []))
+    (record { held = c .held + 1; tickets = ts; lines = ls; «order_minutes» = os; times = ps; «active_times» = us; dues = ds; starts = ss; rates = rs })
+put-behind c x w room a b d e f g h i = rw (a, b, d, e, f, g, h, i) (holds-put c x w room)
 
 pub call-committed :
     (s : Station) (line time due rate start shown : ℕ) (c : Charges)

@@ -2,7 +2,7 @@
 use mathlib.Core.Logic.{_⊎_, inl, inr}
 use mathlib.Core.Path.{_≡_, refl, sym, subst, _∙_}
 use Prim.Native.Nat.{ℕ, zero, suc, _+_, _^_, _≤_, _<_}
-use mathlib.Core.Bool.{Bool, true, false, _&&_, _||_}
+use mathlib.Core.Bool.{Bool, true, false, not, _&&_, _||_}
 use mathlib.Core.List.{[]}
 use native.Mathlib.Omega.{arith}
 use lib.Dec.{eqb}
@@ -16,7 +16,6 @@ use Rattle.rules.proofs.Lists.{tabulate-each, each-tabulate, keep-each}
 use Rattle.rules.proofs.Withdrawing.{waits-not-begun}
 use Rattle.charges.specs.declared.Charges.{Charges}
 use Rattle.charges.specs.Arrays.{chargeAt, chargesOf, Holds}
-use Rattle.charges.proofs.Walking.{isOther}
 use Rattle.planner.specs.Ready.{Profiled}
 use Rattle.planner.proofs.Showing.{listed-ends, listed-rates}
 use Rattle.station.specs.declared.Station.{Station}
@@ -88,7 +87,7 @@ module _ (s : Station) (ticket : ℕ) (v : Valid s) {rest : Charges} (r : Holds 
   left-each P each i h =
       tabulate-each P (chargeAt rest) (rest .held) 0
       (subst (Each P) (sym (r .charges))
-      (keep-each P (isOther ticket) (chargesOf (s .charges)) (each-tabulate P (chargeAt (s .charges)) (s .charges .held) 0 (λ j p q. each j (omega arith)))))
+      (keep-each P (λ x. not (hasTicket ticket x)) (chargesOf (s .charges)) (each-tabulate P (chargeAt (s .charges)) (s .charges .held) 0 (λ j p q. each j (omega arith)))))
       i (omega arith) (omega arith)
 
   -- what the test of the plan that is left asks

@@ -1,6 +1,6 @@
 // A board: the starts of the tickets that are asked for.
 use crate::Station;
-use charges::board::rises;
+use boards::rises;
 ghost use mathlib.Core.Path.{_≡_};
 ghost use Rattle.rules.specs.Basics.{firstOf};
 ghost use Rattle.rules.specs.Calls.{State, refusals, board as boardCall, step};
@@ -47,7 +47,7 @@ impl Station {
             };
         }
         let held = self.charges;
-        let looked = held.board(asked, answers);
+        let looked = boards::board(held, asked, answers);
         Boarding {
             answer: BoardAnswer::Looked(looked),
             station: self,

@@ -1,5 +1,6 @@
 // A clock move: reports the charges that the clock passes, then drops the finished ones.
 use crate::Station;
+use queues::by_start;
 ghost use mathlib.Core.Path.{_≡_};
 ghost use Rattle.rules.specs.Basics.{firstOf};
 ghost use Rattle.rules.specs.Calls.{refusals, move as moveCall, step};
@@ -46,8 +47,8 @@ impl Station {
             };
         }
         let held = self.charges;
-        let passed = held.by_start(self.clock, target);
-        held.report(passed, report);
+        let passed = by_start(held, self.clock, target);
+        queues::report(held, passed, report);
         let left = held.unfinished(target);
         let reported = passed.count;
         let dropped = held.held - left.held;

@@ -1,14 +1,19 @@
 // An order, which is previewed and committed: the smallest start with which the held plan and the new charge are sound together.
 use crate::Station;
+use charges::PLACES;
 use orders::start::earliest_start;
 use search::candidate::Draw;
 use search::candidate::Limits;
 ghost use mathlib.Core.Path.{_≡_};
 ghost use mathlib.Core.List.{[]};
+ghost use Prim.Native.Nat.{_<_};
+ghost use lib.ListN.{length, set};
 ghost use Rattle.rules.specs.Basics.{firstOf};
 ghost use Rattle.rules.specs.Calls.{orderRefusals, preview as previewCall, commit as commitCall, step};
+ghost use Rattle.orders.specs.Windows.{drawing};
 ghost use Rattle.station.specs.View.{view, Valid};
 ghost use Rattle.station.specs.Answers.{Gives, previewAnswer, commitAnswer};
+ghost use Rattle.station.specs.Shown.{soughtOf, startSought, shown as shownAs, CanSeek};
 
 pub enum PreviewAnswer {
     Previewed(u32),
@@ -28,6 +33,59 @@ pub enum CommitAnswer {
 pub struct Committing {
     pub answer: CommitAnswer,
     pub station: Station,
+}
+
+// What is sought for an order: the number of its first refusal, 0 where none applies, and what the search is given beside the
+// lists of the held charges.
+pub struct Sought {
+    pub refusal: u32,
+    pub limits: Limits,
+    pub clock: u32,
+    pub tail: u32,
+    pub held: usize,
+    pub line: u32,
+    pub time: u32,
+    pub rate: u32,
+}
+
+// The one search of both calls: the first refusal of an order, or its start. Of the held charges what they draw is lent.
+fn start_for<'a>(
+    sought: Sought,
+    lines: &'a [u32; PLACES],
+    active_times: &'a [u32; PLACES],
+    starts: &'a [u32; PLACES],
+    rates: &'a [u32; PLACES],
+) -> PreviewAnswer
+    requires { ⌜ CanSeek sought (drawing (sought .held) (now lines) (now «active_times») (now starts) (now rates)) ⌝ }
+    ensures { λ r. ⌜ previewAnswer r ≡ shownAs (sought .refusal) (startSought sought (drawing (sought .held) (now (lines .entry)) (now («active_times» .entry)) (now (starts .entry)) (now (rates .entry)))) ⌝ }
+{
+    if 0 < sought.refusal {
+        return PreviewAnswer::Refused(sought.refusal);
+    }
+    let active_time = sought.time + sought.tail;
+    let draw = Draw {
+        line: sought.line,
+        time: active_time,
+        rate: sought.rate,
+    };
+    PreviewAnswer::Previewed(earliest_start(
+        lines,
+        active_times,
+        starts,
+        rates,
+        sought.held,
+        sought.clock,
+        sought.limits,
+        draw,
+    ))
+}
+
+// A number at a place of a list.
+fn put(list: &mut [u32; PLACES], place: usize, number: u32)
+    requires { ⌜ (length (now list) ≡ 180) × (place < 180) ⌝ }
+    ensures { λ r. ⌜ now (list .exit) ≡ set (now (list .entry)) place number ⌝ }
+{
+    list[place] = number;
 }
 
 impl Station {
@@ -72,26 +130,26 @@ impl Station {
         0
     }
 
-    // The one search of both calls: the first refusal of an order, or its start.
-    fn start_for(self, line: u32, time: u32, due: u32, rate: u32) -> PreviewAnswer
+    // What is sought for an order.
+    fn sought(self, line: u32, time: u32, due: u32, rate: u32) -> Sought
         requires { ⌜ Valid self ⌝ }
-        ensures { λ r. ⌜ previewAnswer r ≡ step (view self) (previewCall line time due rate) .answer ⌝ }
+        ensures { λ r. ⌜ r ≡ soughtOf self line time due rate ⌝ }
     {
         let refusal = self.order_refusal(line, time, due, rate);
-        if 0 < refusal {
-            return PreviewAnswer::Refused(refusal);
-        }
-        let active_time = time + self.tail;
         let limits = Limits {
             limit: self.limit,
             bound: self.bound,
         };
-        let draw = Draw {
+        Sought {
+            refusal,
+            limits,
+            clock: self.clock,
+            tail: self.tail,
+            held: self.charges.held,
             line,
-            time: active_time,
+            time,
             rate,
-        };
-        PreviewAnswer::Previewed(earliest_start(self.charges, self.clock, limits, draw))
+        }
     }
 
     // The station stays as it is.
@@ -99,51 +157,63 @@ impl Station {
         requires { ⌜ Valid self ⌝ }
         ensures { λ r. ⌜ Gives (step (view self) (previewCall line time due rate)) (previewAnswer (r .answer)) (r .station) [] ⌝ }
     {
+        let sought = self.sought(line, time, due, rate);
+        let answer = start_for(
+            sought,
+            &self.charges.lines,
+            &self.charges.active_times,
+            &self.charges.starts,
+            &self.charges.rates,
+        );
         Previewing {
-            answer: self.start_for(line, time, due, rate),
+            answer,
             station: self,
         }
     }
 
-    // No other start moves.
-    pub fn commit(self, line: u32, time: u32, due: u32, rate: u32, shown: u32) -> Committing
+    // No other start moves. The new charge is put behind the others where they are, since a copy of the charges costs more than
+    // the search at a small station.
+    pub fn commit(mut self, line: u32, time: u32, due: u32, rate: u32, shown: u32) -> Committing
         requires { ⌜ Valid self ⌝ }
         ensures { λ r. ⌜ Gives (step (view self) (commitCall line time due rate shown)) (commitAnswer (r .answer)) (r .station) [] ⌝ }
     {
-        let found = self.start_for(line, time, due, rate);
-        match found {
-            PreviewAnswer::Refused(number) => Committing {
-                answer: CommitAnswer::Refused(number),
+        let sought = self.sought(line, time, due, rate);
+        let found = start_for(
+            sought,
+            &self.charges.lines,
+            &self.charges.active_times,
+            &self.charges.starts,
+            &self.charges.rates,
+        );
+        let PreviewAnswer::Previewed(start) = found else {
+            return Committing {
+                answer: CommitAnswer::Refused(sought.refusal),
                 station: self,
-            },
-            PreviewAnswer::Previewed(start) => {
-                if start != shown {
-                    return Committing {
-                        answer: CommitAnswer::Refused(16),
-                        station: self,
-                    };
-                }
-                let ticket = self.next;
-                let held = self.charges;
-                let active_time = time + self.tail;
-                let with = held.push(
-                    ticket,
-                    line,
-                    self.clock,
-                    time,
-                    active_time,
-                    due,
-                    start,
-                    rate,
-                );
-                let mut next = self;
-                next.next = ticket + 1;
-                next.charges = with;
-                Committing {
-                    answer: CommitAnswer::Committed { ticket, start },
-                    station: next,
-                }
-            }
+            };
+        };
+        if start != shown {
+            return Committing {
+                answer: CommitAnswer::Refused(16),
+                station: self,
+            };
+        }
+        let ticket = self.next;
+        let clock = self.clock;
+        let active_time = time + self.tail;
+        let n = self.charges.held;
+        put(&mut self.charges.tickets, n, ticket);
+        put(&mut self.charges.lines, n, line);
+        put(&mut self.charges.order_minutes, n, clock);
+        put(&mut self.charges.times, n, time);
+        put(&mut self.charges.active_times, n, active_time);
+        put(&mut self.charges.dues, n, due);
+        put(&mut self.charges.starts, n, start);
+        put(&mut self.charges.rates, n, rate);
+        self.charges.held = n + 1;
+        self.next = ticket + 1;
+        Committing {
+            answer: CommitAnswer::Committed { ticket, start },
+            station: self,
         }
     }
 }

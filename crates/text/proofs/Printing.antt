@@ -22,6 +22,11 @@ pub printed-byte :
     (b : ℕ) (buffer : List ℕ) (at : ℕ) → at < length buffer → Printed (b ∷ []) buffer at (set buffer at b) (at + 1)
 printed-byte b buffer at h = record { bytes = refl; place = refl; within = omega arith }
 
+-- what was printed is the text that was to be printed: a function's proof ends in this equation of two texts
+pub printed-as :
+    {xs ys before : List ℕ} {at : ℕ} {after : List ℕ} {next : ℕ} → Printed xs before at after next → xs ≡ ys → Printed ys before at after next
+printed-as p e = rw e at p
+
 -- one text after another
 pub printed-then :
     {xs ys first : List ℕ} {at : ℕ} {second : List ℕ} {next : ℕ} {third : List ℕ} {last : ℕ}

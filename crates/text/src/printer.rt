@@ -1,5 +1,4 @@
 // Texts and decimal numbers, put into a buffer at a place. Each function answers the place after what it put there.
-ghost use mathlib.Core.Path.{_≡_};
 ghost use Prim.Native.Nat.{_+_, _*_, _≤_};
 ghost use lib.ListN.{length, take};
 ghost use Rattle.text.specs.Numbers.{decimal};

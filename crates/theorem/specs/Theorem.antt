@@ -1,6 +1,6 @@
 -- The theorem about the program that is run. Read this file first: it says of which calls the rest is true.
 --
--- A station is opened by `Station::open` (crates/station/src/open.rt) with any limit and percentage. Then calls are made through
+-- A station is opened by `Station::open` (crates/station/src/open.rt) with any limit, percentage and r. Then calls are made through
 -- `apply` (crates/calls/src/lib.rt), any calls with any numbers and any lists, each on the station that the
 -- last one handed back. `MeetsOpen` and `MeetsApply` below are the contracts of the two: src/lib.rt calls them, and the
 -- checker has proved there that what they give meets these. Nothing else is asked of the code.

@@ -1,79 +1,68 @@
 //! The earliest start of an order (N6). The test of a candidate ends at its first failing
 //! minute, and the next candidate lies behind the step that fails there. Loads are added
 //! to the profile only as far as the search looks: those that start in a window from the
-//! clock on, which is as long as the charge at first and twice as long whenever the
-//! search has come to its end.
+//! clock on, which is as long as the charge at first and reaches more than twice as far
+//! whenever the search has come to its end. The windows are those of the proved program
+//! (`earliest_start` in `crates/orders/src/start.rt`).
 
-use super::profile::{Load, Profile, Wanted, NEVER};
+use super::profile::{Load, Profile, Rules, Wanted};
 use super::station::Station;
 
-/// The profile up to the end of the window.
-struct Window<'a> {
-    station: &'a Station,
-    profile: Profile,
-    /// How many charges are in.
-    added: usize,
-    length: u32,
-    /// In the minutes before it all counts are right.
-    until: u32,
+/// So many minutes more than twice as far as the last one a window reaches.
+const WIDER: u32 = 240;
+
+/// Adds the loads of the charges with a start from `low` up to `high`.
+fn add_started(profile: &mut Profile, station: &Station, low: u32, high: u32) {
+    for charge in &station.charges {
+        if low <= charge.start && charge.start < high {
+            let load = charge.load(station.tail);
+            profile.add(Load { from: load.from.max(station.clock), ..load });
+        }
+    }
 }
 
-impl Window<'_> {
-    fn new(station: &Station, length: u32) -> Window<'_> {
-        let clock = station.clock;
-        let profile = Profile::empty(clock);
-        let mut window = Window { station, profile, added: 0, length, until: clock };
-        window.add_until(clock + length);
-        window
-    }
-
-    fn widen(&mut self) {
-        self.length *= 2;
-        self.add_until(self.station.clock + self.length);
-    }
-
-    /// Adds the loads that start from the present end of the window to this one.
-    fn add_until(&mut self, until: u32) {
-        let Station { charges, clock, tail, .. } = self.station;
-        for charge in charges {
-            let Load { line, rate, from, until: end } = charge.load(*tail);
-            let from = from.max(*clock);
-            if self.until <= from && from < until {
-                self.profile.add(Load { line, rate, from, until: end });
-                self.added += 1;
-            }
+/// The first start, not below the one given, that fits by the minutes below `until`, or
+/// one that reaches `until` or behind.
+fn first_fitting(
+    profile: &Profile,
+    wanted: Wanted,
+    rules: Rules,
+    mut start: u32,
+    until: u32,
+) -> u32 {
+    let mut step = profile.step_of(start);
+    while start + wanted.time <= until {
+        let tested = profile.test(step, start, wanted, rules);
+        if tested.fits {
+            return start;
         }
-        self.until = if self.added == charges.len() { NEVER } else { until };
+        step = tested.step + 1;
+        start = profile.until(tested.step).min(until);
     }
+    start
 }
 
 /// The smallest start, not below the clock, with which the held charges, which are sound,
 /// and this one are sound together. The time wanted has the tail in it.
 pub fn earliest(station: &Station, wanted: Wanted) -> u32 {
-    let mut window = Window::new(station, wanted.time);
-    let (mut start, mut step) = (station.clock, 0);
+    let Station { clock, rules, .. } = *station;
+    let mut profile = Profile::empty(clock);
+    let (mut start, mut low, mut until) = (clock, 0, clock + wanted.time);
     loop {
-        // A test up to the end of the window fails rightly, but does not pass.
-        let time = wanted.time.min(window.until - start);
-        let tested = window.profile.test(step, start, Wanted { time, ..wanted }, station.rules);
-        if tested.fits && time == wanted.time {
+        add_started(&mut profile, station, low, until);
+        start = first_fitting(&profile, wanted, rules, start, until);
+        if start + wanted.time <= until {
             return start;
         }
-        if !tested.fits {
-            start = window.profile.until(tested.step).min(window.until);
-            step = tested.step + 1;
-        }
-        if tested.fits || start == window.until {
-            window.widen();
-            step = window.profile.step_of(start);
-        }
+        low = until;
+        until = start + wanted.time + (until - clock) + WIDER;
     }
 }
 
 #[cfg(test)]
 mod tests {
     use super::*;
-    use crate::fast::profile::{Rules, Tested};
+    use crate::fast::profile::Tested;
     use crate::fast::station::Charge;
     use crate::random::Random;
     use crate::reference::{self, minutes};

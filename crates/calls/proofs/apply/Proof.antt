@@ -1,3 +1,4 @@
+-- Case by case: each is one call of the station, and a list for writing that the call does not take stays.
 use mathlib.Core.Path.{refl}
 use Rattle.calls.proofs.Applying.{as-found}
 use borrow.Author.Needs.{needs}

@@ -1,6 +1,7 @@
 -- `answers::print_answer` meets its contract, case by case.
 use Rattle.answers.specs.Answers.{answerText}
-use Rattle.answers.proofs.Answering.{printed-as, enquiry-line}
+use Rattle.text.proofs.Printing.{printed-as}
+use Rattle.answers.proofs.Answering.{enquiry-line}
 use borrow.Author.Needs.{needs}
 use Rattle.answers.proofs.answer.print_answer.Statement.{statement}
 use Rattle.answers.proofs.answer.print_answer.Tie as tie

@@ -1,6 +1,7 @@
 -- `answers::print_enquiry` meets its contract, case by case.
 use Rattle.answers.specs.Answers.{answerText}
-use Rattle.answers.proofs.Answering.{printed-as, refused-left}
+use Rattle.text.proofs.Printing.{printed-as}
+use Rattle.answers.proofs.Answering.{refused-left}
 use borrow.Author.Needs.{needs}
 use Rattle.answers.proofs.answer.print_enquiry.Statement.{statement}
 use Rattle.answers.proofs.answer.print_enquiry.Tie as tie

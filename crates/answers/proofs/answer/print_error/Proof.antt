@@ -1,6 +1,6 @@
 -- `answers::print_error` meets its contract: in each case the text is that of the reason.
 
-use Rattle.answers.proofs.Answering.{printed-as}
+use Rattle.text.proofs.Printing.{printed-as}
 use borrow.Author.Needs.{needs}
 use Rattle.answers.proofs.answer.print_error.Statement.{statement}
 use Rattle.answers.proofs.answer.print_error.Tie as tie

@@ -1,6 +1,5 @@
 -- `answers::print_four` meets its contract: its parts are printed one after another.
-use Rattle.text.proofs.Printing.{printed-then}
-use Rattle.answers.proofs.Answering.{printed-as}
+use Rattle.text.proofs.Printing.{printed-as, printed-then}
 use borrow.Author.Needs.{needs}
 use Rattle.answers.proofs.answer.print_four.Statement.{statement}
 use Rattle.answers.proofs.answer.print_four.Tie as tie

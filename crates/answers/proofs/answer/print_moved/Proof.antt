@@ -1,7 +1,6 @@
 -- `answers::print_moved` meets its contract: its parts are printed one after another.
 use Rattle.answers.specs.Answers.{answerText}
-use Rattle.text.proofs.Printing.{printed-then}
-use Rattle.answers.proofs.Answering.{printed-as}
+use Rattle.text.proofs.Printing.{printed-as, printed-then}
 use borrow.Author.Needs.{needs}
 use Rattle.answers.proofs.answer.print_moved.Statement.{statement}
 use Rattle.answers.proofs.answer.print_moved.Tie as tie

@@ -1,6 +1,6 @@
 -- `answers::print_opening` meets its contract, case by case.
 use Rattle.answers.specs.Answers.{answerText}
-use Rattle.answers.proofs.Answering.{printed-as}
+use Rattle.text.proofs.Printing.{printed-as}
 use borrow.Author.Needs.{needs}
 use Rattle.answers.proofs.answer.print_opening.Statement.{statement}
 use Rattle.answers.proofs.answer.print_opening.Tie as tie

@@ -1,4 +1,5 @@
 use borrow.Author.Needs.{needs}
+use Rattle.lines.proofs.Nexts.{chosen-by}
 use Rattle.lines.proofs.next.chosen_at.Statement.{statement}
 use Rattle.lines.proofs.next.chosen_at.Tie as tie
 
@@ -12,7 +13,7 @@ choose-requires : tie.Need-choose-requires
 choose-requires c κs = search needs
 
 returns : tie.Need-returns
-returns c = rw (c .before .before .run-under .ensures, c .before .run-under2 .ensures) at (c .choose .ensures)
+returns c = chosen-by (c .choose .ensures) (search needs) (search needs)
 
 pub chosen-at-spec : {M : Type 1} → statement M
 chosen-at-spec =

@@ -1,6 +1,7 @@
 -- At the last start, or at the next one.
-use borrow.Author.Needs.{needs}
-use Rattle.lines.proofs.Nexts.{can-here, next-here, can-seek, can-there, next-there}
+use native.Mathlib.Omega.{arith}
+use Rattle.lines.proofs.Seeking.{can-seek}
+use Rattle.lines.proofs.Nexts.{can-here, next-here, there-range, can-there, next-there}
 use Rattle.lines.proofs.next.next_charge.Statement.{statement}
 use Rattle.lines.proofs.next.next_charge.Tie as tie
 
@@ -8,37 +9,26 @@ chosen-at-requires : tie.Need-chosen-at-requires
 chosen-at-requires c κs = can-here (c .pre)
 
 returns : tie.Need-returns
-returns c = next-here (c .before .before .pre) (c .before .chosen-at .ensures) (c .if1 .taken)
+returns c = next-here (c .before .before .pre) (c .before .chosen-at .ensures) (omega (arith, c .if1 .taken))
 
-shortest-requires : tie.Need-shortest-requires
-shortest-requires c κs = (c .before .before .pre .can-choose .can-fit, c .before .before .pre .active)
-
-shortest-requires-2 : tie.Need-shortest-requires-2
-shortest-requires-2 c κs = (c .before .before .before .pre .can-choose .can-fit, c .before .before .before .pre .active)
+narrowed-requires : tie.Need-narrowed-requires
+narrowed-requires c κs = c .before .before .pre .can-choose .range
 
 next-start-requires : tie.Need-next-start-requires
 next-start-requires c κs =
-    let s = c .before .before .before .before in
-    (can-seek (s .pre) (c .before .shortest .ensures), can-seek (s .pre) (c .shortest2 .ensures))
-
-shortest-requires-3 : tie.Need-shortest-requires-3
-shortest-requires-3 c κs = let s = c .before .before .before .before .before in (s .pre .can-choose .can-fit, s .pre .short)
-
-shortest-requires-4 : tie.Need-shortest-requires-4
-shortest-requires-4 c κs = let s = c .before .before .before .before .before .before in (s .pre .can-choose .can-fit, s .pre .short)
-
-shorter-requires : tie.Need-shorter-requires
-shorter-requires c κs = search needs
+    let s = c .before .before .before in
+    let w = c .narrowed .ensures .times in (can-seek (s .pre) (w .one), can-seek (s .pre) (w .two))
 
 chosen-at-requires-2 : tie.Need-chosen-at-requires-2
 chosen-at-requires-2 c κs =
-    let s = c .before .before .before .before .before .before .before .before in
-    can-there (s .pre) (c .before .before .before .before .before .shortest .ensures) (c .before .before .before .before .shortest2 .ensures) (c .before .before .before .next-start .ensures) (c .before .before .shortest3 .ensures) (c .before .shortest4 .ensures) (c .shorter .ensures)
+    let s = c .before .before .before .before in
+    let w = c .before .narrowed .ensures in
+    let r = there-range (s .pre) w (c .next-start .ensures) in
+    can-there (s .pre) w (omega (arith, r .0, s .pre .low)) (omega (arith, r .1, s .pre .can-start .ends-fit, s .pre .from-fits))
 
 returns-2 : tie.Need-returns-2
 returns-2 c =
-    let s = c .before .before .before .before .before .before .before .before .before in
-    next-there (s .pre) (c .before .before .before .before .before .before .shortest .ensures) (c .before .before .before .before .before .shortest2 .ensures) (c .before .before .before .before .next-start .ensures) (c .before .before .before .shortest3 .ensures) (c .before .before .shortest4 .ensures) (c .before .shorter .ensures) (c .chosen-at2 .ensures)
+    next-there (c .before .before .before .before .before .pre) (c .before .before .narrowed .ensures) (c .before .next-start .ensures) (c .chosen-at2 .ensures) (omega arith)
 
 pub next-charge-spec : {M : Type 1} → statement M
 next-charge-spec =
@@ -46,11 +36,7 @@ next-charge-spec =
     (tie.spec
     chosen-at-requires
     returns
-    shortest-requires
-    shortest-requires-2
+    narrowed-requires
     next-start-requires
-    shortest-requires-3
-    shortest-requires-4
-    shorter-requires
     chosen-at-requires-2
     returns-2)

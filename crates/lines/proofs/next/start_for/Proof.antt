@@ -1,10 +1,9 @@
 use native.Mathlib.Omega.{arith}
-use mathlib.Core.Path.{refl}
 use Rattle.lines.proofs.next.start_for.Statement.{statement}
 use Rattle.lines.proofs.next.start_for.Tie as tie
 
 returns : tie.Need-returns
-returns c = record { earliest = λ h. absurd (omega (arith, c .if1 .taken)); none = λ e. refl }
+returns c = record { earliest = λ h. absurd (omega (arith, c .if1 .taken)); none = λ e. omega arith }
 
 next-under-requires : tie.Need-next-under-requires
 next-under-requires c κs =

@@ -2,7 +2,6 @@
 use native.Mathlib.Omega.{arith}
 use Prim.Native.Nat.{_-_}
 use borrow.Author.Needs.{needs}
-use Rattle.search.proofs.Lowerings.{lowered-shows}
 use Rattle.planner.proofs.Showing.{listed-ends, listed-rates}
 use Rattle.lines.proofs.Counting.{Rounds, rounds-capped, rounds-start, rounds-done, rounds-spent, lowers-fit, rounds-next}
 use Rattle.lines.proofs.rounds.by_lines.Statement.{statement}
@@ -24,7 +23,7 @@ new-requires : tie.Need-new-requires Inv-loop μ-loop
 new-requires c κs = search needs
 
 loop-holds : tie.Need-loop-holds Inv-loop μ-loop
-loop-holds c = rounds-start (c .before .before .before .args .allowance) (c .before .before .before .pre) (c .new .ensures)
+loop-holds c = rounds-start (c .before .before .before .args .allowance) (c .before .before .before .pre) (c .new .ensures) (omega arith)
 
 play-requires : tie.Need-play-requires Inv-loop μ-loop
 play-requires c κs = (c .before .before .before .before .pre, c .before .before .before .by-latest-start .ensures, c .before .before .profile-before .ensures, rounds-capped (c .loop .inv))
@@ -36,13 +35,13 @@ enum-told : tie.Need-enum-told Inv-loop μ-loop
 enum-told c = search needs
 
 returns : tie.Need-returns Inv-loop μ-loop
-returns c = rounds-done (c .before .before .before .before .loop .inv) (c .before .before .before .play .ensures) (c .enum-told .given .1)
+returns c = rounds-done (c .before .before .before .before .loop .inv) (c .before .before .before .play .ensures) (c .enum-told .given .1) (omega arith)
 
 none-requires : tie.Need-none-requires Inv-loop μ-loop
 none-requires c κs = search needs
 
 returns-2 : tie.Need-returns-2 Inv-loop μ-loop
-returns-2 c = rounds-spent (c .before .before .before .before .before .before .before .loop .inv) (c .before .before .before .before .before .before .play .ensures) (c .before .before .before .outcome .given .1) (c .before .if1 .taken) (c .none .ensures .0) (c .none .ensures .1)
+returns-2 c = rounds-spent (c .before .before .before .before .before .before .before .loop .inv) (c .before .before .before .before .before .before .play .ensures) (c .before .before .before .outcome .given .1) (omega (arith, c .before .if1 .taken)) (omega (arith, c .none .ensures .0)) (c .none .ensures .1) (omega arith)
 
 lower-requires : tie.Need-lower-requires Inv-loop μ-loop
 lower-requires c κs = (c .before .before .before .before .before .before .loop .inv .shown .size, lowers-fit (c .before .before .before .before .before .before .loop .inv) (c .before .before .before .before .before .play .ensures) (c .before .before .outcome .given .1) .0)
@@ -54,7 +53,7 @@ loop-less : tie.Need-loop-less Inv-loop μ-loop
 loop-less c = omega arith
 
 loop-again : tie.Need-loop-again Inv-loop μ-loop
-loop-again c = rounds-next (c .before .before .before .before .before .before .before .loop .inv) (c .before .before .before .before .before .before .play .ensures) (c .before .before .before .outcome .given .1) (c .before .before .before .before .before .before .before .before .before .before .before .pre) (c .before .if1 .left) (lowered-shows (c .lower .ensures))
+loop-again c = rounds-next (c .before .before .before .before .before .before .before .loop .inv) (c .before .before .before .before .before .before .play .ensures) (c .before .before .before .outcome .given .1) (c .before .before .before .before .before .before .before .before .before .before .before .pre) (omega (arith, c .before .if1 .left)) (c .lower .ensures) (omega arith) (omega arith) (omega arith)
 
 pub by-lines-spec : {M : Type 1} → statement M
 by-lines-spec =

@@ -1,6 +1,6 @@
 -- A round is that of the rules, whatever caps the lists of minutes stand for.
+use native.Mathlib.Omega.{arith}
 use borrow.Author.Needs.{needs}
-use Rattle.profile.proofs.Balances.{unbalanced-shows}
 use Rattle.lines.proofs.Playing.{round-formed, plays-balanced, round-comparable, plays-asked}
 use Rattle.lines.proofs.rounds.play.Statement.{statement}
 use Rattle.lines.proofs.rounds.play.Tie as tie
@@ -23,12 +23,12 @@ waiting-starts-requires c κs = search needs
 returns : tie.Need-returns
 returns c =
     plays-balanced (c .before .before .before .before .before .before .before .pre .0) (c .before .before .before .before .before .before .before .pre .3) (c .before .before .before .before .before .before .place-lines .ensures) _
-    (unbalanced-shows (c .before .before .before .before .first-unbalanced .ensures)) (c .before .before .enum-told .given .1) (c .waiting-starts .ensures)
+    (c .before .before .before .before .first-unbalanced .ensures) (omega arith) (c .before .before .enum-told .given .1) (c .waiting-starts .ensures)
 
 unbalanced-in-requires : tie.Need-unbalanced-in-requires
 unbalanced-in-requires c κs =
     round-comparable (c .before .before .before .before .before .before .pre .0) (c .before .before .before .before .before .before .pre .3) (c .before .before .before .before .before .place-lines .ensures) _
-    (unbalanced-shows (c .before .before .before .first-unbalanced .ensures)) (c .before .unbalanced .given .1) (c .before .before .before .before .before .before .pre .2)
+    (c .before .before .before .first-unbalanced .ensures) (omega arith) (c .before .unbalanced .given .1) (c .before .before .before .before .before .before .pre .2)
 
 none-requires : tie.Need-none-requires
 none-requires c κs = search needs
@@ -36,7 +36,7 @@ none-requires c κs = search needs
 returns-2 : tie.Need-returns-2
 returns-2 c =
     plays-asked (c .before .before .before .before .before .before .before .before .pre .0) (c .before .before .before .before .before .before .before .before .pre .3) (c .before .before .before .before .before .before .before .place-lines .ensures) _
-    (unbalanced-shows (c .before .before .before .before .before .first-unbalanced .ensures)) (c .before .before .before .unbalanced .given .1) (c .before .before .before .before .before .before .before .before .pre .2)
+    (c .before .before .before .before .before .first-unbalanced .ensures) (omega arith) (c .before .before .before .unbalanced .given .1) (c .before .before .before .before .before .before .before .before .pre .2)
     (c .none .ensures .0) (c .none .ensures .1) (c .before .unbalanced-in .ensures)
 
 pub play-spec : {M : Type 1} → statement M

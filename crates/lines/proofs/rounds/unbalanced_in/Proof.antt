@@ -38,7 +38,7 @@ add-cap : tie.Need-add-cap
 add-cap c = omega (arith, low-small (c .before .before .before .before .before .before .before .before .before .pre) (c .before .before .before .before .before .before .before .before .level .ensures) (c .before .before .before .before .before .before .before .level2 .ensures) (c .before .before .before .before .before .before .level3 .ensures) (c .before .smallest-line .ensures) (c .level6 .ensures), c .before .before .before .before .before .before .before .before .before .pre .bound-most)
 
 returns-2 : tie.Need-returns-2
-returns-2 c = asked-lowers (c .before .before .before .before .before .before .before .before .before .pre) (c .before .before .before .before .before .before .before .before .level .ensures) (c .before .before .before .before .before .before .before .level2 .ensures) (c .before .before .before .before .before .before .level3 .ensures) (c .before .before .before .before .before .largest-line .ensures) (c .before .before .before .before .level4 .ensures) (c .before .before .before .level5 .ensures) (c .before .before .if1 .left) (c .before .smallest-line .ensures) (c .level6 .ensures)
+returns-2 c = asked-lowers (c .before .before .before .before .before .before .before .before .before .pre) (c .before .before .before .before .before .before .before .before .level .ensures) (c .before .before .before .before .before .before .before .level2 .ensures) (c .before .before .before .before .before .before .level3 .ensures) (c .before .before .before .before .before .largest-line .ensures) (c .before .before .before .before .level4 .ensures) (c .before .before .before .level5 .ensures) (c .before .before .if1 .left) (c .before .smallest-line .ensures) (c .level6 .ensures) (omega arith) (omega arith)
 
 pub unbalanced-in-spec : {M : Type 1} → statement M
 unbalanced-in-spec =

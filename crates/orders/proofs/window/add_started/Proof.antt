@@ -5,17 +5,18 @@ use mathlib.Core.Logic.{⊎-elim}
 use native.Mathlib.Omega.{arith}
 use borrow.Author.Needs.{needs}
 use Rattle.profile.specs.Shows.{profileOf}
+use Rattle.orders.specs.Windows.{drawing}
 use Rattle.planner.proofs.Profiles.{same-parts}
 use Rattle.orders.proofs.Extending.{Extended, extended-none, extended-can-add, extended-on, extended-past}
 use Rattle.orders.proofs.window.add_started.Statement.{statement}
 use Rattle.orders.proofs.window.add_started.Tie as tie
 
 abbrev Inv-loop : tie.InvT-loop
-Inv-loop at₀ counts₀ n low high held steps₀ i₀ i-end at counts steps i =
-    (i ≤ held .held) × Extended (profileOf n at₀ counts₀) (profileOf steps at counts) held low high i
+Inv-loop at₀ counts₀ n lines active-times starts rates window held steps₀ i₀ at counts steps i =
+    (i ≤ window .held) × Extended (profileOf n at₀ counts₀) (profileOf steps at counts) (drawing (window .held) lines active-times starts rates) (window .low) (window .high) i
 
 abbrev μ-loop : tie.MeasureT-loop
-μ-loop at₀ counts₀ n low high held steps₀ i₀ i-end at counts steps i = held .held - i
+μ-loop at₀ counts₀ n lines active-times starts rates window held steps₀ i₀ at counts steps i = window .held - i
 
 loop-holds : tie.Need-loop-holds Inv-loop μ-loop
 loop-holds c =
@@ -78,7 +79,7 @@ loop-again c =
 
 returns : tie.Need-returns Inv-loop μ-loop
 returns c =
-    let l = c .before .loop in let e : l .i ≡ c .before .before .args .t4 .held = omega arith in λ clock loads s. rw (← e) (l .inv .1 .shown clock loads s)
+    let l = c .before .loop in let e : l .i ≡ c .before .before .args .window .held = omega arith in λ clock loads s. rw (← e) (l .inv .1 .shown clock loads s)
 
 pub add-started-spec : {M : Type 1} → statement M
 add-started-spec =

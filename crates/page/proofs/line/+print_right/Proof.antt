@@ -1,5 +1,4 @@
 -- `page::print_right` meets its contract. It calls itself on a tenth of the number, which is the measure, and then puts the last digit.
-use mathlib.Core.Path.{ap}
 use native.Mathlib.Omega.{arith}
 use lib.ListN.{length, length-set}
 use Rattle.page.proofs.Aligning.{length-spaces, length-right, some-digit, more-digits, printed-small, printed-more}
@@ -80,7 +79,7 @@ print-right-slice-write-buffer : (t : ℕ) → print-right-lts.Need-slice-write-
   print-right-below t,
   print-right.Post,
 ) (print-right-at t) print-right.Post
-print-right-slice-write-buffer t c = small-within t c
+print-right-slice-write-buffer t c = omega (arith, small-within t c, c .before .before .print-spaces .ensures .place)
 
 print-right-add-result : (t : ℕ) → print-right-lts.Need-add-result (
   print-spaces-reads.Asked,
@@ -106,7 +105,7 @@ print-right-returns : (t : ℕ) → print-right-lts.Need-returns (
 ) (print-right-at t) print-right.Post
 print-right-returns t c =
     let s = c .before .before .before .before .before .before in
-    printed-small (s .args .n) (s .args .width) (s .args .buffer .now) (s .args .at) (c .before .before .print-spaces .last .1 .0) (c .before .before .print-spaces .result) (c .before .before .before .before .if1 .taken) (small-within t c) (c .before .before .print-spaces .ensures)
+    printed-small (s .args .n) (s .args .width) (s .args .buffer .now) (s .args .at) (c .before .before .print-spaces .last .1 .0) (c .before .before .print-spaces .result) (search) (c .before .before .before .before .if1 .taken) (small-within t c) (c .before .before .print-spaces .ensures)
 
 print-right-sub-print-right : (t : ℕ) → print-right-lts.Need-sub-print-right (
   print-spaces-reads.Asked,
@@ -165,7 +164,7 @@ print-right-slice-write-buffer-2 : (t : ℕ) → print-right-lts.Need-slice-writ
   print-right-below t,
   print-right.Post,
 ) (print-right-at t) print-right.Post
-print-right-slice-write-buffer-2 t c = last-within t c
+print-right-slice-write-buffer-2 t c = omega (arith, last-within t c, c .before .before .print-right .ensures .place)
 
 print-right-add-result-2 : (t : ℕ) → print-right-lts.Need-add-result-2 (
   print-spaces-reads.Asked,
@@ -191,7 +190,7 @@ print-right-returns-2 : (t : ℕ) → print-right-lts.Need-returns-2 (
 ) (print-right-at t) print-right.Post
 print-right-returns-2 t c =
     let s = c .before .before .before .before .before .before in
-    printed-more (s .args .n) (s .args .width) (s .args .buffer .now) (s .args .at) (c .before .before .print-right .last .1 .1 .0) (c .before .before .print-right .result) (c .before .before .before .before .if1 .left) (s .fits .n .fits) (last-within t c) (c .before .before .print-right .ensures)
+    printed-more (s .args .n) (s .args .width) (s .args .buffer .now) (s .args .at) (c .before .before .print-right .last .1 .1 .0) (c .before .before .print-right .result) (search) (c .before .before .before .before .if1 .left) (s .fits .n .fits) (last-within t c) (c .before .before .print-right .ensures)
 
 pub +print-right-spec : {M : Type 1} → statement M
 +print-right-spec = close μ-print-right λ t. print-right-lts.spec (

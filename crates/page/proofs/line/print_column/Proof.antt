@@ -2,7 +2,7 @@
 use native.Mathlib.Omega.{arith}
 use Rattle.text.specs.Numbers.{decimal}
 use Rattle.text.proofs.Printing.{printed-then}
-use Rattle.page.proofs.Aligning.{length-right}
+use Rattle.page.proofs.Aligning.{printed-as, length-right}
 use borrow.Author.Needs.{needs}
 use Rattle.page.proofs.line.print_column.Statement.{statement}
 use Rattle.page.proofs.line.print_column.Tie as tie
@@ -27,7 +27,7 @@ returns c =
     let s = c .before .before .before .before .before .before .before .before .before .before in
     let p = c .before .before .before .before .before .before .before .print-right .ensures in
     let q = c .before .before .print-text .ensures in
-    (printed-then p q, omega (arith, p .place, q .place, length-right (s .args .width) (decimal (s .args .n)) (s .pre .0)))
+    (printed-as (printed-then p q) (search), omega (arith, p .place, q .place, length-right (s .args .width) (decimal (s .args .n)) (s .pre .0)))
 
 pub print-column-spec : {M : Type 1} → statement M
 print-column-spec =

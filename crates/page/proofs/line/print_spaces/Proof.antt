@@ -36,7 +36,7 @@ loop-again c =
     let a = l .before .args in (
       omega arith,
       simp length-set (l .loop .inv .1),
-      printed-space (a .buffer .now) (a .at) (l .loop .i) (l .loop .buffer) (omega arith) (l .loop .inv .2),
+      printed-space (a .buffer .now) (a .at) (l .loop .i) (l .loop .buffer) (search) (omega arith) (l .loop .inv .2),
     )
 
 add-result : tie.Need-add-result Inv-loop μ-loop

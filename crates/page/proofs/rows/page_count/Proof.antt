@@ -1,13 +1,12 @@
 -- `page::page_count` meets its contract.
-use mathlib.Core.Path.{sym}
 use native.Mathlib.Omega.{arith}
-use Rattle.page.proofs.Paging.{one-page, some-pages}
+use Rattle.page.proofs.Counting.{one-page, some-pages}
 use borrow.Author.Needs.{needs}
 use Rattle.page.proofs.rows.page_count.Statement.{statement}
 use Rattle.page.proofs.rows.page_count.Tie as tie
 
 returns : tie.Need-returns
-returns c = (sym (one-page (c .before .args .held) (c .if1 .taken)), omega arith)
+returns c = (omega (arith, one-page (c .before .args .held) (c .if1 .taken)), omega arith)
 
 add-result : tie.Need-add-result
 add-result c = search needs

@@ -2,18 +2,25 @@
 use Prim.Native.Nat.{_-_}
 use native.Mathlib.Omega.{arith}
 use borrow.Author.Needs.{needs}
-use Rattle.priority.proofs.Choosing.{NoneYet, none-more, fits-here, fits-nowhere}
+use Rattle.priority.specs.Numbers.{numbersIn}
+use Rattle.priority.proofs.Passing.{NoneYet, none-more, fits-here, fits-nowhere}
 use Rattle.priority.proofs.choice.fitting.Statement.{statement}
 use Rattle.priority.proofs.choice.fitting.Tie as tie
 
 abbrev Inv-loop : tie.InvT-loop
-Inv-loop times rates left n one two from j₀ j = NoneYet times rates left n one two from j
+Inv-loop columns left n one two from actives rates j₀ j = NoneYet (numbersIn columns) left n one two from j
 
 abbrev μ-loop : tie.MeasureT-loop
-μ-loop times rates left n one two from j₀ j = n - j
+μ-loop columns left n one two from actives rates j₀ j = n - j
+
+array-copy-out-active-times : tie.Need-array-copy-out-active-times Inv-loop μ-loop
+array-copy-out-active-times c = search needs
+
+array-copy-out-rates : tie.Need-array-copy-out-rates Inv-loop μ-loop
+array-copy-out-rates c = search needs
 
 loop-holds : tie.Need-loop-holds Inv-loop μ-loop
-loop-holds c = record { low = omega arith; high = c .pre .1; passed = λ i a b. absurd (omega arith) }
+loop-holds c = record { passed = λ i a b. absurd (omega arith); low = omega arith; high = omega (arith, c .pre .1) }
 
 mul-i : tie.Need-mul-i Inv-loop μ-loop
 mul-i c = omega (arith, c .before .before .pre .0 .few)
@@ -57,6 +64,8 @@ fitting-spec =
     (tie.spec
     Inv-loop
     μ-loop
+    array-copy-out-active-times
+    array-copy-out-rates
     loop-holds
     mul-i
     element-copy-out-i

@@ -1,3 +1,4 @@
+-- Of no numbers, to drop none and to drop one leave the same, and 0 is not beyond their end.
 use mathlib.Core.Path.{refl}
 use native.Mathlib.Omega.{arith}
 use Rattle.requests.proofs.Lending.{none-behind}

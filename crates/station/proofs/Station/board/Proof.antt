@@ -1,3 +1,4 @@
+-- With no refusal the tickets rise and the list has room, as the walk asks; it writes and counts what the rules do.
 use native.Mathlib.Omega.{arith}
 use mathlib.Core.Path.{_≡_, sym, _∙_}
 use Rattle.rules.specs.Calls.{board}

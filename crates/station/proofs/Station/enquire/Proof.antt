@@ -1,3 +1,4 @@
+-- A ticket that is found is that of a held charge, and its start against the clock decides what is told of it.
 use mathlib.Core.Path.{_≡_, ap, sym, _∙_}
 use mathlib.Core.List.{[]}
 use Prim.Native.Nat.{ℕ, _<_}

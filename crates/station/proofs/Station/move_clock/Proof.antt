@@ -1,3 +1,4 @@
+-- With no refusal the pairs of all passed charges fit in the list, and no more charges are left than were held.
 use native.Mathlib.Omega.{arith}
 use mathlib.Core.Path.{_≡_, sym, _∙_}
 use Rattle.station.proofs.Listing.{valid-listed}

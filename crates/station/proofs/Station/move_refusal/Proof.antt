@@ -1,3 +1,4 @@
+-- At each way out its own test holds and those before it fail, so that its number is the first of the rules.
 use borrow.Author.Tests.{lt-ltb, le-ltb}
 use Rattle.station.proofs.Station.move_refusal.Statement.{statement}
 use Rattle.station.proofs.Station.move_refusal.Tie as tie

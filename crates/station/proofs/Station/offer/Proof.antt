@@ -1,3 +1,4 @@
+-- As many starts as charges wait are tested whole, since the first so many are all of them; any other number is refusal 10.
 use mathlib.Core.Path.{_≡_}
 use native.Mathlib.Omega.{arith}
 use lib.ListN.{length}

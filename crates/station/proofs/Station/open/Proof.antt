@@ -1,3 +1,4 @@
+-- The settings 1, 100 and 0 are refused by nothing, so that a refused opening has a fresh station too.
 use mathlib.Core.Path.{sym, _∙_}
 use native.Mathlib.Omega.{arith}
 use Rattle.station.specs.Answers.{settingsOf}

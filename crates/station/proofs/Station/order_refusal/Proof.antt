@@ -1,3 +1,4 @@
+-- At each way out its own test holds and those before it fail; the state has as many charges as places are held.
 use native.Mathlib.Omega.{arith}
 use borrow.Author.Tests.{lt-ltb, le-ltb, le-leb, lt-leb}
 use Rattle.rules.proofs.Lists.{length-tabulate}

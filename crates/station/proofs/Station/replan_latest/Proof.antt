@@ -1,3 +1,4 @@
+-- The planner proposes what the rules propose, and the test that all plans end with makes of it what they make.
 use mathlib.Core.List.{[]}
 use Rattle.rules.specs.Calls.{replanLatest}
 use Rattle.station.specs.Answers.{planAnswer}

@@ -1,3 +1,4 @@
+-- Within 1 to 1,000 the rounds and the proposal are those of the rules, and the test is the common one; else refusal 11.
 use mathlib.Core.List.{[]}
 use native.Mathlib.Omega.{arith}
 use Rattle.rules.specs.Calls.{replanLines}

@@ -1,3 +1,4 @@
+-- With a cause the plan stays, late by as much as before; with none the first starts, one per waiting charge, are tested.
 use mathlib.Core.Path.{_∙_}
 use native.Mathlib.Omega.{arith}
 use Rattle.planner.specs.Starts.{waitingCount}

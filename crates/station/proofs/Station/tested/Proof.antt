@@ -1,3 +1,4 @@
+-- The charges are those of the judgement, new starts with cause 0 and the held ones with any other; all else stays.
 use Rattle.station.proofs.Listing.{valid-listed}
 use Rattle.station.proofs.Planned.{judged-result, judged-columns}
 use borrow.Author.Needs.{needs}

@@ -1,3 +1,4 @@
+-- Tickets rise, so that no other charge has the ticket found: its start decides what the rules ask of all charges.
 use mathlib.Core.Path.{_≡_, ap, _∙_}
 use Prim.Native.Nat.{ℕ, _<_}
 use native.Mathlib.Omega.{arith}

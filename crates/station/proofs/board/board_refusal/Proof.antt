@@ -1,3 +1,4 @@
+-- The tests are of the two lists alone, so that the answer is the same whatever the station holds.
 use mathlib.Core.Path.{sym, _∙_}
 use borrow.Author.Tests.{lt-ltb, le-ltb, not-true, not-false}
 use borrow.Author.Needs.{needs}

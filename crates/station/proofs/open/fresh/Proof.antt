@@ -1,3 +1,4 @@
+-- Settings that are not refused have a product of at most 6,000, which fits; the bound is the rules' and no charge is held.
 use native.Mathlib.Omega.{arith}
 use Rattle.station.specs.Answers.{settingsOf}
 use Rattle.station.proofs.Opened.{opens, product-most, view-fresh}

@@ -1,3 +1,4 @@
+-- The answer's hundreds are within 50 of the product, and it is even where they are 50 away: no other number is like that.
 use native.Mathlib.Omega.{arith}
 use Rattle.rules.proofs.Rounding.{nearest-only}
 use borrow.Author.Needs.{needs}

@@ -1,3 +1,4 @@
+-- At each way out its own test holds and those before it fail; behind 1 and 2 the product is at most 6,000, so that it fits.
 use mathlib.Core.Path.{sym, _∙_}
 use native.Mathlib.Omega.{arith}
 use borrow.Author.Tests.{lt-ltb, le-ltb, eq-eqb, ne-eqb}

@@ -1,0 +1,5 @@
+pub mod Filling
+pub mod Numbers
+pub mod Taking
+pub mod Putting
+pub mod Counting

@@ -1,0 +1,4 @@
+pub mod Ascending
+pub mod Showing
+pub mod Looking
+pub mod Boarding

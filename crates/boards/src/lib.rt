@@ -1,0 +1,70 @@
+// The board: the starts of the charges that are asked for by their tickets.
+use charges::Charges;
+use charges::PLACES;
+ghost use mathlib.Core.Path.{_≡_};
+ghost use mathlib.Core.Bool.{cond, _&&_};
+ghost use Prim.Native.Nat.{_≤_};
+ghost use lib.Dec.{leb, ltb, eqb};
+ghost use lib.ListN.{getD};
+ghost use Rattle.rules.specs.Calls.{risesFrom, notHeld};
+ghost use Rattle.boards.specs.Board.{CanBoard, Boarded};
+
+// "4,294,967,295 for one not held"
+const NOT_HELD: u32 = 4294967295;
+
+// Whether each number is above the one before it.
+pub fn rises(list: &[u32]) -> bool
+    ensures { λ r. ⌜ r ≡ risesFrom 0 (now (list .entry)) ⌝ }
+{
+    let n = list.len();
+    for i in 1..n {
+        if list[i] <= list[i - 1] {
+            return false;
+        }
+    }
+    true
+}
+
+// Whether a charge is held at the place, with a ticket that is not above this one.
+fn is_looked_at(tickets: &[u32; PLACES], held: usize, place: usize, ticket: u32) -> bool
+    requires { ⌜ held ≤ 180 ⌝ }
+    ensures { λ r. ⌜ r ≡ (ltb place held && leb (getD (now (tickets .entry)) place 0) ticket) ⌝ }
+{
+    if place < held {
+        tickets[place] <= ticket
+    } else {
+        false
+    }
+}
+
+// The start of a charge, where it has the ticket that is asked for.
+fn shown_for(held: u32, ticket: u32, start: u32) -> u32
+    ensures { λ r. ⌜ r ≡ cond (eqb held ticket) start notHeld ⌝ }
+{
+    if held == ticket { start } else { NOT_HELD }
+}
+
+// "It walks the held charges once": they and the tickets rise, so that a charge is passed with the first ticket that is not
+// below its own, and a ticket is answered at the first charge above it. The answer: how many charges were passed.
+pub fn board(charges: Charges, asked: &[u32], answers: &mut [u32]) -> usize
+    requires { ⌜ CanBoard charges (now asked) (now answers) ⌝ }
+    ensures { λ r. ⌜ Boarded charges (now (asked .entry)) (now (answers .entry)) (now (answers .exit)) r ⌝ }
+{
+    let held = charges.held;
+    let count = asked.len();
+    let mut place = 0;
+    let mut answered = 0;
+    let mut shown = NOT_HELD;
+    while answered < count {
+        let ticket = asked[answered];
+        if is_looked_at(&charges.tickets, held, place, ticket) {
+            shown = shown_for(charges.tickets[place], ticket, charges.starts[place]);
+            place += 1;
+        } else {
+            answers[answered] = shown;
+            shown = NOT_HELD;
+            answered += 1;
+        }
+    }
+    place
+}

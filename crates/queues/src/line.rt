@@ -1,0 +1,39 @@
+// The places of a queue that are on a line, and one of them taken out.
+use charges::PLACES;
+use charges::places::Places;
+ghost use mathlib.Core.Path.{_≡_};
+ghost use Prim.Native.Nat.{_<_, _≤_};
+ghost use lib.ListN.{length};
+ghost use Rattle.rules.specs.Basics.{keep};
+ghost use Rattle.charges.specs.Places.{placesOf, Inside, Lists};
+ghost use Rattle.queues.specs.Queues.{Removed, isOnLine};
+
+// Those on the line, in the same order.
+pub fn on_line(queue: Places, lines: &[u32; PLACES], line: u32) -> Places
+    requires { ⌜ Inside queue ⌝ }
+    ensures { λ r. ⌜ Lists (keep (isOnLine (now (lines .entry)) line) (placesOf queue)) r ⌝ }
+{
+    let n = queue.count;
+    let mut places = [0usize; PLACES];
+    let mut count = 0;
+    for j in 0..n {
+        let i = queue.places[j];
+        if lines[i] == line {
+            places[count] = i;
+            count += 1;
+        }
+    }
+    Places { count, places }
+}
+
+// The first n places without the j-th: those behind it move up by one.
+pub fn remove(places: &mut [usize; PLACES], n: usize, j: usize)
+    requires { ⌜ (length (now places) ≡ 180) × (n ≤ 180) × (j < n) ⌝ }
+    ensures { λ r. ⌜ Removed (now (places .entry)) (now (places .exit)) n j ⌝ }
+{
+    let mut k = j + 1;
+    while k < n {
+        places[k - 1] = places[k];
+        k += 1;
+    }
+}

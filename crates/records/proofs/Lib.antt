@@ -1,0 +1,4 @@
+pub mod Begun
+pub mod Packing
+pub mod Joining
+pub mod Columning

@@ -1,0 +1,3 @@
+pub mod Contents
+pub mod Rows
+pub mod Columns
