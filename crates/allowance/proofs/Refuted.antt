@@ -32,6 +32,7 @@ not-spent (b, a, n, e) = let z : _≡_ {A = ℕ} 7 2 = cc in omega arith
 pub charges-limited : LargerAllowance chargesLimited plays stationH → ⊥
 unfolding limited balanced sound earliest firstUnbalanced fading weights weightOf firstFit picked placeOn round roundsFrom byLines judged opening committing
 charges-limited d =
+    let told : chargesLimited stationH 1 .answer ≡ planned 7 5 5 1 = refl in
     let h : planned 0 5 0 1 ≡ planned 7 5 5 1
     = ap (λ (r : Result). r .answer) (d .same 1 2 (refl, tt) (omega arith) (omega arith) not-spent) in
     let z : _≡_ {A = ℕ} 0 7 = cc in

@@ -67,7 +67,7 @@ loop-again c =
     ⊎-elim
     (λ w. (
       omega arith,
-      begun-on (s .args .before) (s .args .t1) (l .i) (l .inv .1) (s .pre .2 (l .i) (c .before .before .loop-test .taken)) (w .0 .taken) (w .6 .ensures) (omega arith) (omega arith) (same-parts (w .7) (w .8) (w .9)),
+      begun-on (s .args .before) (s .args .t1) (l .i) (l .inv .1) (s .pre .2 (l .i) (c .before .before .loop-test .taken)) (omega (arith, w .0 .taken)) (w .6 .ensures) (omega arith) (omega arith) (same-parts (w .7) (w .8) (w .9)),
     ))
     (λ w. (
       omega arith,

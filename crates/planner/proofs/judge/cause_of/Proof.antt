@@ -36,7 +36,7 @@ within-limit-requires c κs = c .profile-before .ensures .formed
 
 returns-3 : tie.Need-returns-3
 returns-3 c =
-    judges-five _ _ _ (c .before .before .before .before .before .before .before .before .before .pre .1) (c .before .before .before .before .before .before .before .start-below .ensures) (c .before .before .before .before .before .before .if1 .left) (c .before .before .before .before .before .last-end .ensures)
+    judges-five (c .before .before .before .before .before .before .before .before .before .args .limit) _ _ (c .before .before .before .before .before .before .before .before .before .pre .1) (c .before .before .before .before .before .before .before .start-below .ensures) (c .before .before .before .before .before .before .if1 .left) (c .before .before .before .before .before .last-end .ensures)
     (c .before .before .before .before .last-end2 .ensures) (c .before .before .before .before .before .before .before .before .before .pre .0) (c .before .before .before .if2 .left) (c .before .before .profile-before .ensures)
     (limit-shows (c .before .within-limit .ensures)) (not-true _ (c .if3 .taken))
 

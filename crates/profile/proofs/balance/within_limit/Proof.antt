@@ -34,7 +34,7 @@ larger-requires-2 : tie.Need-larger-requires-2 Inv-loop μ-loop
 larger-requires-2 c κs = search needs
 
 returns : tie.Need-returns Inv-loop μ-loop
-returns c = record { answer = first-some (walked-fails (limited-tests _) (c .before .before .before .before .before .before .before .before .pre) (c .before .before .before .before .before .before .before .loop .inv) (omega arith) (limit-above _ (c .before .before .before .before .before .count-of .ensures) (c .before .before .before .before .count-of2 .ensures) (c .before .before .before .count-of3 .ensures) (c .before .before .larger .ensures) (c .before .larger2 .ensures) (omega (arith, c .if1 .taken)))) }
+returns c = record { answer = first-some (walked-fails (limited-tests _) (c .before .before .before .before .before .before .before .before .pre) (c .before .before .before .before .before .before .before .loop .inv) (omega arith) (limit-above _ (c .before .before .before .before .before .count-of .ensures) (c .before .before .before .before .count-of2 .ensures) (omega (arith, c .before .before .before .count-of3 .ensures)) (c .before .before .larger .ensures) (c .before .larger2 .ensures) (omega (arith, c .if1 .taken)))) }
 
 add-i : tie.Need-add-i Inv-loop μ-loop
 add-i c = omega (arith, c .before .before .before .before .before .before .before .before .pre .fits)
@@ -43,7 +43,7 @@ loop-less : tie.Need-loop-less Inv-loop μ-loop
 loop-less c = omega arith
 
 loop-again : tie.Need-loop-again Inv-loop μ-loop
-loop-again c = walked-more (limited-tests _) (c .before .before .before .before .before .before .before .before .pre) (c .before .before .before .before .before .before .before .loop .inv) (omega arith) (limit-below _ (c .before .before .before .before .before .count-of .ensures) (c .before .before .before .before .count-of2 .ensures) (c .before .before .before .count-of3 .ensures) (c .before .before .larger .ensures) (c .before .larger2 .ensures) (omega (arith, c .if1 .left)))
+loop-again c = walked-more (limited-tests _) (c .before .before .before .before .before .before .before .before .pre) (c .before .before .before .before .before .before .before .loop .inv) (omega arith) (limit-below _ (c .before .before .before .before .before .count-of .ensures) (c .before .before .before .before .count-of2 .ensures) (omega (arith, c .before .before .before .count-of3 .ensures)) (c .before .before .larger .ensures) (c .before .larger2 .ensures) (omega (arith, c .if1 .left)))
 
 returns-2 : tie.Need-returns-2 Inv-loop μ-loop
 returns-2 c = record { answer = walked-done (c .before .loop .inv) (omega arith) }

@@ -36,7 +36,7 @@ returns-3 : tie.Need-returns-3 Inv-loop μ-loop
 returns-3 c =
     let l = c .before .before .before .before in
     let a = l .before .before .before .args in
-    sym (l .loop .inv .1 ∙ above-digits (l .loop .value) (l .loop .i) (a .to) (a .text .now) (omega arith) (omega arith) (c .if3 .taken))
+    sym (l .loop .inv .1 ∙ above-digits (l .loop .value) (l .loop .i) (a .to) (a .text .now) (omega arith) (omega arith) (omega (arith, c .if3 .taken)))
 
 cast-with-digit : tie.Need-cast-with-digit Inv-loop μ-loop
 cast-with-digit c = omega arith
@@ -65,7 +65,7 @@ returns-4 : tie.Need-returns-4 Inv-loop μ-loop
 returns-4 c =
     let l = c .before .before in
     let a = l .before .before .before .args in
-    sym (l .loop .inv .1 ∙ too-large-left (l .loop .value) (l .loop .i) (a .to) (a .text .now) (l .loop .inv .0) (c .before .loop-test .left) (c .if4 .taken))
+    sym (l .loop .inv .1 ∙ too-large-left (l .loop .value) (l .loop .i) (a .to) (a .text .now) (l .loop .inv .0) (c .before .loop-test .left) (omega (arith, c .if4 .taken)))
 
 cast-small : tie.Need-cast-small Inv-loop μ-loop
 cast-small c = omega arith
