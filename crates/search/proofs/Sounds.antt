@@ -1,7 +1,7 @@
--- Three counts within limit and bound, by the largest and the smallest.
+-- Three counts within limit and bound, by the largest and the smallest, and the room that they have.
 use Prim.Native.Nat.{ℕ, _-_, _≤_, _<_, max, min}
-use mathlib.Core.Path.{_≡_, sym}
-use mathlib.Core.Bool.{false}
+use mathlib.Core.Path.{_≡_, sym, _∙_, ap}
+use mathlib.Core.Bool.{Bool, false, cond}
 use native.Mathlib.Omega.{arith}
 use borrow.Author.Tests.{le-leb, leb-true}
 use lib.Dec.{leb}
@@ -46,3 +46,9 @@ module _ (y : Limits) (a b c high : ℕ) (top : high ≡ max a (max b c)) where
               s .balance 3 1 line-three line-one,
               s .balance 3 2 line-three line-two,
             )
+
+-- the room that goes by a test with the outcome v
+pub room-by-test :
+    (y : Limits) (a b c : ℕ) {test v : Bool} {r : ℕ} → test ≡ soundCounts y (ofLines a b c) → test ≡ v → r ≡ cond v 4294967295 0
+    → r ≡ cond (soundCounts y (ofLines a b c)) 4294967295 0
+room-by-test y a b c e h k = k ∙ ap (λ (x : Bool). cond x 4294967295 0) (sym h ∙ e)
