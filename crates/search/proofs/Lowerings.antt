@@ -23,6 +23,10 @@ use Rattle.search.proofs.Rooms.{room-before, room-after, room-cond}
 pub past-end : (a : List ℕ) (l k : ℕ) → length a ≡ columns * capPlaces → IsLine l → capPlaces ≤ k → lineIn a l k ≡ 0
 past-end a l k h hl j = List·getD-eq-default a 0 (omega (arith, hl .low))
 
+-- the number of a line at a place
+pub place-read : (a : List ℕ) (l k : ℕ) {p x : ℕ} → x ≡ getD a p 0 → p ≡ columns * k + l - 1 → x ≡ lineIn a l k
+place-read a l k e same = e ∙ ap (λ (p : ℕ). getD a p 0) same
+
 -- A cap in every minute
 
 pub level-none : (a : List ℕ) → length a ≡ columns * capPlaces → ((k : ℕ) → k < columns * capPlaces → getD a k 0 ≡ 0) → Level 0 a
@@ -54,7 +58,7 @@ level-more {a} {n} {v} w h e =
     same k ne (inl b) = lt-ltb k n b ∙ sym (lt-ltb k (n + 1) (omega arith))
     same k ne (inr b) = le-ltb k n b ∙ sym (le-ltb k (n + 1) (omega (arith, ne)))
 
-pub level-shown : (c : LineCaps) (n : ℕ) {m : ℕ} → Level (columns * m) (c .caps) → m ≡ n + 1 → CapsShown c (λ l t. n)
+pub level-shown : (c : LineCaps) (n : ℕ) {m : ℕ} → Level m (c .caps) → m ≡ columns * (n + 1) → CapsShown c (λ l t. n)
 level-shown c n {m} w e =
     record {
       size = w .size;
@@ -62,9 +66,9 @@ level-shown c n {m} w e =
           ap (λ (x : ℕ). hasRoom x t) (w .each (columns * k + l - 1) ∙ ap (λ (b : Bool). cond b 4294967295 0) (same l h k (below-or-not n k))) ∙ room-cond (leb k n) t;
     }
   where
-    same : (l : ℕ) → IsLine l → (k : ℕ) → (n < k) ⊎ (k ≤ n) → ltb (columns * k + l - 1) (columns * m) ≡ leb k n
-    same l h k (inl b) = le-ltb (columns * k + l - 1) (columns * m) (omega (arith, h .low, h .high)) ∙ sym (lt-leb k n b)
-    same l h k (inr b) = lt-ltb (columns * k + l - 1) (columns * m) (omega (arith, h .low, h .high)) ∙ sym (le-leb k n b)
+    same : (l : ℕ) → IsLine l → (k : ℕ) → (n < k) ⊎ (k ≤ n) → ltb (columns * k + l - 1) m ≡ leb k n
+    same l h k (inl b) = le-ltb (columns * k + l - 1) m (omega (arith, h .low, h .high)) ∙ sym (lt-leb k n b)
+    same l h k (inr b) = lt-ltb (columns * k + l - 1) m (omega (arith, h .low, h .high)) ∙ sym (le-leb k n b)
 
 -- A line of the list lowered
 

@@ -71,11 +71,11 @@ module _ {p : Profile} {c : LineCaps} {line time rate : ℕ} {rooms : List ℕ} 
 
 -- the room of a step, from its count
 pub step-room :
-    (p : Profile) (c : LineCaps) (line rate : ℕ) {i k x : ℕ} → k ≡ lineOf p line i → x ≡ capsOf c line (k + rate)
+    (p : Profile) (c : LineCaps) (line rate i : ℕ) {k x : ℕ} → x ≡ capsOf c line k → k ≡ lineOf p line i + rate
     → (v : ℕ) → In (p .at) (p .steps) i v → roomUnder p c line rate v ≡ hasRoom x v
-step-room p c line rate {i} e d v h =
+step-room p c line rate i d e v h =
     room-step p c line rate i v h
-    ∙ ap (λ (y : ℕ). hasRoom y v) (sym (d ∙ ap (λ (k : ℕ). capsOf c line (k + rate)) e))
+    ∙ ap (λ (y : ℕ). hasRoom y v) (sym (d ∙ ap (capsOf c line) e))
 
 module _ (p : Profile) (c : LineCaps) (line rate most : ℕ) {from until : ℕ} (ends : until ≡ from + most) where
   pub run-ends : {i t : ℕ} → Walk (roomUnder p c line rate) (p .at) (p .steps) from until i t → until ≤ t → most ≡ runOf (roomUnder p c line rate) most from

@@ -59,7 +59,7 @@ add-looked : tie.Need-add-looked Inv-loop μ-loop
 add-looked c = omega (arith, test-inside (c .before .before .before .before .before .before .before .before .before .before .before .pre) refl (c .before .before .before .before .before .before .loop .inv) (omega (arith, c .before .before .before .before .before .loop-test .taken)), c .before .before .before .before .before .before .before .before .before .before .before .pre .ends-fit)
 
 returns : tie.Need-returns Inv-loop μ-loop
-returns c = test-stops (c .before .before .before .before .before .before .before .before .before .before .before .pre) refl (c .before .before .before .before .before .before .loop .inv) (omega (arith, c .before .before .before .before .before .loop-test .taken)) (omega (arith, c .before .before .before .before .count-of .ensures, c .before .before .before .before .before .before .before .before .before .before .share-of .ensures .0)) (omega (arith, c .before .before .before .count-of2 .ensures, c .before .before .before .before .before .before .before .before .before .share-of2 .ensures .0)) (omega (arith, c .before .before .count-of3 .ensures, c .before .before .before .before .before .before .before .before .share-of3 .ensures .0)) (c .before .sound .ensures) (not-true _ (c .if1 .taken)) refl (omega arith)
+returns c = test-stops (c .before .before .before .before .before .before .before .before .before .before .before .pre) refl (c .before .before .before .before .before .before .loop .inv) (omega (arith, c .before .before .before .before .before .loop-test .taken)) (omega (arith, c .before .before .before .before .count-of .ensures, c .before .before .before .before .before .before .before .before .before .before .share-of .ensures .0)) (omega (arith, c .before .before .before .count-of2 .ensures, c .before .before .before .before .before .before .before .before .before .share-of2 .ensures .0)) (omega (arith, c .before .before .count-of3 .ensures, c .before .before .before .before .before .before .before .before .share-of3 .ensures .0)) (c .before .sound .ensures) (not-true _ (c .if1 .taken)) (search) (omega arith)
 
 end-of-requires : tie.Need-end-of-requires Inv-loop μ-loop
 end-of-requires c κs = let h = test-inside (c .before .before .before .before .before .before .before .before .before .before .before .pre) refl (c .before .before .before .before .before .before .loop .inv) (omega (arith, c .before .before .before .before .before .loop-test .taken)) in (h .0, h .1)
