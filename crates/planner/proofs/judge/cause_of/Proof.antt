@@ -23,7 +23,7 @@ returns-2 : tie.Need-returns-2
 returns-2 c =
     let own = c .before .before .last-end in
     let new = c .before .last-end2 in
-    judges-four {x = own .result} {y = new .result} _ _ _ (c .before .before .before .before .before .before .pre .1) (c .before .before .before .before .start-below .ensures) (c .before .before .before .if1 .left) (search (own .ensures))
+    judges-four _ _ _ (c .before .before .before .before .before .before .pre .1) (c .before .before .before .before .start-below .ensures) (c .before .before .before .if1 .left) {x = own .result} {y = new .result} (search (own .ensures))
     (search (new .ensures)) (c .if2 .taken)
 
 profile-before-requires : tie.Need-profile-before-requires
