@@ -31,7 +31,7 @@ same-length-3 : tie.Need-same-length-3 Inv-loop μ-loop
 same-length-3 c = c .before .before .before .before .loop .inv .3
 
 returns : tie.Need-returns Inv-loop μ-loop
-returns c = (c .before .before .before .before .loop .inv .0, stops-done (c .before .before .before .before .loop .inv .0) (c .before .request-end .ensures) (c .if2 .taken))
+returns c = (c .before .before .before .before .loop .inv .0, stops-done (c .before .before .before .before .loop .inv .0) (c .before .request-end .ensures) (omega (arith, c .if2 .taken)))
 
 sub-reply-request : tie.Need-sub-reply-request Inv-loop μ-loop
 sub-reply-request c = c .before .before .request-end .ensures .low
@@ -58,7 +58,7 @@ loop-again : tie.Need-loop-again Inv-loop μ-loop
 loop-again c =
     let l = c .before .before .before .before .before .before .before .before .before .before .before .before .before .before .before .before .before .loop .inv in
     let r = c .before .before .before .before .before .before .before .reply-request in (
-      answers-more (l .0) (c .before .before .before .before .before .before .before .before .before .before .before .before .before .before .request-end .ensures) (omega (arith, c .before .before .before .before .before .before .before .before .before .before .before .before .before .if2 .left, c .before .before .before .before .before .before .before .before .before .before .before .before .before .before .request-end .ensures .high)) (r .ensures .0),
+      answers-more (l .0) (c .before .before .before .before .before .before .before .before .before .before .before .before .before .before .request-end .ensures) (omega (arith, c .before .before .before .before .before .before .before .before .before .before .before .before .before .if2 .left, c .before .before .before .before .before .before .before .before .before .before .before .before .before .before .request-end .ensures .high)) (r .ensures .0) (search) (omega arith),
       r .kept .1 .1 .0 ∙ l .1,
       r .kept .1 .1 .1 .0 ∙ l .2,
       r .kept .1 .1 .1 .1 .0 ∙ l .3,
