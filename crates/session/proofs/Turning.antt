@@ -58,12 +58,6 @@ turned-last {s} {count} {block} {r} {out} e l =
       text-fits = l .text-fits;
     }
 
--- the bytes that were moved to the front are those from `from` on
-pub moved-from :
-    {b next : List ℕ} {from begun to held : ℕ} → (held ≡ to - begun) × (next ≡ slice begun to b ++ drop (to - begun) b) → begun ≡ from
-    → (held ≡ to - from) × (next ≡ slice from to b ++ drop (to - from) b)
-moved-from c same = rw same at c
-
 -- the session that is handed on has the station, the end of the text and the wants of a turn
 pub turned-as :
     {s : Session} {count : ℕ} {block : List ℕ} {q kept : Station} {held at end : ℕ} {wants asks : Wants} {next out : List ℕ}

@@ -11,13 +11,13 @@ use Rattle.guarantee.specs.DemandThree.{DemandThree}
 use Rattle.guarantee.specs.Demands.{reached}
 use Rattle.guarantee.proofs.Demands.{demands}
 use Rattle.station.specs.declared.Station.{Station}
-use Rattle.station.specs.declared.open.OpenAnswer.{OpenAnswer}
 use Rattle.station.specs.View.{view, Valid}
-use Rattle.theorem.specs.Theorem.{Made, MeetsOpen, MeetsApply, Chain, callMade, given, left, known, Theorem}
+use Rattle.station.specs.Answers.{Gives}
+use Rattle.theorem.specs.Theorem.{Made, MeetsApply, Chain, callMade, given, left, known, Theorem}
 
 -- an opening with the settings that were passed in
-pub opened-with : {x y : Settings} {answer : OpenAnswer} {first : Station} → MeetsOpen x answer first → x ≡ y → MeetsOpen y answer first
-opened-with meets same = rw same at meets
+pub opened-with : {x y : Settings} {answer : rules.Answer} {first : Station} → Gives (opening x) answer first [] → x ≡ y → Gives (opening y) answer first []
+opened-with gives same = rw same at gives
 
 -- one call: what it gave is one step of the rules
 one-step : (s : Station) (m : Made) → Valid s → MeetsApply s m → given m ≡ step (view s) (callMade m)
