@@ -28,6 +28,9 @@ pub record Collecting (clock : ℕ) (c : Charges) (starts : List ℕ) (i : ℕ) 
   pub gives :
       (placed : List Charge) → Stored c starts placed → i ≤ c .held → startsIn placed (waitingBelow clock c i) ≡ take k listed
 
+pub filled-zeros : {xs : List ℕ} → xs ≡ replicate 180 0 → Filled 0 xs
+filled-zeros e = rw e filled-none
+
 pub collecting-start : (clock : ℕ) (c : Charges) (starts : List ℕ) → Collecting clock c starts 0 (replicate 180 0) 0
 collecting-start clock c starts =
     record {

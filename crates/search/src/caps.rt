@@ -37,7 +37,8 @@ pub fn lower(caps: &mut [u32; COLUMNS * CAP_PLACES], line: usize, v: usize, t: u
     let mut k = v;
     while k < CAP_PLACES {
         let p = COLUMNS * k + line - 1;
-        caps[p] = smaller(caps[p], t);
+        let held = caps[p];
+        caps[p] = smaller(held, t);
         k += 1;
     }
 }

@@ -36,7 +36,7 @@ applies c =
     let s = c .before .before .before .before .before .before .before .before .before .before .before in
     subst
     (λ (l : List ℕ). Applies (view (s .args .station)) (s .args .call) (read c) l (c .apply .last .1 .1 .1 .0) (c .apply .result .answer) (c .apply .result .station))
-    (lent-front (c .before .before .before .before .before .before .before .places-lent .result) (s .args .places) (s .args .list .now) (c .before .before .before .before .before .fill-lent .last .0) (c .before .before .before .before .before .before .before .places-lent .ensures .0) (c .before .before .before .before .before .fill-lent .ensures))
+    (lent-front (c .before .before .before .before .before .before .before .places-lent .result) (s .args .places) (s .args .list .now) (c .before .before .before .before .before .fill-lent .last .0) (omega (arith, c .before .before .before .before .before .before .before .places-lent .ensures .0)) (c .before .before .before .before .before .fill-lent .ensures))
     (rw (take-all (length (s .args .numbers .now) - s .args .from) (drop (s .args .from) (s .args .numbers .now)) (omega (arith, length-drop (s .args .from) (s .args .numbers .now)))) at (c .apply .ensures))
 
 places-lent-requires : tie.Need-places-lent-requires

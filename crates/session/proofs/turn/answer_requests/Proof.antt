@@ -31,7 +31,7 @@ same-length-3 : tie.Need-same-length-3 Inv-loop μ-loop
 same-length-3 c = c .before .before .before .before .loop .inv .3
 
 returns : tie.Need-returns Inv-loop μ-loop
-returns c = (c .before .before .before .before .loop .inv .0, stops-done (c .before .before .before .before .loop .inv .0) (c .before .request-end .ensures) (c .if2 .taken))
+returns c = (c .before .before .before .before .loop .inv .0, stops-done (c .before .before .before .before .loop .inv .0) (c .before .request-end .ensures) (omega (arith, c .if2 .taken)))
 
 sub-reply-request : tie.Need-sub-reply-request Inv-loop μ-loop
 sub-reply-request c = c .before .before .request-end .ensures .low
@@ -48,21 +48,22 @@ reply-request-requires c κs =
     let room = c .before .before .before .before .before .before .before .before .before .before .before .before .before .before .pre .1 in
     (l .0 .valid, (omega (arith, l .1, room .numbers-fit), (omega (arith, l .2, room .list-fits), omega (arith, c .before .before .before .before .before .before .before .if1 .taken, l .3, room .out-fits))))
 
+-- the fact stands before the bounds, which rest on it too: a request is answered once it has ended
+loop-again : tie.Need-loop-again Inv-loop μ-loop
+loop-again c =
+    let l = c .before .before .before .before .before .before .before .before .before .before .before .before .before .before .before .before .before .loop .inv in
+    let r = c .before .before .before .before .before .before .before .reply-request in (
+      answers-more (l .0) (c .before .before .before .before .before .before .before .before .before .before .before .before .before .before .request-end .ensures) (omega (arith, c .before .before .before .before .before .before .before .before .before .before .before .before .before .if2 .left, c .before .before .before .before .before .before .before .before .before .before .before .before .before .before .request-end .ensures .high)) (r .ensures .0) (search) (omega arith),
+      r .kept .1 .1 .0 ∙ l .1,
+      r .kept .1 .1 .1 .0 ∙ l .2,
+      r .kept .1 .1 .1 .1 .0 ∙ l .3,
+    )
+
 add-t14 : tie.Need-add-t14 Inv-loop μ-loop
 add-t14 c = omega (arith, c .before .before .before .before .before .before .before .before .before .before .before .before .before .if2 .left, c .before .before .before .before .before .before .before .before .before .before .before .before .before .before .request-end .ensures .low, c .before .before .before .before .before .before .before .before .before .before .before .before .before .before .request-end .ensures .high, c .before .before .before .before .before .before .before .before .before .before .before .before .before .before .before .before .before .before .before .before .before .before .good .1 .0 .0)
 
 loop-less : tie.Need-loop-less Inv-loop μ-loop
 loop-less c = omega (arith, c .before .before .before .before .before .before .before .before .before .before .before .before .before .if2 .left, c .before .before .before .before .before .before .before .before .before .before .before .before .before .before .request-end .ensures .low, c .before .before .before .before .before .before .before .before .before .before .before .before .before .before .request-end .ensures .high)
-
-loop-again : tie.Need-loop-again Inv-loop μ-loop
-loop-again c =
-    let l = c .before .before .before .before .before .before .before .before .before .before .before .before .before .before .before .before .before .loop .inv in
-    let r = c .before .before .before .before .before .before .before .reply-request in (
-      answers-more (l .0) (c .before .before .before .before .before .before .before .before .before .before .before .before .before .before .request-end .ensures) (omega (arith, c .before .before .before .before .before .before .before .before .before .before .before .before .before .if2 .left, c .before .before .before .before .before .before .before .before .before .before .before .before .before .before .request-end .ensures .high)) (r .ensures .0),
-      r .kept .1 .1 .0 ∙ l .1,
-      r .kept .1 .1 .1 .0 ∙ l .2,
-      r .kept .1 .1 .1 .1 .0 ∙ l .3,
-    )
 
 same-length-4 : tie.Need-same-length-4 Inv-loop μ-loop
 same-length-4 c = c .before .before .loop .inv .1
