@@ -1,9 +1,9 @@
--- `answers::print_error` meets its contract: in each case the text is that of the reason.
+-- `requests::print_error` meets its contract: in each case the text is that of the reason.
 
 use Rattle.text.proofs.Printing.{printed-as}
 use borrow.Author.Needs.{needs}
-use Rattle.answers.proofs.answer.print_error.Statement.{statement}
-use Rattle.answers.proofs.answer.print_error.Tie as tie
+use Rattle.requests.proofs.error.print_error.Statement.{statement}
+use Rattle.requests.proofs.error.print_error.Tie as tie
 
 enum-told : tie.Need-enum-told
 enum-told c = search needs

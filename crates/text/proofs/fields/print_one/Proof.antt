@@ -1,8 +1,8 @@
--- `answers::print_one` meets its contract: its parts are printed one after another.
+-- `text::print_one` meets its contract: its parts are printed one after another.
 use Rattle.text.proofs.Printing.{printed-as, printed-then}
 use borrow.Author.Needs.{needs}
-use Rattle.answers.proofs.answer.print_one.Statement.{statement}
-use Rattle.answers.proofs.answer.print_one.Tie as tie
+use Rattle.text.proofs.fields.print_one.Statement.{statement}
+use Rattle.text.proofs.fields.print_one.Tie as tie
 
 print-field-requires : tie.Need-print-field-requires
 print-field-requires c κs = search needs
