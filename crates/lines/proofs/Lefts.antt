@@ -8,6 +8,7 @@ use native.Mathlib.Omega.{arith}
 use lib.Dec.{eqb}
 use lib.ListN.{length, getD}
 use borrow.Author.Tests.{eqb-true, eqb-false, ne-eqb, not-true}
+use Rattle.rules.specs.Calls.{places}
 use Rattle.rules.specs.Basics.{Each, tabulate, keep}
 use Rattle.rules.specs.Charge.{Charge, latestStartBefore}
 use Rattle.rules.specs.Priority.{totalTime, withoutTicket}
@@ -36,8 +37,8 @@ leftAt c left j = chargeAt c (getD left j 0)
 
 -- the first n places are those of the charges left, by latest start, then ticket
 pub record Left (c : Charges) (line : ℕ) (left : List ℕ) (n : ℕ) (rest : List Charge) : Type 0 where
-  pub full : length left ≡ 180
-  pub few : n ≤ 180
+  pub full : length left ≡ places
+  pub few : n ≤ places
   pub inside : (j : ℕ) → j < n → getD left j 0 < c .held
   pub on-line : (j : ℕ) → j < n → leftAt c left j .line ≡ line
   pub sorted : (i j : ℕ) → i < j → j < n → latestStartBefore (leftAt c left i) (leftAt c left j) ≡ true
