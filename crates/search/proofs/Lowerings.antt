@@ -16,7 +16,7 @@ use Rattle.rules.proofs.Ranges.{below-or-not}
 use Rattle.profile.specs.Steps.{columns, lineIn}
 use Rattle.profile.proofs.Levels.{same-or-not}
 use Rattle.search.specs.Rooms.{hasRoom}
-use Rattle.search.specs.Caps.{capPlaces, capsOf, CapsShown, Level, Lowered, CapLowered, LoweredAt, Whole, CanCap}
+use Rattle.search.specs.Caps.{capPlaces, capsOf, CapsShown, Unlowered, Lowered, CapLowered, LoweredAt, Whole, CanCap}
 use Rattle.search.specs.declared.caps.LineCaps.{LineCaps}
 use Rattle.search.proofs.Rooms.{room-before, room-after, room-cond}
 
@@ -25,8 +25,8 @@ past-end a l k h hl j = List·getD-eq-default a 0 (omega (arith, hl .low))
 
 -- A cap in every minute
 
-pub level-none : (a : List ℕ) → length a ≡ columns * capPlaces → ((k : ℕ) → k < columns * capPlaces → getD a k 0 ≡ 0) → Level 0 a
-level-none a h z =
+pub unlowered-none : (a : List ℕ) → length a ≡ columns * capPlaces → ((k : ℕ) → k < columns * capPlaces → getD a k 0 ≡ 0) → Unlowered 0 a
+unlowered-none a h z =
     record {
       size = h;
       each = λ k.
@@ -34,8 +34,8 @@ level-none a h z =
           ∙ sym (ap (λ (b : Bool). cond b 4294967295 0) (le-ltb k 0 (omega arith)));
     }
 
-pub level-more : {a : List ℕ} {n : ℕ} → Level n a → n < columns * capPlaces → Level (n + 1) (set a n 4294967295)
-level-more {a} {n} w h =
+pub unlowered-more : {a : List ℕ} {n : ℕ} → Unlowered n a → n < columns * capPlaces → Unlowered (n + 1) (set a n 4294967295)
+unlowered-more {a} {n} w h =
     record {
       size = length-set a n 4294967295 ∙ w .size;
       each = λ k.
@@ -54,8 +54,8 @@ level-more {a} {n} w h =
     same k ne (inl b) = lt-ltb k n b ∙ sym (lt-ltb k (n + 1) (omega arith))
     same k ne (inr b) = le-ltb k n b ∙ sym (le-ltb k (n + 1) (omega (arith, ne)))
 
-pub level-shown : (c : LineCaps) (n : ℕ) → Level (columns * (n + 1)) (c .caps) → CapsShown c (λ l t. n)
-level-shown c n w =
+pub unlowered-shown : (c : LineCaps) (n : ℕ) → Unlowered (columns * (n + 1)) (c .caps) → CapsShown c (λ l t. n)
+unlowered-shown c n w =
     record {
       size = w .size;
       rooms = λ l h k t.

@@ -1,8 +1,9 @@
--- `page::print_no_station` meets its contract: what it puts is the row of a refused image.
+-- `page::print_blank` meets its contract: what it puts is the line of no words.
+use native.Mathlib.Omega.{arith}
 use Rattle.page.proofs.Aligning.{printed-as}
 use borrow.Author.Needs.{needs}
-use Rattle.page.proofs.line.print_no_station.Statement.{statement}
-use Rattle.page.proofs.line.print_no_station.Tie as tie
+use Rattle.page.proofs.row.print_blank.Statement.{statement}
+use Rattle.page.proofs.row.print_blank.Tie as tie
 
 slice-aggregate-print-text : tie.Need-slice-aggregate-print-text
 slice-aggregate-print-text c = search needs
@@ -14,8 +15,10 @@ same-length : tie.Need-same-length
 same-length c = search needs
 
 returns : tie.Need-returns
-returns c = printed-as (c .before .before .print-text .ensures) (search)
+returns c =
+    let p = c .before .before .print-text .ensures in
+    (printed-as p (search), omega (arith, p .place))
 
-pub print-no-station-spec : {M : Type 1} → statement M
-print-no-station-spec =
+pub print-blank-spec : {M : Type 1} → statement M
+print-blank-spec =
     tie.close (tie.spec slice-aggregate-print-text print-text-requires same-length returns)

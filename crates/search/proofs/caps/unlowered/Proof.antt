@@ -1,22 +1,22 @@
--- `search::caps::level` meets its contract. The invariant: the first k places are as they should be.
+-- `search::caps::unlowered` meets its contract. The invariant: the first k places are as they should be.
 use Prim.Native.Nat.{ℕ, _*_, _-_, _≤_}
 use mathlib.Core.Path.{_≡_, refl, subst}
 use native.Mathlib.Omega.{arith}
 use lib.ListN.{getD-replicate}
 use Rattle.profile.specs.Steps.{columns}
-use Rattle.search.specs.Caps.{capPlaces, Level}
-use Rattle.search.proofs.Lowerings.{level-none, level-more}
-use Rattle.search.proofs.caps.level.Statement.{statement}
-use Rattle.search.proofs.caps.level.Tie as tie
+use Rattle.search.specs.Caps.{capPlaces, Unlowered}
+use Rattle.search.proofs.Lowerings.{unlowered-none, unlowered-more}
+use Rattle.search.proofs.caps.unlowered.Statement.{statement}
+use Rattle.search.proofs.caps.unlowered.Tie as tie
 
 abbrev Inv-loop : tie.InvT-loop
-Inv-loop n caps₀ k₀ caps k = (k ≤ columns * n) × Level k caps
+Inv-loop n caps₀ k₀ caps k = (k ≤ columns * n) × Unlowered k caps
 
 abbrev μ-loop : tie.MeasureT-loop
 μ-loop n caps₀ k₀ caps k = columns * n - k
 
 loop-holds : tie.Need-loop-holds Inv-loop μ-loop
-loop-holds c = (omega arith, level-none _ refl (λ k h. getD-replicate (columns * capPlaces) k 0 0 h))
+loop-holds c = (omega arith, unlowered-none _ refl (λ k h. getD-replicate (columns * capPlaces) k 0 0 h))
 
 mul-loop : tie.Need-mul-loop Inv-loop μ-loop
 mul-loop c = omega arith
@@ -34,16 +34,16 @@ loop-less : tie.Need-loop-less Inv-loop μ-loop
 loop-less c = omega arith
 
 loop-again : tie.Need-loop-again Inv-loop μ-loop
-loop-again c = (omega arith, level-more (c .before .loop .inv .1) (omega arith))
+loop-again c = (omega arith, unlowered-more (c .before .loop .inv .1) (omega arith))
 
 returns : tie.Need-returns Inv-loop μ-loop
 returns c =
     let l = c .before in
     let e : l .loop .k ≡ columns * c .before .before .args .n = omega arith in
-    subst (λ (k : ℕ). Level k (l .loop .caps)) e (l .loop .inv .1)
+    subst (λ (k : ℕ). Unlowered k (l .loop .caps)) e (l .loop .inv .1)
 
-pub level-spec : {M : Type 1} → statement M
-level-spec =
+pub unlowered-spec : {M : Type 1} → statement M
+unlowered-spec =
     tie.close
     (tie.spec
     Inv-loop

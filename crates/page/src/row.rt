@@ -1,4 +1,4 @@
-// Lines of 37 characters and a line feed, put into a buffer at a place. Each function answers the place after what it put there.
+// Rows of 37 characters and a line feed, the heading among them, put into a buffer at a place. Each function answers the place after what it put there.
 ghost use mathlib.Core.Path.{_≡_};
 ghost use Prim.Native.Nat.{_+_, _≤_};
 ghost use lib.ListN.{length};

@@ -3,8 +3,8 @@ use native.Mathlib.Omega.{arith}
 use Rattle.page.proofs.Aligning.{printed-as}
 use Rattle.page.proofs.Paging.{row-of, row-behind, fits-at}
 use borrow.Author.Needs.{needs}
-use Rattle.page.proofs.rows.print_place.Statement.{statement}
-use Rattle.page.proofs.rows.print_place.Tie as tie
+use Rattle.page.proofs.pages.print_place.Statement.{statement}
+use Rattle.page.proofs.pages.print_place.Tie as tie
 
 print-blank-requires : tie.Need-print-blank-requires
 print-blank-requires c κs = search needs

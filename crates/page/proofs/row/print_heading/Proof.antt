@@ -1,9 +1,9 @@
--- `page::print_blank` meets its contract: what it puts is the line of no words.
+-- `page::print_heading` meets its contract: what it puts is the line of the heading words.
 use native.Mathlib.Omega.{arith}
 use Rattle.page.proofs.Aligning.{printed-as}
 use borrow.Author.Needs.{needs}
-use Rattle.page.proofs.line.print_blank.Statement.{statement}
-use Rattle.page.proofs.line.print_blank.Tie as tie
+use Rattle.page.proofs.row.print_heading.Statement.{statement}
+use Rattle.page.proofs.row.print_heading.Tie as tie
 
 slice-aggregate-print-text : tie.Need-slice-aggregate-print-text
 slice-aggregate-print-text c = search needs
@@ -19,6 +19,6 @@ returns c =
     let p = c .before .before .print-text .ensures in
     (printed-as p (search), omega (arith, p .place))
 
-pub print-blank-spec : {M : Type 1} → statement M
-print-blank-spec =
+pub print-heading-spec : {M : Type 1} → statement M
+print-heading-spec =
     tie.close (tie.spec slice-aggregate-print-text print-text-requires same-length returns)

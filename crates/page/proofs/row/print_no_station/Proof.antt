@@ -1,9 +1,8 @@
--- `page::print_heading` meets its contract: what it puts is the line of the heading words.
-use native.Mathlib.Omega.{arith}
+-- `page::print_no_station` meets its contract: what it puts is the row of a refused image.
 use Rattle.page.proofs.Aligning.{printed-as}
 use borrow.Author.Needs.{needs}
-use Rattle.page.proofs.line.print_heading.Statement.{statement}
-use Rattle.page.proofs.line.print_heading.Tie as tie
+use Rattle.page.proofs.row.print_no_station.Statement.{statement}
+use Rattle.page.proofs.row.print_no_station.Tie as tie
 
 slice-aggregate-print-text : tie.Need-slice-aggregate-print-text
 slice-aggregate-print-text c = search needs
@@ -15,10 +14,8 @@ same-length : tie.Need-same-length
 same-length c = search needs
 
 returns : tie.Need-returns
-returns c =
-    let p = c .before .before .print-text .ensures in
-    (printed-as p (search), omega (arith, p .place))
+returns c = printed-as (c .before .before .print-text .ensures) (search)
 
-pub print-heading-spec : {M : Type 1} → statement M
-print-heading-spec =
+pub print-no-station-spec : {M : Type 1} → statement M
+print-no-station-spec =
     tie.close (tie.spec slice-aggregate-print-text print-text-requires same-length returns)

@@ -8,8 +8,8 @@ use Rattle.text.specs.Printed.{Printed}
 use Rattle.text.proofs.Printing.{printed-none, printed-then}
 use Rattle.page.proofs.Aligning.{printed-as}
 use Rattle.page.proofs.Paging.{rowsTo, no-row, row-more, all-rows}
-use Rattle.page.proofs.rows.print_rows.Statement.{statement}
-use Rattle.page.proofs.rows.print_rows.Tie as tie
+use Rattle.page.proofs.pages.print_rows.Statement.{statement}
+use Rattle.page.proofs.pages.print_rows.Tie as tie
 
 abbrev Inv-loop : tie.InvT-loop
 Inv-loop clock charges k buffer₀ at next₀ i₀ buffer next i = (i ≤ 24) × (length buffer ≡ length buffer₀) × (next ≡ at + 38 * i) × Printed (rowsTo clock (chargesOf charges) k i) buffer₀ at buffer next

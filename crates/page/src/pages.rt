@@ -1,12 +1,13 @@
-// Rows and pages, from the charges held.
-use crate::line::print_blank;
-use crate::line::print_heading;
-use crate::line::print_row;
+// Pages and their rows, from the charges held.
+use crate::row::print_blank;
+use crate::row::print_heading;
+use crate::row::print_row;
 use charges::Charges;
 use charges::ends::end_of;
 ghost use mathlib.Core.Path.{_≡_};
 ghost use Prim.Native.Nat.{_+_, _*_, _≤_, _<_};
 ghost use lib.ListN.{length};
+ghost use Rattle.rules.specs.Calls.{places};
 ghost use Rattle.rules.specs.Basics.{Each};
 ghost use Rattle.charges.specs.Arrays.{chargesOf, Columns};
 ghost use Rattle.text.specs.Printed.{Printed};
@@ -60,7 +61,7 @@ fn print_page(clock: u32, charges: Charges, k: usize, buffer: &mut [u8], at: usi
 }
 
 fn page_count(held: usize) -> usize
-    requires { ⌜ held ≤ 180 ⌝ }
+    requires { ⌜ held ≤ places ⌝ }
     ensures { λ r. ⌜ (r ≡ pageCount held) × (r ≤ 8) ⌝ }
 {
     if held == 0 {

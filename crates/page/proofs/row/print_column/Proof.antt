@@ -4,8 +4,8 @@ use Rattle.text.specs.Numbers.{decimal}
 use Rattle.text.proofs.Printing.{printed-then}
 use Rattle.page.proofs.Aligning.{printed-as, length-right}
 use borrow.Author.Needs.{needs}
-use Rattle.page.proofs.line.print_column.Statement.{statement}
-use Rattle.page.proofs.line.print_column.Tie as tie
+use Rattle.page.proofs.row.print_column.Statement.{statement}
+use Rattle.page.proofs.row.print_column.Tie as tie
 
 print-right-requires : tie.Need-print-right-requires
 print-right-requires c κs = search needs

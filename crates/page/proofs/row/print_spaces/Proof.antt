@@ -6,8 +6,8 @@ use lib.ListN.{length, length-set}
 use Rattle.text.specs.Printed.{Printed}
 use Rattle.page.specs.Lines.{spaces}
 use Rattle.page.proofs.Aligning.{printed-space}
-use Rattle.page.proofs.line.print_spaces.Statement.{statement}
-use Rattle.page.proofs.line.print_spaces.Tie as tie
+use Rattle.page.proofs.row.print_spaces.Statement.{statement}
+use Rattle.page.proofs.row.print_spaces.Tie as tie
 
 abbrev Inv-loop : tie.InvT-loop
 Inv-loop count buffer₀ at i₀ buffer i = (i ≤ count) × (length buffer ≡ length buffer₀) × Printed (spaces i) buffer₀ at buffer (at + i)

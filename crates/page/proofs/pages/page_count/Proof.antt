@@ -2,8 +2,8 @@
 use native.Mathlib.Omega.{arith}
 use Rattle.page.proofs.Counting.{one-page, some-pages}
 use borrow.Author.Needs.{needs}
-use Rattle.page.proofs.rows.page_count.Statement.{statement}
-use Rattle.page.proofs.rows.page_count.Tie as tie
+use Rattle.page.proofs.pages.page_count.Statement.{statement}
+use Rattle.page.proofs.pages.page_count.Tie as tie
 
 returns : tie.Need-returns
 returns c = (omega (arith, one-page (c .before .args .held) (c .if1 .taken)), omega arith)

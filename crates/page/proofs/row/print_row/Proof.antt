@@ -4,8 +4,8 @@ use Rattle.text.proofs.Printing.{printed-then}
 use Rattle.page.specs.Lines.{rowOf}
 use Rattle.page.proofs.Aligning.{printed-as, ticket-digits, line-digits, start-digits, end-digits}
 use borrow.Author.Needs.{needs}
-use Rattle.page.proofs.line.print_row.Statement.{statement}
-use Rattle.page.proofs.line.print_row.Tie as tie
+use Rattle.page.proofs.row.print_row.Statement.{statement}
+use Rattle.page.proofs.row.print_row.Tie as tie
 
 print-column-requires : tie.Need-print-column-requires
 print-column-requires c κs = (ticket-digits (c .before .before .pre .0), search needs)

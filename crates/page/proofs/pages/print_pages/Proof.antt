@@ -10,8 +10,8 @@ use Rattle.text.proofs.Printing.{printed-none, printed-then}
 use Rattle.page.specs.Pages.{texts, page, pageCount}
 use Rattle.page.proofs.Aligning.{printed-as}
 use Rattle.page.proofs.Paging.{texts-none, page-more, whole-pages}
-use Rattle.page.proofs.rows.print_pages.Statement.{statement}
-use Rattle.page.proofs.rows.print_pages.Tie as tie
+use Rattle.page.proofs.pages.print_pages.Statement.{statement}
+use Rattle.page.proofs.pages.print_pages.Tie as tie
 
 abbrev Inv-loop : tie.InvT-loop
 Inv-loop clock charges buffer₀ count next₀ k₀ buffer next k = (k ≤ count) × (length buffer ≡ length buffer₀) × (next ≡ 950 * k) × Printed (texts (page clock (chargesOf charges)) k) buffer₀ 0 buffer next

@@ -6,12 +6,12 @@ use Prim.Native.Nat.{ℕ, _-_, _/_, _<_}
 use Rattle.text.specs.Numbers.{decimal}
 use borrow.Fn.Kinds.{In}
 use borrow.Fn.PlainCycle.{Measures, is, falls, and}
-use Rattle.page.proofs.line.print_right.Reads as print-right
-use Rattle.page.proofs.line.print_right.Kinds as print-right-kinds
-use Rattle.page.proofs.line.+print_right.Lts-print_right as print-right-lts
-use Rattle.page.proofs.line.print_spaces.Reads as print-spaces-reads
-use Rattle.page.proofs.line.+print_right.{statement}
-use Rattle.page.proofs.line.+print_right.Tie.{close}
+use Rattle.page.proofs.row.print_right.Reads as print-right
+use Rattle.page.proofs.row.print_right.Kinds as print-right-kinds
+use Rattle.page.proofs.row.+print_right.Lts-print_right as print-right-lts
+use Rattle.page.proofs.row.print_spaces.Reads as print-spaces-reads
+use Rattle.page.proofs.row.+print_right.{statement}
+use Rattle.page.proofs.row.+print_right.Tie.{close}
 
 abbrev μ-print-right : Measures 1 print-right-kinds.ps ℕ
 μ-print-right κs a = a .0

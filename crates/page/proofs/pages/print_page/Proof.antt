@@ -5,8 +5,8 @@ use Rattle.text.proofs.Printing.{printed-then}
 use Rattle.page.proofs.Aligning.{printed-as}
 use Rattle.page.proofs.Paging.{whole-page}
 use borrow.Author.Needs.{needs}
-use Rattle.page.proofs.rows.print_page.Statement.{statement}
-use Rattle.page.proofs.rows.print_page.Tie as tie
+use Rattle.page.proofs.pages.print_page.Statement.{statement}
+use Rattle.page.proofs.pages.print_page.Tie as tie
 
 print-heading-requires : tie.Need-print-heading-requires
 print-heading-requires c κs = search needs
