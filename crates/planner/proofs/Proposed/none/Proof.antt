@@ -1,3 +1,4 @@
+-- `planner::Proposed::none` meets its contract: the cause, and zeros in all places.
 use mathlib.Core.Path.{refl}
 use Rattle.charges.proofs.Storing.{filled-none}
 use Rattle.planner.proofs.Proposed.none.Statement.{statement}

@@ -1,3 +1,4 @@
+-- `search::fit::next_under` meets its contract: the earliest start among the rooms under the caps.
 use borrow.Author.Needs.{needs}
 use Rattle.search.proofs.Unders.{under-search, under-earliest}
 use Rattle.search.proofs.fit.next_under.Statement.{statement}
