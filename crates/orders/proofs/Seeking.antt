@@ -10,11 +10,10 @@ use Rattle.rules.specs.Load.{lastUntil, soundAt, sound}
 use Rattle.rules.specs.Charge.{loadsOf, isBegun}
 use Rattle.rules.specs.Search.{added, earliest}
 use Rattle.rules.proofs.Ranges.{below-or-not, first-is}
-use Rattle.rules.proofs.Lists.{length-tabulate}
+use Rattle.rules.proofs.Lists.{length-tabulate, length-keep}
 use Rattle.rules.proofs.TestedStarts.{counts-own, fails-unsound, fits-sound}
 use Rattle.charges.specs.declared.Charges.{Charges}
 use Rattle.charges.specs.Arrays.{chargeAt, chargesOf}
-use Rattle.charges.proofs.Walking.{keep-length}
 use Rattle.profile.specs.declared.Profile.{Profile}
 use Rattle.profile.specs.Shows.{lastMinute, Shows}
 use Rattle.profile.proofs.Lines.{sound-tests}
@@ -63,7 +62,7 @@ module _ {held : Charges} {clock : ℕ} {y : Limits} {a : Draw} (f : CanOrder he
               (omega (
                 arith,
                 wider .few,
-                keep-length (isBegun until) (chargesOf held),
+                length-keep (isBegun until) (chargesOf held),
                 length-tabulate (chargeAt held) (held .held) 0,
                 f .few,
               ))

@@ -8,12 +8,11 @@ use borrow.Author.Tests.{le-ltb}
 use Rattle.rules.specs.Load.{Load, IsLine, count, lastUntil}
 use Rattle.rules.specs.Charge.{loadsOf, isBegun, begunCharges}
 use Rattle.rules.specs.Calls.{isPassed}
-use Rattle.rules.proofs.Lists.{length-tabulate, keep-none}
+use Rattle.rules.proofs.Lists.{length-tabulate, keep-none, length-keep}
 use Rattle.rules.proofs.Counts.{count-append}
 use Rattle.rules.proofs.Ends.{until-kept}
 use Rattle.charges.specs.declared.Charges.{Charges}
 use Rattle.charges.specs.Arrays.{chargeAt, chargesOf}
-use Rattle.charges.proofs.Walking.{keep-length}
 use Rattle.profile.specs.declared.Profile.{Profile}
 use Rattle.profile.specs.Shows.{levelOf, Shows}
 use Rattle.search.specs.declared.candidate.Limits.{Limits}
@@ -62,7 +61,7 @@ window-room {held} {clock} {y} {a} {p} {low} {high} v w h =
                   arith,
                   w .few,
                   length-in-two low high h (chargesOf held),
-                  keep-length (isBegun high) (chargesOf held),
+                  length-keep (isBegun high) (chargesOf held),
                   length-tabulate (chargeAt held) (held .held) 0,
                   v .few,
                 );

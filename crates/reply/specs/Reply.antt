@@ -8,7 +8,8 @@ use Rattle.rules.specs.Calls.{State, Call, preview, commit, move, offer, replan
 use Rattle.rules.specs.Calls as calls
 use Rattle.requests.specs.Requests.{Asked, nothing, opening, call, error, readRequest}
 use Rattle.text.specs.Printed.{Printed}
-use Rattle.answers.specs.Answers.{answerText, errorText}
+use Rattle.requests.specs.Errors.{errorText}
+use Rattle.answers.specs.Answers.{answerText}
 use Rattle.station.specs.declared.Station.{Station}
 use Rattle.station.specs.View.{view, Valid}
 

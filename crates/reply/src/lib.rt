@@ -95,7 +95,7 @@ pub fn reply_request(
             at,
         ),
         Request::Error(reason) => {
-            let next = answers::print_error(reason, out, at);
+            let next = requests::print_error(reason, out, at);
             Reply { station, at: next }
         }
     }

@@ -16,7 +16,7 @@ use Rattle.rules.proofs.Ranges.{below-or-not}
 use Rattle.profile.specs.Steps.{columns, lineIn}
 use Rattle.profile.proofs.Levels.{same-or-not}
 use Rattle.search.specs.Rooms.{hasRoom}
-use Rattle.search.specs.Caps.{capPlaces, capsOf, CapsShown, Level, Lowered, CapLowered, LoweredAt, Whole, CanCap}
+use Rattle.search.specs.Caps.{capPlaces, capsOf, CapsShown, Unlowered, Lowered, CapLowered, LoweredAt, Whole, CanCap}
 use Rattle.search.specs.declared.caps.LineCaps.{LineCaps}
 use Rattle.search.proofs.Rooms.{room-before, room-after, room-cond}
 
@@ -29,8 +29,8 @@ place-read a l k e same = e ∙ ap (λ (p : ℕ). getD a p 0) same
 
 -- A cap in every minute
 
-pub level-none : (a : List ℕ) → length a ≡ columns * capPlaces → ((k : ℕ) → k < columns * capPlaces → getD a k 0 ≡ 0) → Level 0 a
-level-none a h z =
+pub unlowered-none : (a : List ℕ) → length a ≡ columns * capPlaces → ((k : ℕ) → k < columns * capPlaces → getD a k 0 ≡ 0) → Unlowered 0 a
+unlowered-none a h z =
     record {
       size = h;
       each = λ k.
@@ -38,8 +38,8 @@ level-none a h z =
           ∙ sym (ap (λ (b : Bool). cond b 4294967295 0) (le-ltb k 0 (omega arith)));
     }
 
-pub level-more : {a : List ℕ} {n v : ℕ} → Level n a → n < columns * capPlaces → v ≡ 4294967295 → Level (n + 1) (set a n v)
-level-more {a} {n} {v} w h e =
+pub unlowered-more : {a : List ℕ} {n v : ℕ} → Unlowered n a → n < columns * capPlaces → v ≡ 4294967295 → Unlowered (n + 1) (set a n v)
+unlowered-more {a} {n} {v} w h e =
     record {
       size = length-set a n v ∙ w .size;
       each = λ k.
@@ -58,8 +58,8 @@ level-more {a} {n} {v} w h e =
     same k ne (inl b) = lt-ltb k n b ∙ sym (lt-ltb k (n + 1) (omega arith))
     same k ne (inr b) = le-ltb k n b ∙ sym (le-ltb k (n + 1) (omega (arith, ne)))
 
-pub level-shown : (c : LineCaps) (n : ℕ) {m : ℕ} → Level m (c .caps) → m ≡ columns * (n + 1) → CapsShown c (λ l t. n)
-level-shown c n {m} w e =
+pub unlowered-shown : (c : LineCaps) (n : ℕ) {m : ℕ} → Unlowered m (c .caps) → m ≡ columns * (n + 1) → CapsShown c (λ l t. n)
+unlowered-shown c n {m} w e =
     record {
       size = w .size;
       rooms = λ l h k t.

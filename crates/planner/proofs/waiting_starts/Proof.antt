@@ -1,3 +1,4 @@
+-- The invariant: the starts of those of the first i charges that wait are listed, k of them.
 use native.Mathlib.Omega.{arith}
 use mathlib.Core.Logic.{⊎-elim}
 use Prim.Native.Nat.{_≤_, _-_}
