@@ -1,5 +1,5 @@
 -- The ways that a C function can go: a call by what serving it gave, a copy, and an opening.
-use mathlib.Core.Path.{_≡_, refl, sym, ap, _∙_}
+use mathlib.Core.Path.{_≡_, refl, sym, ap, subst, _∙_}
 use Prim.Native.Nat.{ℕ, _<_}
 use native.Mathlib.Omega.{arith}
 use mathlib.Core.Bool.{Bool, true, false, cond, _&&_}
@@ -50,8 +50,9 @@ module _ (c : Call) (n : Numbers) (numbers : List ℕ) where
   granted-behind : n .refusal ≡ 0 → written (n .blocks ∷ numbersOf c n) numbers ≡ written (counted (n .blocks) (toldOf c n)) numbers
   granted-behind e = ap (λ (t : Told). written (counted (n .blocks) t) numbers) (sym (told-granted c n e))
 
-module _ {image after list : List ℕ} {c : Call} {n : Numbers} (r : Serves image c n after list) {numbers behind afterNow listNow : List ℕ}
-    {number : ℕ} where
+-- `d` is the call that was served, and has to be the one that was asked for
+module _ {image after list : List ℕ} {c d : Call} {n : Numbers} (r : Serves image d n after list) (same : d ≡ c)
+    {numbers behind afterNow listNow : List ℕ} {number : ℕ} where
   -- whatever was told is written behind the references
   pub call-left :
       number ≡ n .refusal
@@ -59,7 +60,8 @@ module _ {image after list : List ℕ} {c : Call} {n : Numbers} (r : Serves imag
       → afterNow ≡ after
       → listNow ≡ list
       → Leaves numbers image c number behind afterNow listNow
-  call-left k b i l = record { result = rw (k, b, i, l) (r .result numbers) }
+  call-left k b i l =
+      record { result = rw (k, b, i, l) (subst (λ (x : Call). Serves image x n after list) same r .result numbers) }
 
   pub call-refused :
       0 < n .refusal

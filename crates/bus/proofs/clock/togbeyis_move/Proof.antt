@@ -18,7 +18,7 @@ same-length-2 : tie.Need-same-length-2
 same-length-2 c = search needs
 
 returns : tie.Need-returns
-returns c = call-refused (c .before .before .before .before .before .before .serve .ensures .0) (omega (arith, c .if1 .taken)) (search needs) (search needs) (search needs) (search needs)
+returns c = call-refused (c .before .before .before .before .before .before .serve .ensures .0) (search needs) (omega (arith, c .if1 .taken)) (search needs) (search needs) (search needs) (search needs)
 
 same-length-3 : tie.Need-same-length-3
 same-length-3 c = search needs
@@ -27,7 +27,7 @@ same-length-4 : tie.Need-same-length-4
 same-length-4 c = search needs
 
 returns-2 : tie.Need-returns-2
-returns-2 c = call-told (c .before .before .before .before .before .before .serve .ensures .0) (omega (arith, c .if1 .left)) refl (search needs) (search needs) (search needs) (search needs)
+returns-2 c = call-told (c .before .before .before .before .before .before .serve .ensures .0) (search needs) (omega (arith, c .if1 .left)) refl (search needs) (search needs) (search needs) (search needs)
 
 pub togbeyis-move-spec : {M : Type 1} → statement M
 togbeyis-move-spec =

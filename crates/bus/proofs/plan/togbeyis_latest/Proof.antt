@@ -13,7 +13,7 @@ same-length : tie.Need-same-length
 same-length c = search needs
 
 returns : tie.Need-returns
-returns c = call-left (c .before .before .before .before .before .before .before .before .serve-alone .ensures) (c .tell-plan .ensures .number-is) (c .tell-plan .ensures .numbers-are) (search needs) (search needs)
+returns c = call-left (c .before .before .before .before .before .before .before .before .serve-alone .ensures) (search needs) (search (c .tell-plan .ensures .number-is)) (search (c .tell-plan .ensures .numbers-are)) (search needs) (search needs)
 
 pub togbeyis-latest-spec : {M : Type 1} → statement M
 togbeyis-latest-spec =

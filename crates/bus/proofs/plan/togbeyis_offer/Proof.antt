@@ -16,7 +16,7 @@ same-length : tie.Need-same-length
 same-length c = search needs
 
 returns : tie.Need-returns
-returns c = call-left (c .before .before .before .before .before .before .before .before .before .serve .ensures .0) (c .tell-plan .ensures .number-is) (c .tell-plan .ensures .numbers-are) (search needs) (search needs)
+returns c = call-left (c .before .before .before .before .before .before .before .before .before .serve .ensures .0) (search needs) (search (c .tell-plan .ensures .number-is)) (search (c .tell-plan .ensures .numbers-are)) (search needs) (search needs)
 
 pub togbeyis-offer-spec : {M : Type 1} → statement M
 togbeyis-offer-spec =

@@ -12,13 +12,13 @@ same-length : tie.Need-same-length
 same-length c = search needs
 
 returns : tie.Need-returns
-returns c = call-refused (c .before .before .before .before .serve-alone .ensures) (omega (arith, c .if1 .taken)) (search needs) (search needs) (search needs) (search needs)
+returns c = call-refused (c .before .before .before .before .serve-alone .ensures) (search needs) (omega (arith, c .if1 .taken)) (search needs) (search needs) (search needs) (search needs)
 
 same-length-2 : tie.Need-same-length-2
 same-length-2 c = search needs
 
 returns-2 : tie.Need-returns-2
-returns-2 c = call-told (c .before .before .before .before .serve-alone .ensures) (omega (arith, c .if1 .left)) refl (search needs) (search needs) (search needs) (search needs)
+returns-2 c = call-told (c .before .before .before .before .serve-alone .ensures) (search needs) (omega (arith, c .if1 .left)) refl (search needs) (search needs) (search needs) (search needs)
 
 pub togbeyis-withdraw-spec : {M : Type 1} → statement M
 togbeyis-withdraw-spec =
