@@ -104,9 +104,12 @@ module _ {n : Numbers} {numbers behind : List ℕ} {number : ℕ} where
       → TellsPlan n numbers number behind
   plan-told h k b = record { number-is = k ∙ sym h; numbers-are = b ∙ granted-behind replanLatest n numbers h }
 
--- An image saved to another list
+-- An image tested, and saved to another list
 
 module _ {image : List ℕ} {restored : Restored} (r : Restores image restored) where
+  pub restore-told : {number : ℕ} → number ≡ restored .answer → number ≡ restoring image .refusal
+  restore-told e = e ∙ refusal-is r
+
   pub copy-refused :
       {blocks blocksAfter k : ℕ} {list after : List ℕ}
       → 0 < restored .answer
