@@ -1,3 +1,4 @@
+-- Refused by the restore, refused by the call, where the image stays, and saved.
 use native.Mathlib.Omega.{arith}
 use Rattle.calls.specs.Applied.{callOf}
 use Rattle.service.proofs.Serving.{list-kept, list-stays, saved-whole, saved-blocks, whole, restore-refused, call-refused, call-saved}

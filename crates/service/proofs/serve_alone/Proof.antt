@@ -1,3 +1,4 @@
+-- What a call that takes no list leaves of one is none.
 use Rattle.service.proofs.Serving.{no-list, alone-served}
 use borrow.Author.Needs.{needs}
 use Rattle.service.proofs.serve_alone.Statement.{statement}

@@ -1,3 +1,4 @@
+-- What the restore answered.
 use Rattle.bus.proofs.Calling.{restore-told}
 use borrow.Author.Needs.{needs}
 use Rattle.bus.proofs.copy.togbeyis_restore.Statement.{statement}

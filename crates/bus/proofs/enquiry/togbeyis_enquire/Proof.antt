@@ -1,3 +1,4 @@
+-- Refused, and told of a charging charge and of a waiting one, whose end stays.
 use native.Mathlib.Omega.{arith}
 use Rattle.bus.proofs.Calling.{call-refused, call-told, charging-numbers, waiting-numbers}
 use borrow.Author.Needs.{needs}

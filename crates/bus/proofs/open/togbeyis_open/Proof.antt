@@ -1,3 +1,4 @@
+-- Of another size, refused, and saved over whatever the list held.
 use mathlib.Core.Path.{ap}
 use Rattle.station.specs.Answers.{openAnswer}
 use Rattle.service.proofs.Serving.{saved-blocks, saved-whole}

@@ -1,3 +1,4 @@
+-- Refused, and told in the order of the references.
 use native.Mathlib.Omega.{arith}
 use Rattle.bus.proofs.Calling.{plan-refused, plan-told}
 use borrow.Author.Needs.{needs}

@@ -1,3 +1,4 @@
+-- Served, and told as every plan is.
 use Rattle.bus.proofs.Calling.{call-left}
 use borrow.Author.Needs.{needs}
 use Rattle.bus.proofs.plan.togbeyis_latest.Statement.{statement}

@@ -1,3 +1,4 @@
+-- Refused, and told: its answer has no number but that of the blocks.
 use mathlib.Core.Path.{refl}
 use native.Mathlib.Omega.{arith}
 use Rattle.bus.proofs.Calling.{call-refused, call-told}

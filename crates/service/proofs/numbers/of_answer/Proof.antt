@@ -1,3 +1,4 @@
+-- Case by case: each kind of answer has its function.
 use Rattle.service.proofs.Telling.{tells-found}
 use borrow.Author.Needs.{needs}
 use Rattle.service.proofs.numbers.of_answer.Statement.{statement}

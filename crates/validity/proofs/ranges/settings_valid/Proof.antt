@@ -1,3 +1,4 @@
+-- In range, and a D that is not 0; the product of c and N fits.
 use mathlib.Core.Path.{ap, sym, _∙_}
 use lib.Dec.{leb}
 use borrow.Author.Tests.{not-true, not-false}

@@ -1,3 +1,4 @@
+-- The loop has found every record before it right.
 use mathlib.Core.Path.{_≡_, sym, _∙_, ap}
 use mathlib.Core.Bool.{true}
 use Prim.Native.Nat.{_≤_, _-_}
