@@ -1,3 +1,4 @@
+-- The loop goes from the highest byte down.
 use mathlib.Core.Path.{refl}
 use Prim.Native.Nat.{ℕ, _+_, _-_, _≤_, _<_}
 use lib.ListN.{getD}

@@ -3,13 +3,11 @@ use Prim.Native.Nat.{ℕ}
 use mathlib.Core.Path.{_≡_}
 use mathlib.Core.Bool.{Bool, true, false, cond}
 use mathlib.Core.List.{List, [], _∷_}
-use lib.Dec.{eqb}
 use lib.ListN.{length}
-use Rattle.rules.specs.Calls.{Settings, State, Answer, refused, opened, previewed, committed, moved, planned, waiting, charging, looked, withdrawn, Result, answering, opening, Call, lent, step, written}
+use Rattle.rules.specs.Calls.{State, Answer, refused, opened, previewed, committed, moved, planned, waiting, charging, looked, withdrawn, Result, answering, Call, lent, step, written}
 use Rattle.layout.specs.Image.{imageOf}
-use Rattle.layout.specs.Reading.{RestoreResult, restoring}
+use Rattle.layout.specs.Reading.{restoring}
 use Rattle.layout.specs.Blocks.{differing}
-use Rattle.layout.specs.Saving.{SaveResult, saving}
 
 -- an answer in numbers: the one returned, and those that go behind references
 pub record Told : Type 0 where
@@ -69,41 +67,12 @@ called numbers image c =
     left numbers image
     (answering (restoring image .refusal) (restoring image .state) (lent c) (step (restoring image .state) c))
 
--- an opening: "opening reads no image: 20 only"
-unfoldable pub openedOver : List ℕ → List ℕ → Settings → Left
-openedOver numbers image x =
-    left numbers image (answering (saving (opening x .state) image image .refusal) (opening x .state) [] (opening x))
-
-abbrev pub copying : ℕ → ℕ → List ℕ → SaveResult
-copying refusal blocks image = record { refusal = refusal; blocks = blocks; image = image }
-
--- what was saved, or the first refusal, the restore's before that of saving; it leaves the list and the number of blocks
-abbrev pub copiedOr : ℕ → List ℕ → ℕ → SaveResult → SaveResult
-copiedOr blocks list refusal r =
-    let first : ℕ = cond (eqb refusal 0) (r .refusal) refusal in
-    cond (eqb first 0) r (copying first blocks list)
-
--- an image restored and saved to another list, with which it is compared
-unfoldable pub copied : ℕ → List ℕ → List ℕ → SaveResult
-copied blocks image list = copiedOr blocks list (restoring image .refusal) (saving (restoring image .state) list list)
-
 -- What the contracts say
 
 -- A call leaves exactly this of the numbers behind its references, the image and the list that were lent.
 pub record Leaves (numbers image : List ℕ) (c : Call) (number : ℕ) (behind after list : List ℕ) : Type 0 where
   pub result : leaving number behind after list ≡ called numbers image c
 
-pub record Opens (numbers image : List ℕ) (x : Settings) (number : ℕ) (behind after : List ℕ) : Type 0 where
-  pub result : leaving number behind after [] ≡ openedOver numbers image x
-
-pub record Copies (blocks : ℕ) (image list : List ℕ) (refusal blocksAfter : ℕ) (after : List ℕ) : Type 0 where
-  pub result : copying refusal blocksAfter after ≡ copied blocks image list
-
--- how a call ends with an answer: its number, the numbers behind the references and the image
-pub record Ends (a : Answer) (s : State) (numbers image : List ℕ) (number : ℕ) (behind after : List ℕ) : Type 0 where
-  pub number-is : number ≡ told a .number
-  pub numbers-are : behind ≡ written (toldOver image a s) numbers
-  pub image-is : after ≡ cond (told a .isRefused) image (imageOf s)
-
+-- the size of an image
 abbrev pub Whole : List ℕ → Type 0
 Whole image = length image ≡ 4608
