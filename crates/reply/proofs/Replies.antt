@@ -1,12 +1,12 @@
 -- From what a call gives, and what is printed, to what a request is answered.
 use mathlib.Core.Path.{_≡_, refl, sym, ap, subst, _∙_}
 use mathlib.Core.List.{List, _++_}
-use Prim.Native.Nat.{ℕ, _+_, _*_, _≤_, min}
+use Prim.Native.Nat.{ℕ, _+_, _≤_, min}
 use native.Mathlib.Omega.{arith}
 use lib.ListN.{length, take, drop, replicate, length-replicate}
 use lib.Seq.{sets, sets-eq, length-sets, take-at}
 use Rattle.rules.specs.Basics.{at}
-use Rattle.rules.specs.Calls.{State, Answer, Result, step}
+use Rattle.rules.specs.Calls.{State, Result}
 use Rattle.text.specs.Printed.{Printed}
 use Rattle.text.proofs.Printing.{printed-as}
 use Rattle.answers.specs.Answers.{answerText, listedOf}
@@ -17,7 +17,6 @@ use Rattle.calls.specs.declared.Call.{Call}
 use Rattle.calls.specs.declared.Call.the-variants.{Preview, Commit, Move, Offer, ReplanLatest, ReplanLines, Enquire, Board, Withdraw}
 use Rattle.calls.specs.declared.Answer as code
 use Rattle.station.specs.View.{view, Valid}
-use Rattle.station.specs.Answers.{Gives}
 use Rattle.calls.specs.Applied.{callOf, lends, answerOf, Applies}
 use Rattle.reply.specs.Reply.{numbersIn, called, reply, writtenBy, placesOf, lentBy, saidText, Says, Replied, answered}
 use Rattle.reply.specs.declared.Reply as code-reply

@@ -11,7 +11,7 @@ ghost use Rattle.text.specs.Printed.{Printed};
 ghost use Rattle.station.specs.View.{view, Valid};
 ghost use Rattle.station.specs.Answers.{settingsOf};
 ghost use Rattle.calls.specs.Applied.{callOf, lends};
-ghost use Rattle.reply.specs.Reply.{told, numbersIn, called, reply, lentBy, writtenBy, requestWritten, saidText, SaidFits, Says, placesOf};
+ghost use Rattle.reply.specs.Reply.{told, called, reply, lentBy, writtenBy, requestWritten, saidText, SaidFits, Says, placesOf};
 use calls::Answer;
 use calls::Call;
 use requests::Reason;

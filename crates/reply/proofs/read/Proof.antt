@@ -1,5 +1,5 @@
 -- `reply::read` meets its contract: the request as it is read, and the list as it is filled for it.
-use mathlib.Core.Path.{_≡_, ap, _∙_}
+use mathlib.Core.Path.{ap, _∙_}
 use Prim.Native.Nat.{ℕ}
 use native.Mathlib.Omega.{arith}
 use lib.Seq.{sets}

@@ -1,7 +1,6 @@
 -- `reply::reply_request` meets its contract, case by case.
 use mathlib.Core.Path.{refl, sym}
 use native.Mathlib.Omega.{arith}
-use lib.ListN.{length}
 use lib.Seq.{length-take-le}
 use Rattle.requests.specs.Requests.{Fits}
 use Rattle.requests.specs.declared.request.Request.the-variants.{Call}
