@@ -22,28 +22,28 @@ impl Station {
         requires { ⌜ Valid self ⌝ }
         ensures { λ r. ⌜ Gives (step (view self) (withdrawCall ticket)) (withdrawAnswer (r .answer)) (r .station) [] ⌝ }
     {
+        let mut next = self;
         let held = self.charges;
         let charges::Place::At(i) = held.find(ticket) else {
             return Withdrawing {
                 answer: WithdrawAnswer::Refused(15),
-                station: self,
+                station: next,
             };
         };
         let start = held.starts[i];
         if start < self.clock {
             return Withdrawing {
                 answer: WithdrawAnswer::Refused(25),
-                station: self,
+                station: next,
             };
         }
         let rest = held.without(ticket);
         if !plan_sound(rest, self.clock, self.limit, self.bound) {
             return Withdrawing {
                 answer: WithdrawAnswer::Refused(26),
-                station: self,
+                station: next,
             };
         }
-        let mut next = self;
         next.charges = rest;
         Withdrawing {
             answer: WithdrawAnswer::Withdrawn,
