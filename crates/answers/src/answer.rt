@@ -4,7 +4,7 @@ ghost use Prim.Native.Nat.{ℕ, _+_, _*_, _≤_};
 ghost use mathlib.Core.List.{[]};
 ghost use lib.ListN.{length};
 ghost use Rattle.rules.specs.Calls.{refused, moved as movedAnswer, looked as lookedAnswer};
-ghost use Rattle.station.specs.Answers.{openAnswer, previewAnswer, commitAnswer, moveAnswer, planAnswer, enquiryAnswer, boardAnswer, withdrawAnswer};
+ghost use Rattle.station.specs.Answers.{openAnswer, previewAnswer, commitAnswer, moveAnswer, planAnswer, enquiryAnswer, boardAnswer, withdrawalAnswer};
 ghost use Rattle.calls.specs.Applied.{answerOf};
 ghost use Rattle.text.specs.Printed.{Printed};
 ghost use Rattle.answers.specs.Answers.{answerText, listedOf, PrintedAlone};
@@ -16,7 +16,7 @@ use station::open::OpenAnswer;
 use station::order::CommitAnswer;
 use station::order::PreviewAnswer;
 use station::plan::PlanAnswer;
-use station::withdraw::WithdrawAnswer;
+use station::withdraw::WithdrawalAnswer;
 use text::print_field;
 use text::print_four;
 use text::print_list;
@@ -155,13 +155,13 @@ fn print_board(
     }
 }
 
-fn print_withdrawal(answer: WithdrawAnswer, buffer: &mut [u8], at: usize) -> usize
+fn print_withdrawal(answer: WithdrawalAnswer, buffer: &mut [u8], at: usize) -> usize
     requires { ⌜ at + 96 ≤ length (now buffer) ⌝ }
-    ensures { λ r. ⌜ PrintedAlone (withdrawAnswer answer) (now (buffer .entry)) at (now (buffer .exit)) r ⌝ }
+    ensures { λ r. ⌜ PrintedAlone (withdrawalAnswer answer) (now (buffer .entry)) at (now (buffer .exit)) r ⌝ }
 {
     match answer {
-        WithdrawAnswer::Withdrawn => print_text(b"withdrawn\n", buffer, at),
-        WithdrawAnswer::Refused(number) => print_refused(number, buffer, at),
+        WithdrawalAnswer::Withdrawn => print_text(b"withdrawn\n", buffer, at),
+        WithdrawalAnswer::Refused(number) => print_refused(number, buffer, at),
     }
 }
 

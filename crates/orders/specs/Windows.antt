@@ -55,13 +55,13 @@ StartedAdded p q c low high =
     (clock : ℕ) (loads : List Load) → Shows p clock loads → Shows q clock (loads ++ loadsOf (started low high (chargesOf c)))
 
 -- what the search for an order's start asks: a sound plan of charges with numbers in range, and what none of refusals 4 to 18 turns away
-pub record CanOrder (held : Charges) (clock : ℕ) (y : Limits) (a : Draw) : Type 0 where
-  pub few : held .held ≤ places
-  pub ends : EndsFit held
-  pub rated : Rated held
-  pub end-most : lastUntil (loadsOf (chargesOf held)) ≤ 100001445
+pub record CanOrder (charges : Charges) (clock : ℕ) (y : Limits) (a : Draw) : Type 0 where
+  pub few : charges .held ≤ places
+  pub ends : EndsFit charges
+  pub rated : Rated charges
+  pub end-most : lastUntil (loadsOf (chargesOf charges)) ≤ 100001445
   pub clock-most : clock ≤ 1000000
-  pub sound-on : sound (limitsOf y) clock (loadsOf (chargesOf held)) ≡ true
+  pub sound-on : sound (limitsOf y) clock (loadsOf (chargesOf charges)) ≡ true
   pub some : 1 ≤ a .time
   pub time-most : a .time ≤ 1445
   pub is-rate : IsRate (a .rate)

@@ -1,7 +1,7 @@
 // An answer in numbers, each by its name, so that what calls a call need not tell one kind of answer from another.
 ghost use mathlib.Core.Path.{_≡_};
 ghost use Rattle.calls.specs.Applied.{answerOf};
-ghost use Rattle.station.specs.Answers.{previewAnswer, commitAnswer, moveAnswer, planAnswer, enquiryAnswer, boardAnswer, withdrawAnswer};
+ghost use Rattle.station.specs.Answers.{previewAnswer, commitAnswer, moveAnswer, planAnswer, enquiryAnswer, boardAnswer, withdrawalAnswer};
 ghost use Rattle.service.specs.Named.{alone, Tells};
 use calls::Answer;
 use station::board::BoardAnswer;
@@ -10,7 +10,7 @@ use station::enquiry::EnquiryAnswer;
 use station::order::CommitAnswer;
 use station::order::PreviewAnswer;
 use station::plan::PlanAnswer;
-use station::withdraw::WithdrawAnswer;
+use station::withdraw::WithdrawalAnswer;
 
 // The number of the refusal, or 0, and how many blocks of the image changed; then the numbers of an answer, each 0 where the answer
 // has none of its name. Of an enquiry, `charging` is 1 or 0.
@@ -143,12 +143,12 @@ fn of_board(answer: BoardAnswer) -> Numbers
     }
 }
 
-fn of_withdrawal(answer: WithdrawAnswer) -> Numbers
-    ensures { λ r. ⌜ Tells (withdrawAnswer answer) r ⌝ }
+fn of_withdrawal(answer: WithdrawalAnswer) -> Numbers
+    ensures { λ r. ⌜ Tells (withdrawalAnswer answer) r ⌝ }
 {
     match answer {
-        WithdrawAnswer::Withdrawn => refused(0),
-        WithdrawAnswer::Refused(number) => refused(number),
+        WithdrawalAnswer::Withdrawn => refused(0),
+        WithdrawalAnswer::Refused(number) => refused(number),
     }
 }
 

@@ -50,12 +50,12 @@ impl Station {
                 station: self,
             };
         }
-        let held = self.charges;
-        let passed = by_start(held, self.clock, target);
-        queues::report(held, passed, report);
-        let left = held.unfinished(target);
+        let charges = self.charges;
+        let passed = by_start(charges, self.clock, target);
+        queues::report(charges, passed, report);
+        let left = charges.unfinished(target);
         let reported = passed.count;
-        let dropped = held.held - left.held;
+        let dropped = charges.held - left.held;
         let mut next = self;
         next.clock = target;
         next.charges = left;

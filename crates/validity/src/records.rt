@@ -39,19 +39,19 @@ pub fn records_right(s: Station) -> bool
     requires { ⌜ Settled s ⌝ }
     ensures { λ r. ⌜ r ≡ every (recordRight (view s)) (s .charges .held) ⌝ }
 {
-    let held = s.charges;
-    let n = held.held;
+    let charges = s.charges;
+    let n = charges.held;
     for q in 0..n {
-        if !ticket_rises(&held.tickets, n, s.next, q) {
+        if !ticket_rises(&charges.tickets, n, s.next, q) {
             return false;
         }
-        let line = held.lines[q];
-        let order_minute = held.order_minutes[q];
-        let time = held.times[q];
-        let active_time = held.active_times[q];
-        let due = held.dues[q];
-        let start = held.starts[q];
-        let rate = held.rates[q];
+        let line = charges.lines[q];
+        let order_minute = charges.order_minutes[q];
+        let time = charges.times[q];
+        let active_time = charges.active_times[q];
+        let due = charges.dues[q];
+        let start = charges.starts[q];
+        let rate = charges.rates[q];
         if !charge_valid(
             s.limit,
             s.bound,
