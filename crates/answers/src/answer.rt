@@ -108,25 +108,20 @@ fn print_enquiry(answer: EnquiryAnswer, buffer: &mut [u8], at: usize) -> usize
     requires { ⌜ at + 96 ≤ length (now buffer) ⌝ }
     ensures { λ r. ⌜ PrintedAlone (enquiryAnswer answer) (now (buffer .entry)) at (now (buffer .exit)) r ⌝ }
 {
-    match answer {
-        EnquiryAnswer::Waiting { start, rate } => print_two(
-            b"waiting ",
-            start as u64,
-            b" ",
-            rate as u64,
-            buffer,
-            at,
-        ),
-        EnquiryAnswer::Charging { start, end, rate } => print_three(
-            b"charging ",
-            start as u64,
-            end as u64,
-            rate as u64,
-            buffer,
-            at,
-        ),
-        EnquiryAnswer::Refused => print_refused(15, buffer, at),
+    if let EnquiryAnswer::Waiting { start, rate } = answer {
+        return print_two(b"waiting ", start as u64, b" ", rate as u64, buffer, at);
     }
+    let EnquiryAnswer::Charging { start, end, rate } = answer else {
+        return print_refused(15, buffer, at);
+    };
+    print_three(
+        b"charging ",
+        start as u64,
+        end as u64,
+        rate as u64,
+        buffer,
+        at,
+    )
 }
 
 // The answers of the tickets asked for stand at the front of the list that was lent to the board.

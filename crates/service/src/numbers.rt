@@ -113,21 +113,23 @@ fn of_plan(answer: PlanAnswer) -> Numbers
 fn of_enquiry(answer: EnquiryAnswer) -> Numbers
     ensures { λ r. ⌜ Tells (enquiryAnswer answer) r ⌝ }
 {
-    match answer {
-        EnquiryAnswer::Waiting { start, rate } => Numbers {
+    if let EnquiryAnswer::Waiting { start, rate } = answer {
+        return Numbers {
             charging: 0,
             start,
             rate,
             ..refused(0)
-        },
-        EnquiryAnswer::Charging { start, end, rate } => Numbers {
-            start,
-            end,
-            rate,
-            charging: 1,
-            ..refused(0)
-        },
-        EnquiryAnswer::Refused => refused(15),
+        };
+    }
+    let EnquiryAnswer::Charging { start, end, rate } = answer else {
+        return refused(15);
+    };
+    Numbers {
+        start,
+        end,
+        rate,
+        charging: 1,
+        ..refused(0)
     }
 }
 

@@ -1,5 +1,7 @@
+-- `service::numbers::of_enquiry` meets its contract, case by case.
 use mathlib.Core.Path.{ap}
 use Rattle.station.specs.Answers.{enquiryAnswer}
+use Rattle.calls.proofs.Enquiries.{refused-left}
 use Rattle.service.proofs.Telling.{tells-taken}
 use Rattle.service.specs.declared.numbers.Numbers.{Numbers}
 use borrow.Author.Needs.{needs}
@@ -12,26 +14,23 @@ enum-known-answer c = search needs
 refused-requires : tie.Need-refused-requires
 refused-requires c κs = search needs
 
+returns : tie.Need-returns
+returns c = tells-taken (ap enquiryAnswer (c .before .before .answer .given .1)) (ap (λ (n : Numbers). n .refusal) (c .refused .ensures)) (search needs)
+
 enum-known-answer-2 : tie.Need-enum-known-answer-2
 enum-known-answer-2 c = search needs
 
 refused-requires-2 : tie.Need-refused-requires-2
 refused-requires-2 c κs = search needs
 
-enum-told : tie.Need-enum-told
-enum-told c = search needs
+returns-2 : tie.Need-returns-2
+returns-2 c = rw (refused-left (c .before .before .before .args .answer) (c .before .before .match .keys2) (c .before .match2 .keys2)) (search needs)
 
 refused-requires-3 : tie.Need-refused-requires-3
 refused-requires-3 c κs = search needs
 
-returns : tie.Need-returns
-returns c = tells-taken (ap enquiryAnswer (c .before .before .answer .given .1)) (ap (λ (n : Numbers). n .refusal) (c .refused .ensures)) (search needs)
-
-returns-2 : tie.Need-returns-2
-returns-2 c = tells-taken (ap enquiryAnswer (c .before .before .answer2 .given .1)) (ap (λ (n : Numbers). n .refusal) (c .refused2 .ensures)) (search needs)
-
 returns-3 : tie.Need-returns-3
-returns-3 c = search needs
+returns-3 c = tells-taken (ap enquiryAnswer (c .before .before .answer2 .given .1)) (ap (λ (n : Numbers). n .refusal) (c .refused3 .ensures)) (search needs)
 
 pub of-enquiry-spec : {M : Type 1} → statement M
 of-enquiry-spec =
@@ -39,10 +38,9 @@ of-enquiry-spec =
     (tie.spec
     enum-known-answer
     refused-requires
+    returns
     enum-known-answer-2
     refused-requires-2
-    enum-told
-    refused-requires-3
-    returns
     returns-2
+    refused-requires-3
     returns-3)
