@@ -19,7 +19,7 @@ use std::sync::Arc;
 use std::time::{Duration, Instant};
 
 /// An answer that does not come within this time is missing.
-const PATIENCE: Duration = Duration::from_secs(10);
+pub(crate) const PATIENCE: Duration = Duration::from_secs(10);
 /// Calls of which the first life is made, to learn how long a call takes.
 const FIRST: usize = 20;
 
@@ -33,7 +33,7 @@ pub struct Tally {
 }
 
 /// Evenings one after the other, and how far they have come.
-struct Evenings {
+pub(crate) struct Evenings {
     seed: u64,
     number: u64,
     lines: Vec<Line>,
@@ -41,13 +41,13 @@ struct Evenings {
 }
 
 impl Evenings {
-    fn new(seed: u64) -> Evenings {
+    pub(crate) fn new(seed: u64) -> Evenings {
         let bus = Bus::new(Reference, Shelf::default());
         Evenings { seed, number: 0, lines: Vec::new(), bus }
     }
 
     /// The next so many lines, with the answers and images that they should give.
-    fn next(&mut self, count: usize) -> Vec<Step> {
+    pub(crate) fn next(&mut self, count: usize) -> Vec<Step> {
         while self.lines.len() < count {
             let script = generate::script_of_kind("evening", self.seed, self.number);
             self.lines.extend(script.unwrap_or_default().lines);
@@ -64,17 +64,28 @@ impl Evenings {
         steps
     }
 
+    pub(crate) fn image(&self) -> &[u8] {
+        self.bus.image()
+    }
+
+    /// What a line that changes nothing would be answered.
+    pub(crate) fn answer(&mut self, line: &[u8]) -> Line {
+        let mut answer = Vec::new();
+        self.bus.answer(line, &mut answer);
+        answer
+    }
+
     /// So many lines have been carried out, and this is the image.
-    fn go_on(&mut self, count: usize, image: &[u8]) {
+    pub(crate) fn go_on(&mut self, count: usize, image: &[u8]) {
         self.lines.drain(..count);
         self.bus.set_image(image.to_vec());
     }
 }
 
-struct Step {
-    line: Line,
-    answer: Line,
-    image: Vec<u8>,
+pub(crate) struct Step {
+    pub(crate) line: Line,
+    pub(crate) answer: Line,
+    pub(crate) image: Vec<u8>,
 }
 
 /// From a start of the program to its stop.

@@ -5,6 +5,7 @@
 //! "further trials are executed against another implementation of these rules"
 
 pub mod benchmark;
+pub mod between;
 pub mod bus;
 pub mod compare;
 pub mod coverage;

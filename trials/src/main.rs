@@ -15,8 +15,8 @@ use trials::kills::Tally;
 use trials::program::Program;
 use trials::role::Role;
 use trials::{
-    benchmark, coverage, damage, demand, fast, fill, generate, interpret, kills, loops, reference,
-    script, wall,
+    benchmark, between, coverage, damage, demand, fast, fill, generate, interpret, kills, loops,
+    reference, script, wall,
 };
 
 const USAGE: &str = "\
@@ -29,8 +29,9 @@ trials generate [--kind KIND] [--seed S] [--scripts K]
 trials compare PROGRAM [--scripts K] [--seed S] [--kind KIND] [--without KIND]
                        [--patience SECONDS] [--as bus]
 trials images BUS [--seed S] [--times T]     damaged images and images from elsewhere
-trials kills BUS [--stops K] [--seed S] [--seconds T]
-                                             stops at random moments, the image in a file
+trials kills BUS [--stops K] [--between B] [--seed S] [--seconds T]
+                                             stops at random moments, the image in a file,
+                                             and B between keeping it and the answer
 trials loops [TITLE]                         titles of the trials of the loop, or an input
 trials coverage [--scripts K] [--seed S] [--kind KIND] [--without KIND]
 trials benchmark PROGRAM [--bus BUS] [--repeat R] [--days D] [--only bus]
@@ -251,11 +252,15 @@ fn run_kills(words: &Words) -> Outcome {
     let (seed, stops) = (words.number("seed", 1)?, words.number("stops", 300)? as usize);
     let longest = Duration::from_secs(words.number("seconds", 25)?);
     let begun = Instant::now();
-    match kills::compare(&program, seed, stops, longest) {
+    let between = words.number("between", 20)? as usize;
+    let trial = kills::compare(&program, seed, stops, longest)
+        .and_then(|tally| between::compare(&program, seed, between).map(|()| tally));
+    match trial {
         Ok(Tally { stops, answers, after }) => {
             let seconds = begun.elapsed().as_secs_f64();
             println!("{stops} stops, {after} of them after the call in hand was kept,");
-            println!("{answers} answers, no answered call lost ({seconds:.1} s)");
+            println!("{answers} answers, no answered call lost;");
+            println!("{between} stops between keeping an image and its answer ({seconds:.1} s)");
             Ok(())
         }
         Err(failure) => {

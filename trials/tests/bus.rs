@@ -6,7 +6,7 @@ use std::time::Duration;
 use trials::compare::{compare, Choice};
 use trials::program::{Answering, Program};
 use trials::role::Role;
-use trials::{damage, kills};
+use trials::{between, damage, kills};
 use wrong::{Fault, Inside};
 
 /// With a word of the title under which the trials of images find them.
@@ -128,4 +128,17 @@ fn stops_find_a_bus_that_keeps_its_image_wrongly() {
         let found = stopped(fault).expect_err(fault);
         assert!(found.contains(what), "{fault}: {found}");
     }
+}
+
+/// Stops between keeping an image and its answer.
+fn stopped_between(fault: &str, stops: usize) -> Result<(), String> {
+    let words = [env!("CARGO_BIN_EXE_wrong_bus"), fault].map(String::from);
+    between::compare(&words, 5, stops).map_err(|failure| failure.what)
+}
+
+#[test]
+fn a_stop_between_keeping_and_answering_leaves_the_next_image() {
+    stopped_between("None", 3).expect("no fault");
+    let found = stopped_between("AnswersFirst", 1).expect_err("AnswersFirst");
+    assert!(found.contains("not kept before its answer"), "{found}");
 }

@@ -1,33 +1,12 @@
--- The answer of an enquiry, by its cases.
+-- What is printed of a lent list.
 use mathlib.Core.Path.{_≡_, refl}
-use mathlib.Core.List.{List, [], _∷_}
-use mathlib.Core.Logic.{_⊎_, ⊎-elim}
 use Prim.Native.Nat.{ℕ}
-use native.Mathlib.Omega.{arith}
-use Rattle.station.specs.Answers.{enquiryAnswer}
-use Rattle.station.specs.declared.enquiry.EnquiryAnswer.{EnquiryAnswer}
-use Rattle.station.proofs.enquiry.EnquiryAnswer.{the-type}
-use Rattle.station.specs.declared.enquiry.EnquiryAnswer.the-variants.{Waiting, Charging, Refused}
-use Rattle.text.specs.Printed.{Printed}
-use Rattle.answers.specs.Answers.{answerText}
-use types.Run.{OneOf}
-use denote.Enum.Declared.{tagOf}
+use Rattle.station.specs.Answers.{moveAnswer}
+use Rattle.station.specs.declared.clock.MoveAnswer.{MoveAnswer}
+use Rattle.station.specs.declared.clock.MoveAnswer.the-variants.{Moved, Refused}
+use Rattle.answers.specs.Answers.{listedOf}
 
-neither : (x k l : ℕ) → (x ≡ k → ⊥) → (x ≡ l → ⊥) → (x ≡ k) ⊎ (x ≡ l) → ⊥
-neither x k l f g h = ⊎-elim f g h
-
--- what is neither waiting nor charging is refused
-pub refused-left :
-    (a : EnquiryAnswer) → OneOf (1 ∷ 2 ∷ []) (tagOf the-type a) → OneOf (0 ∷ 2 ∷ []) (tagOf the-type a) → a ≡ Refused
-refused-left (Waiting start rate) p q = absurd (neither 0 1 2 (λ e. omega arith) (λ e. omega arith) p)
-refused-left (Charging start end rate) p q = absurd (neither 1 0 2 (λ e. omega arith) (λ e. omega arith) q)
-refused-left Refused p q = refl
-
--- nothing of the lent list is printed
-pub enquiry-line :
-    (a : EnquiryAnswer) (asked : ℕ) (list : List ℕ) {before : List ℕ} {at : ℕ} {after : List ℕ} {next : ℕ}
-    → Printed (answerText (enquiryAnswer a) 0 []) before at after next → Printed (answerText (enquiryAnswer a) asked list) before at after next
-unfolding answerText
-enquiry-line (Waiting start rate) asked list p = p
-enquiry-line (Charging start end rate) asked list p = p
-enquiry-line Refused asked list p = p
+-- a move takes no tickets
+pub move-asks-none : (a : MoveAnswer) (asked : ℕ) → listedOf (moveAnswer a) asked ≡ listedOf (moveAnswer a) 0
+move-asks-none (Moved reported dropped) asked = refl
+move-asks-none (Refused number) asked = refl

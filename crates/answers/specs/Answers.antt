@@ -3,25 +3,7 @@ use Prim.Native.Nat.{ℕ, _*_}
 use mathlib.Core.List.{List, [], _∷_, _++_}
 use lib.ListN.{take}
 use Rattle.rules.specs.Calls.{Answer, refused, opened, previewed, committed, moved, planned, waiting, charging, looked, withdrawn}
-use Rattle.text.specs.Printed.{field, listed}
-use Rattle.requests.specs.declared.request.Reason.{Reason}
-use Rattle.requests.specs.declared.request.Reason.the-variants.{UnknownCall, NotANumber, NumberTooLarge, MissingNumber, ExtraNumber, LineTooLong}
-
-abbrev pub lineFeed : List ℕ
-lineFeed = 10 ∷ []
-
--- one to four numbers, each after a text, and the line feed
-abbrev pub one : List ℕ → ℕ → List ℕ
-one text n = field text n ++ lineFeed
-
-abbrev pub two : List ℕ → ℕ → List ℕ → ℕ → List ℕ
-two text n next m = field text n ++ one next m
-
-abbrev pub three : List ℕ → ℕ → ℕ → ℕ → List ℕ
-three text a b c = field text a ++ two (32 ∷ []) b (32 ∷ []) c
-
-abbrev pub four : List ℕ → ℕ → ℕ → ℕ → ℕ → List ℕ
-four text a b c d = field text a ++ three (32 ∷ []) b c d
+use Rattle.text.specs.Printed.{Printed, field, listed, lineFeed, one, two, three, four}
 
 -- an answer, with the number of tickets that were asked for and the list that was lent to the call: a move's pairs and a board's
 -- answers stand at its front
@@ -53,6 +35,10 @@ answerText (looked n) asked list = field (98 ∷ 111 ∷ 97 ∷ 114 ∷ 100 ∷ 
 -- "withdrawn"
 answerText withdrawn asked list = (119 ∷ 105 ∷ 116 ∷ 104 ∷ 100 ∷ 114 ∷ 97 ∷ 119 ∷ 110 ∷ []) ++ lineFeed
 
+-- printed with nothing of the lent list: it reads the same whatever was lent
+abbrev pub PrintedAlone : Answer → List ℕ → ℕ → List ℕ → ℕ → Type 0
+PrintedAlone a before at after next = (asked : ℕ) (list : List ℕ) → Printed (answerText a asked list) before at after next
+
 -- how many numbers of the lent list are printed with an answer
 abbrev pub listedOf : Answer → ℕ → ℕ
 listedOf (refused k) asked = 0
@@ -65,23 +51,3 @@ listedOf (waiting u w) asked = 0
 listedOf (charging u v w) asked = 0
 listedOf (looked n) asked = asked
 listedOf withdrawn asked = 0
-
-abbrev pub reasonText : Reason → List ℕ
--- "unknown call"
-reasonText UnknownCall = 117 ∷ 110 ∷ 107 ∷ 110 ∷ 111 ∷ 119 ∷ 110 ∷ 32 ∷ 99 ∷ 97 ∷ 108 ∷ 108 ∷ []
--- "not a number"
-reasonText NotANumber = 110 ∷ 111 ∷ 116 ∷ 32 ∷ 97 ∷ 32 ∷ 110 ∷ 117 ∷ 109 ∷ 98 ∷ 101 ∷ 114 ∷ []
--- "number too large"
-reasonText NumberTooLarge =
-    110 ∷ 117 ∷ 109 ∷ 98 ∷ 101 ∷ 114 ∷ 32 ∷ 116 ∷ 111 ∷ 111 ∷ 32 ∷ 108 ∷ 97 ∷ 114 ∷ 103 ∷ 101 ∷ []
--- "missing number"
-reasonText MissingNumber =
-    109 ∷ 105 ∷ 115 ∷ 115 ∷ 105 ∷ 110 ∷ 103 ∷ 32 ∷ 110 ∷ 117 ∷ 109 ∷ 98 ∷ 101 ∷ 114 ∷ []
--- "extra number"
-reasonText ExtraNumber = 101 ∷ 120 ∷ 116 ∷ 114 ∷ 97 ∷ 32 ∷ 110 ∷ 117 ∷ 109 ∷ 98 ∷ 101 ∷ 114 ∷ []
--- "line too long"
-reasonText LineTooLong = 108 ∷ 105 ∷ 110 ∷ 101 ∷ 32 ∷ 116 ∷ 111 ∷ 111 ∷ 32 ∷ 108 ∷ 111 ∷ 110 ∷ 103 ∷ []
-
--- "error ", and the reason
-abbrev pub errorText : Reason → List ℕ
-errorText reason = (101 ∷ 114 ∷ 114 ∷ 111 ∷ 114 ∷ 32 ∷ []) ++ (reasonText reason ++ lineFeed)

@@ -1,15 +1,14 @@
 // The answers as text, each with its line feed. A buffer has room for an answer where 96 bytes are left, and 21 more for each number
 // of the lent list that is printed with it.
-ghost use Prim.Native.Nat.{_+_, _*_, _≤_};
+ghost use Prim.Native.Nat.{ℕ, _+_, _*_, _≤_};
 ghost use mathlib.Core.List.{[]};
 ghost use lib.ListN.{length};
 ghost use Rattle.rules.specs.Calls.{refused, moved as movedAnswer, looked as lookedAnswer};
-ghost use Rattle.station.specs.Answers.{openAnswer, enquiryAnswer};
+ghost use Rattle.station.specs.Answers.{openAnswer, previewAnswer, commitAnswer, moveAnswer, planAnswer, enquiryAnswer, boardAnswer, withdrawalAnswer};
 ghost use Rattle.calls.specs.Applied.{answerOf};
 ghost use Rattle.text.specs.Printed.{Printed};
-ghost use Rattle.answers.specs.Answers.{one, two, three, four, answerText, listedOf, errorText};
+ghost use Rattle.answers.specs.Answers.{answerText, listedOf, PrintedAlone};
 use calls::Answer;
-use requests::Reason;
 use station::board::BoardAnswer;
 use station::clock::MoveAnswer;
 use station::enquiry::EnquiryAnswer;
@@ -17,73 +16,53 @@ use station::open::OpenAnswer;
 use station::order::CommitAnswer;
 use station::order::PreviewAnswer;
 use station::plan::PlanAnswer;
-use station::withdraw::WithdrawAnswer;
+use station::withdraw::WithdrawalAnswer;
 use text::print_field;
+use text::print_four;
 use text::print_list;
+use text::print_one;
 use text::print_text;
-
-// One number, after a text.
-fn print_one(text: &[u8], n: u64, buffer: &mut [u8], at: usize) -> usize
-    requires { ⌜ at + (length (now text) + 21) ≤ length (now buffer) ⌝ }
-    ensures { λ r. ⌜ Printed (one (now (text .entry)) n) (now (buffer .entry)) at (now (buffer .exit)) r ⌝ }
-{
-    let a = print_field(text, n, buffer, at);
-    print_text(b"\n", buffer, a)
-}
-
-// Two numbers, each after a text.
-fn print_two(text: &[u8], n: u64, next: &[u8], m: u64, buffer: &mut [u8], at: usize) -> usize
-    requires { ⌜ at + (length (now text) + (length (now next) + 41)) ≤ length (now buffer) ⌝ }
-    ensures { λ r. ⌜ Printed (two (now (text .entry)) n (now (next .entry)) m) (now (buffer .entry)) at (now (buffer .exit)) r ⌝ }
-{
-    let a = print_field(text, n, buffer, at);
-    print_one(next, m, buffer, a)
-}
-
-// Three numbers, the first after a text and each other after a space.
-fn print_three(
-    text: &[u8],
-    first: u64,
-    second: u64,
-    third: u64,
-    buffer: &mut [u8],
-    at: usize,
-) -> usize
-    requires { ⌜ at + (length (now text) + 63) ≤ length (now buffer) ⌝ }
-    ensures { λ r. ⌜ Printed (three (now (text .entry)) first second third) (now (buffer .entry)) at (now (buffer .exit)) r ⌝ }
-{
-    let a = print_field(text, first, buffer, at);
-    print_two(b" ", second, b" ", third, buffer, a)
-}
-
-// Four numbers in the same way.
-fn print_four(
-    text: &[u8],
-    first: u64,
-    second: u64,
-    third: u64,
-    fourth: u64,
-    buffer: &mut [u8],
-    at: usize,
-) -> usize
-    requires { ⌜ at + (length (now text) + 84) ≤ length (now buffer) ⌝ }
-    ensures { λ r. ⌜ Printed (four (now (text .entry)) first second third fourth) (now (buffer .entry)) at (now (buffer .exit)) r ⌝ }
-{
-    let a = print_field(text, first, buffer, at);
-    print_three(b" ", second, third, fourth, buffer, a)
-}
+use text::print_three;
+use text::print_two;
 
 fn print_refused(number: u32, buffer: &mut [u8], at: usize) -> usize
     requires { ⌜ at + 96 ≤ length (now buffer) ⌝ }
-    ensures { λ r. ⌜ Printed (answerText (refused number) 0 []) (now (buffer .entry)) at (now (buffer .exit)) r ⌝ }
+    ensures { λ r. ⌜ PrintedAlone (refused number) (now (buffer .entry)) at (now (buffer .exit)) r ⌝ }
 {
     print_one(b"refused ", number as u64, buffer, at)
+}
+
+fn print_preview(answer: PreviewAnswer, buffer: &mut [u8], at: usize) -> usize
+    requires { ⌜ at + 96 ≤ length (now buffer) ⌝ }
+    ensures { λ r. ⌜ PrintedAlone (previewAnswer answer) (now (buffer .entry)) at (now (buffer .exit)) r ⌝ }
+{
+    match answer {
+        PreviewAnswer::Previewed(start) => print_one(b"start ", start as u64, buffer, at),
+        PreviewAnswer::Refused(number) => print_refused(number, buffer, at),
+    }
+}
+
+fn print_commit(answer: CommitAnswer, buffer: &mut [u8], at: usize) -> usize
+    requires { ⌜ at + 96 ≤ length (now buffer) ⌝ }
+    ensures { λ r. ⌜ PrintedAlone (commitAnswer answer) (now (buffer .entry)) at (now (buffer .exit)) r ⌝ }
+{
+    match answer {
+        CommitAnswer::Committed { ticket, start } => print_two(
+            b"ticket ",
+            ticket as u64,
+            b" start ",
+            start as u64,
+            buffer,
+            at,
+        ),
+        CommitAnswer::Refused(number) => print_refused(number, buffer, at),
+    }
 }
 
 // The reported pairs stand at the front of the list that was lent to the move.
 fn print_moved(reported: usize, dropped: usize, list: &[u32], buffer: &mut [u8], at: usize) -> usize
     requires { ⌜ (2 * reported ≤ length (now list)) × (at + (96 + 21 * (2 * reported)) ≤ length (now buffer)) ⌝ }
-    ensures { λ r. ⌜ Printed (answerText (movedAnswer reported dropped) 0 (now (list .entry))) (now (buffer .entry)) at (now (buffer .exit)) r ⌝ }
+    ensures { λ r. ⌜ ((asked : ℕ) → Printed (answerText (movedAnswer reported dropped) asked (now (list .entry))) (now (buffer .entry)) at (now (buffer .exit)) r) ⌝ }
 {
     let a = print_field(b"moved ", reported as u64, buffer, at);
     let b = print_field(b" dropped ", dropped as u64, buffer, a);
@@ -92,19 +71,42 @@ fn print_moved(reported: usize, dropped: usize, list: &[u32], buffer: &mut [u8],
     print_text(b"\n", buffer, d)
 }
 
-// The answers of the tickets asked for stand at the front of the list that was lent to the board.
-fn print_board(looked: usize, asked: usize, list: &[u32], buffer: &mut [u8], at: usize) -> usize
-    requires { ⌜ (asked ≤ length (now list)) × (at + (96 + 21 * asked) ≤ length (now buffer)) ⌝ }
-    ensures { λ r. ⌜ Printed (answerText (lookedAnswer looked) asked (now (list .entry))) (now (buffer .entry)) at (now (buffer .exit)) r ⌝ }
+fn print_move(answer: MoveAnswer, list: &[u32], buffer: &mut [u8], at: usize) -> usize
+    requires { ⌜ (listedOf (moveAnswer answer) 0 ≤ length (now list)) × (at + (96 + 21 * listedOf (moveAnswer answer) 0) ≤ length (now buffer)) ⌝ }
+    ensures { λ r. ⌜ ((asked : ℕ) → Printed (answerText (moveAnswer answer) asked (now (list .entry))) (now (buffer .entry)) at (now (buffer .exit)) r) ⌝ }
 {
-    let a = print_field(b"board ", looked as u64, buffer, at);
-    let b = print_list(list, asked, buffer, a);
-    print_text(b"\n", buffer, b)
+    match answer {
+        MoveAnswer::Moved { reported, dropped } => print_moved(reported, dropped, list, buffer, at),
+        MoveAnswer::Refused(number) => print_refused(number, buffer, at),
+    }
+}
+
+fn print_plan(answer: PlanAnswer, buffer: &mut [u8], at: usize) -> usize
+    requires { ⌜ at + 96 ≤ length (now buffer) ⌝ }
+    ensures { λ r. ⌜ PrintedAlone (planAnswer answer) (now (buffer .entry)) at (now (buffer .exit)) r ⌝ }
+{
+    match answer {
+        PlanAnswer::Planned {
+            cause,
+            before,
+            after,
+            rounds,
+        } => print_four(
+            b"plan ",
+            cause as u64,
+            before,
+            after,
+            rounds as u64,
+            buffer,
+            at,
+        ),
+        PlanAnswer::Refused(number) => print_refused(number, buffer, at),
+    }
 }
 
 fn print_enquiry(answer: EnquiryAnswer, buffer: &mut [u8], at: usize) -> usize
     requires { ⌜ at + 96 ≤ length (now buffer) ⌝ }
-    ensures { λ r. ⌜ Printed (answerText (enquiryAnswer answer) 0 []) (now (buffer .entry)) at (now (buffer .exit)) r ⌝ }
+    ensures { λ r. ⌜ PrintedAlone (enquiryAnswer answer) (now (buffer .entry)) at (now (buffer .exit)) r ⌝ }
 {
     if let EnquiryAnswer::Waiting { start, rate } = answer {
         return print_two(b"waiting ", start as u64, b" ", rate as u64, buffer, at);
@@ -120,6 +122,42 @@ fn print_enquiry(answer: EnquiryAnswer, buffer: &mut [u8], at: usize) -> usize
         buffer,
         at,
     )
+}
+
+// The answers of the tickets asked for stand at the front of the list that was lent to the board.
+fn print_looked(looked: usize, asked: usize, list: &[u32], buffer: &mut [u8], at: usize) -> usize
+    requires { ⌜ (asked ≤ length (now list)) × (at + (96 + 21 * asked) ≤ length (now buffer)) ⌝ }
+    ensures { λ r. ⌜ Printed (answerText (lookedAnswer looked) asked (now (list .entry))) (now (buffer .entry)) at (now (buffer .exit)) r ⌝ }
+{
+    let a = print_field(b"board ", looked as u64, buffer, at);
+    let b = print_list(list, asked, buffer, a);
+    print_text(b"\n", buffer, b)
+}
+
+fn print_board(
+    answer: BoardAnswer,
+    asked: usize,
+    list: &[u32],
+    buffer: &mut [u8],
+    at: usize,
+) -> usize
+    requires { ⌜ (listedOf (boardAnswer answer) asked ≤ length (now list)) × (at + (96 + 21 * listedOf (boardAnswer answer) asked) ≤ length (now buffer)) ⌝ }
+    ensures { λ r. ⌜ Printed (answerText (boardAnswer answer) asked (now (list .entry))) (now (buffer .entry)) at (now (buffer .exit)) r ⌝ }
+{
+    match answer {
+        BoardAnswer::Looked(looked) => print_looked(looked, asked, list, buffer, at),
+        BoardAnswer::Refused(number) => print_refused(number, buffer, at),
+    }
+}
+
+fn print_withdrawal(answer: WithdrawalAnswer, buffer: &mut [u8], at: usize) -> usize
+    requires { ⌜ at + 96 ≤ length (now buffer) ⌝ }
+    ensures { λ r. ⌜ PrintedAlone (withdrawalAnswer answer) (now (buffer .entry)) at (now (buffer .exit)) r ⌝ }
+{
+    match answer {
+        WithdrawalAnswer::Withdrawn => print_text(b"withdrawn\n", buffer, at),
+        WithdrawalAnswer::Refused(number) => print_refused(number, buffer, at),
+    }
 }
 
 pub fn print_opening(answer: OpenAnswer, buffer: &mut [u8], at: usize) -> usize
@@ -144,70 +182,12 @@ pub fn print_answer(
     ensures { λ r. ⌜ Printed (answerText (answerOf answer) asked (now (list .entry))) (now (buffer .entry)) at (now (buffer .exit)) r ⌝ }
 {
     match answer {
-        Answer::Preview(preview) => match preview {
-            PreviewAnswer::Previewed(start) => print_one(b"start ", start as u64, buffer, at),
-            PreviewAnswer::Refused(number) => print_refused(number, buffer, at),
-        },
-        Answer::Commit(commit) => match commit {
-            CommitAnswer::Committed { ticket, start } => print_two(
-                b"ticket ",
-                ticket as u64,
-                b" start ",
-                start as u64,
-                buffer,
-                at,
-            ),
-            CommitAnswer::Refused(number) => print_refused(number, buffer, at),
-        },
-        Answer::Move(moved) => match moved {
-            MoveAnswer::Moved { reported, dropped } => print_moved(
-                reported,
-                dropped,
-                list,
-                buffer,
-                at,
-            ),
-            MoveAnswer::Refused(number) => print_refused(number, buffer, at),
-        },
-        Answer::Plan(plan) => match plan {
-            PlanAnswer::Planned {
-                cause,
-                before,
-                after,
-                rounds,
-            } => print_four(
-                b"plan ",
-                cause as u64,
-                before,
-                after,
-                rounds as u64,
-                buffer,
-                at,
-            ),
-            PlanAnswer::Refused(number) => print_refused(number, buffer, at),
-        },
+        Answer::Preview(preview) => print_preview(preview, buffer, at),
+        Answer::Commit(commit) => print_commit(commit, buffer, at),
+        Answer::Move(moved) => print_move(moved, list, buffer, at),
+        Answer::Plan(plan) => print_plan(plan, buffer, at),
         Answer::Enquiry(enquiry) => print_enquiry(enquiry, buffer, at),
-        Answer::Board(board) => match board {
-            BoardAnswer::Looked(looked) => print_board(looked, asked, list, buffer, at),
-            BoardAnswer::Refused(number) => print_refused(number, buffer, at),
-        },
-        Answer::Withdrawal(withdrawal) => match withdrawal {
-            WithdrawAnswer::Withdrawn => print_text(b"withdrawn\n", buffer, at),
-            WithdrawAnswer::Refused(number) => print_refused(number, buffer, at),
-        },
-    }
-}
-
-pub fn print_error(reason: Reason, buffer: &mut [u8], at: usize) -> usize
-    requires { ⌜ at + 96 ≤ length (now buffer) ⌝ }
-    ensures { λ r. ⌜ Printed (errorText reason) (now (buffer .entry)) at (now (buffer .exit)) r ⌝ }
-{
-    match reason {
-        Reason::UnknownCall => print_text(b"error unknown call\n", buffer, at),
-        Reason::NotANumber => print_text(b"error not a number\n", buffer, at),
-        Reason::NumberTooLarge => print_text(b"error number too large\n", buffer, at),
-        Reason::MissingNumber => print_text(b"error missing number\n", buffer, at),
-        Reason::ExtraNumber => print_text(b"error extra number\n", buffer, at),
-        Reason::LineTooLong => print_text(b"error line too long\n", buffer, at),
+        Answer::Board(board) => print_board(board, asked, list, buffer, at),
+        Answer::Withdrawal(withdrawal) => print_withdrawal(withdrawal, buffer, at),
     }
 }

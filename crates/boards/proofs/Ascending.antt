@@ -6,7 +6,7 @@ use mathlib.Core.List.{List, [], _∷_}
 use native.Mathlib.Omega.{arith}
 use native.Mathlib.Numerals.{add-one}
 use lib.Dec.{leb}
-use lib.ListN.{length, getD, drop}
+use lib.ListN.{length, getD, drop, drop-of-length-le}
 use lib.Seq.{drop-cons}
 use borrow.Author.Tests.{leb-true, le-leb, lt-leb}
 use Rattle.rules.specs.Calls.{risesFrom}
@@ -19,12 +19,6 @@ pub rises-first : (xs : List ℕ) → risesFrom 0 xs ≡ risesFrom (getD xs 0 0 
 rises-first [] = refl
 rises-first (x ∷ xs) = rw (le-leb 0 x (omega arith), add-one x)
 
-drop-over : (i : ℕ) (xs : List ℕ) → length xs ≤ i → drop i xs ≡ []
-drop-over zero [] h = refl
-drop-over zero (x ∷ xs) h = absurd (omega arith)
-drop-over (suc i) [] h = refl
-drop-over (suc i) (x ∷ xs) h = drop-over i xs (omega arith)
-
 module _ (xs : List ℕ) (low i : ℕ) where
   pub rises-on : i < length xs → low ≤ getD xs i 0 → risesFrom low (drop i xs) ≡ risesFrom (getD xs i 0 + 1) (drop (i + 1) xs)
   rises-on h l = rw (drop-cons xs i 0 h, le-leb low (getD xs i 0) l, add-one i, add-one (getD xs i 0))
@@ -33,7 +27,7 @@ module _ (xs : List ℕ) (low i : ℕ) where
   rises-not h l = rw (drop-cons xs i 0 h, lt-leb low (getD xs i 0) l)
 
   pub rises-end : length xs ≤ i → risesFrom low (drop i xs) ≡ true
-  rises-end h = rw (drop-over i xs h)
+  rises-end h = rw (drop-of-length-le xs h)
 
 -- Each number is above those before it
 

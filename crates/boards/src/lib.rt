@@ -6,7 +6,7 @@ ghost use mathlib.Core.Bool.{cond, _&&_};
 ghost use Prim.Native.Nat.{_≤_};
 ghost use lib.Dec.{leb, ltb, eqb};
 ghost use lib.ListN.{getD};
-ghost use Rattle.rules.specs.Calls.{risesFrom, notHeld};
+ghost use Rattle.rules.specs.Calls.{places, risesFrom, notHeld};
 ghost use Rattle.boards.specs.Board.{CanBoard, Boarded};
 
 // "4,294,967,295 for one not held"
@@ -27,7 +27,7 @@ pub fn rises(list: &[u32]) -> bool
 
 // Whether a charge is held at the place, with a ticket that is not above this one.
 fn is_looked_at(tickets: &[u32; PLACES], held: usize, place: usize, ticket: u32) -> bool
-    requires { ⌜ held ≤ 180 ⌝ }
+    requires { ⌜ held ≤ places ⌝ }
     ensures { λ r. ⌜ r ≡ (ltb place held && leb (getD (now (tickets .entry)) place 0) ticket) ⌝ }
 {
     if place < held {

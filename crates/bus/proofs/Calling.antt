@@ -1,24 +1,30 @@
--- The ways that a C call can go: refused by the restore or by its own table, or saved.
-use mathlib.Core.Path.{_≡_, refl, sym, ap, _∙_}
-use Prim.Native.Nat.{ℕ, zero, suc, _<_}
+-- The ways that a C function can go: a call by what serving it gave, a copy, and an opening.
+use mathlib.Core.Path.{_≡_, refl, sym, ap, subst, _∙_}
+use Prim.Native.Nat.{ℕ, _<_}
 use native.Mathlib.Omega.{arith}
-use mathlib.Core.Bool.{Bool, true, false, _&&_}
+use mathlib.Core.Bool.{Bool, true, false, cond, _&&_}
 use mathlib.Core.List.{List, [], _∷_}
 use lib.Dec.{eqb}
-use borrow.Author.Tests.{ne-eqb}
-use Rattle.rules.specs.Calls.{Settings, State, Answer, refused, Result, answering, opening, Call, lent, step, written}
+use borrow.Author.Tests.{ne-eqb, eq-eqb}
+use Rattle.rules.specs.Calls.{Settings, State, Answer, refused, Result, opening, Call, replanLatest, enquire, written}
 use Rattle.layout.specs.Image.{imageOf}
-use Rattle.layout.specs.Reading.{sized, RestoreResult, restoring}
+use Rattle.layout.specs.Reading.{sized, restoring}
 use Rattle.layout.specs.Blocks.{differing}
 use Rattle.layout.specs.Saving.{SaveResult, saving}
-use Rattle.layout.proofs.Refusing.{saving-written, saving-refused, accepted}
+use Rattle.layout.proofs.Refusing.{saving-written, saving-refused}
 use Rattle.station.specs.declared.Station.{Station}
 use Rattle.station.specs.View.{view}
-use Rattle.station.specs.Answers.{giving, Gives}
+use Rattle.station.specs.Answers.{Gives}
 use Rattle.image.specs.declared.restoring.Restored.{Restored}
 use Rattle.image.specs.declared.saving.Saved.{Saved}
 use Rattle.image.specs.Answers.{Restores, Saves}
-use Rattle.bus.specs.Left.{Left, told, leaving, left, called, openedOver, copying, copiedOr, copied, Leaves, Opens, Copies, Ends, Whole}
+use Rattle.service.specs.declared.numbers.Numbers.{Numbers}
+use Rattle.service.specs.Left.{Told, told, counted, toldOver, leaving, left, Leaves, Whole}
+use Rattle.service.specs.Named.{numbersOf, toldOf, Serves}
+use Rattle.service.proofs.Telling.{told-refused, told-granted}
+use Rattle.service.proofs.Serving.{refused-left, refusal-is, state-is}
+use Rattle.bus.specs.Images.{openedOver, copying, copiedOr, copied, Opens, Copies}
+use Rattle.bus.specs.Plans.{TellsPlan}
 
 -- a save that is refused leaves the list
 saving-kept : (s : State) (list : List ℕ) → (saving s list list .refusal ≡ 0 → ⊥) → saving s list list .image ≡ list
@@ -34,98 +40,75 @@ save-refused {s} {list} w h =
     let k = ap (λ (x : SaveResult). x .refusal) (w .result) in
     ap (λ (x : SaveResult). x .image) (w .result) ∙ saving-kept s list (λ z. omega (arith, k, z))
 
--- How a call ends
+-- A call, by what serving it gave
 
-pub end-refused :
-    {a : Answer} {k number : ℕ} {s : State} {numbers behind image after : List ℕ}
-    → a ≡ refused k
-    → number ≡ k
-    → behind ≡ numbers
-    → after ≡ image
-    → Ends a s numbers image number behind after
-end-refused e n b i = record { number-is = rw e n; numbers-are = rw e b; image-is = rw e i }
+-- what is told where it was refused, and where not
+module _ (c : Call) (n : Numbers) (numbers : List ℕ) where
+  refused-behind : 0 < n .refusal → numbers ≡ written (counted (n .blocks) (toldOf c n)) numbers
+  refused-behind h = ap (λ (t : Told). written (counted (n .blocks) t) numbers) (sym (told-refused c n h))
 
--- `x` is the answer taken apart, of which the numbers can be read
-pub end-saved :
-    {a x : Answer} {s : State} {numbers behind image after : List ℕ} {number : ℕ}
-    → a ≡ x
-    → told x .isRefused ≡ false
-    → number ≡ told x .number
-    → behind ≡ written (differing image (imageOf s) ∷ told x .numbers) numbers
-    → after ≡ imageOf s
-    → Ends a s numbers image number behind after
-end-saved e f n b i = record { number-is = rw e n; numbers-are = rw (e, f) b; image-is = rw (e, f) i }
+  granted-behind : n .refusal ≡ 0 → written (n .blocks ∷ numbersOf c n) numbers ≡ written (counted (n .blocks) (toldOf c n)) numbers
+  granted-behind e = ap (λ (t : Told). written (counted (n .blocks) t) numbers) (sym (told-granted c n e))
 
-module _ {s : State} {image after : List ℕ} {r : Saved} (w : Whole image) (h : Saves s image image after r) where
-  pub saved-whole : after ≡ imageOf s
-  saved-whole = ap (λ (x : SaveResult). x .image) (h .result ∙ saving-written s image image w w)
+-- `d` is the call that was served, and has to be the one that was asked for
+module _ {image after list : List ℕ} {c d : Call} {n : Numbers} (r : Serves image d n after list) (same : d ≡ c)
+    {numbers behind afterNow listNow : List ℕ} {number : ℕ} where
+  -- whatever was told is written behind the references
+  pub call-left :
+      number ≡ n .refusal
+      → behind ≡ written (counted (n .blocks) (toldOf c n)) numbers
+      → afterNow ≡ after
+      → listNow ≡ list
+      → Leaves numbers image c number behind afterNow listNow
+  call-left k b i l =
+      record { result = rw (k, b, i, l) (subst (λ (x : Call). Serves image x n after list) same r .result numbers) }
 
-  pub saved-blocks : r .blocks ≡ differing image (imageOf s)
-  saved-blocks = ap (λ (x : SaveResult). x .blocks) (h .result ∙ saving-written s image image w w)
+  pub call-refused :
+      0 < n .refusal
+      → number ≡ n .refusal
+      → behind ≡ numbers
+      → afterNow ≡ after
+      → listNow ≡ list
+      → Leaves numbers image c number behind afterNow listNow
+  call-refused h k b i l = call-left k (b ∙ refused-behind c n numbers h) i l
 
-ends-left :
-    {r : Result} {a : Answer} {s : Station} {numbers image behind after list : List ℕ} {number : ℕ}
-    → Gives r a s list
-    → Ends a (view s) numbers image number behind after
-    → leaving number behind after list ≡ left numbers image r
-unfolding left
-ends-left g h = rw (h .number-is, h .numbers-are, h .image-is) (ap (left _ _) (g .result))
+  -- `told` are the numbers of the call
+  pub call-told :
+      {told : List ℕ}
+      → n .refusal ≡ 0
+      → numbersOf c n ≡ told
+      → number ≡ 0
+      → behind ≡ written (n .blocks ∷ told) numbers
+      → afterNow ≡ after
+      → listNow ≡ list
+      → Leaves numbers image c number behind afterNow listNow
+  call-told h t k b i l =
+      call-left (k ∙ sym h) (b ∙ ap (λ (xs : List ℕ). written (n .blocks ∷ xs) numbers) (sym t) ∙ granted-behind c n numbers h) i l
 
--- a refusal that comes before leaves everything, whatever the call would give
-refused-left :
-    (k : ℕ) (numbers image list : List ℕ) (s : State) (r : Result) → 0 < k
-    → leaving k numbers image list ≡ left numbers image (answering k s list r)
-unfolding left
-refused-left zero numbers image list s r h = absurd (omega arith)
-refused-left (suc k) numbers image list s r h = refl
+-- an enquiry, about whatever ticket, tells an end of a charging charge alone
+module _ (n : Numbers) where
+  pub charging-numbers : 0 < n .charging → numbersOf (enquire 0) n ≡ n .charging ∷ n .start ∷ n .rate ∷ n .end ∷ []
+  charging-numbers h = rw (ne-eqb (n .charging) 0 (λ z. omega (arith, h, z))) refl
 
--- A call
+  pub waiting-numbers : n .charging ≡ 0 → numbersOf (enquire 0) n ≡ n .charging ∷ n .start ∷ n .rate ∷ []
+  waiting-numbers h = rw (eq-eqb (n .charging) 0 h) refl
+
+module _ {n : Numbers} {numbers behind : List ℕ} {number : ℕ} where
+  pub plan-refused : 0 < n .refusal → number ≡ n .refusal → behind ≡ numbers → TellsPlan n numbers number behind
+  plan-refused h k b = record { number-is = k; numbers-are = b ∙ refused-behind replanLatest n numbers h }
+
+  pub plan-told :
+      n .refusal ≡ 0
+      → number ≡ 0
+      → behind ≡ written (n .blocks ∷ numbersOf replanLatest n) numbers
+      → TellsPlan n numbers number behind
+  plan-told h k b = record { number-is = k ∙ sym h; numbers-are = b ∙ granted-behind replanLatest n numbers h }
+
+-- An image tested, and saved to another list
 
 module _ {image : List ℕ} {restored : Restored} (r : Restores image restored) where
-  refusal-is : restored .answer ≡ restoring image .refusal
-  refusal-is = ap (λ (x : RestoreResult). x .refusal) (r .result)
-
-  state-is : view (restored .station) ≡ restoring image .state
-  state-is = ap (λ (x : RestoreResult). x .state) (r .result)
-
-  pub whole : restored .answer ≡ 0 → Whole image
-  whole h = accepted image (sym refusal-is ∙ h) .size
-
-  -- what is left where the restore answers k
-  abbrev restoredTo : List ℕ → Call → ℕ → Left
-  restoredTo numbers c k = left numbers image (answering k (restoring image .state) (lent c) (step (restoring image .state) c))
-
-  pub restore-refused :
-      {numbers behind after list : List ℕ} {c : Call} {number : ℕ}
-      → 0 < restored .answer
-      → number ≡ restored .answer
-      → behind ≡ numbers
-      → after ≡ image
-      → list ≡ lent c
-      → Leaves numbers image c number behind after list
-  unfolding called
-  restore-refused {numbers} {behind} {after} {list} {c} h n b i l =
-      let before : leaving (restored .answer) numbers image (lent c) ≡ restoredTo numbers c (restored .answer) =
-      refused-left (restored .answer) numbers image (lent c) (restoring image .state) (step (restoring image .state) c) h in
-      record { result = rw (n, b, i, l) (before ∙ ap (restoredTo numbers c) refusal-is) }
-
-  pub call-left :
-      {numbers behind after list : List ℕ} {c : Call} {number : ℕ} {r : Result} {a : Answer} {next : Station}
-      → restored .answer ≡ 0
-      → Gives r a next list
-      → r ≡ step (view (restored .station)) c
-      → Ends a (view next) numbers image number behind after
-      → Leaves numbers image c number behind after list
-  unfolding called
-  call-left {numbers} {behind} {after} {list} {c} h g s e =
-      record {
-        result =
-            ends-left g e
-            ∙ ap (left numbers image) (s ∙ ap (λ (x : State). step x c) state-is)
-            ∙ ap (restoredTo numbers c) (sym h ∙ refusal-is);
-      }
-
-  -- An image saved to another list
+  pub restore-told : {number : ℕ} → number ≡ restored .answer → number ≡ restoring image .refusal
+  restore-told e = e ∙ refusal-is r
 
   pub copy-refused :
       {blocks blocksAfter k : ℕ} {list after : List ℕ}
@@ -137,7 +120,7 @@ module _ {image : List ℕ} {restored : Restored} (r : Restores image restored) 
   unfolding copied
   copy-refused h n b i =
       let refused : eqb (restored .answer) 0 ≡ false = ne-eqb (restored .answer) 0 (λ z. omega arith) in
-      record { result = rw (n, b, i, ← refusal-is, refused, refused) refl }
+      record { result = rw (n, b, i, ← refusal-is r, refused, refused) refl }
 
   module _ {s : State} {list after : List ℕ} {saved : Saved} (accepted : restored .answer ≡ 0) (w : Saves s list list after saved)
       (e : s ≡ view (restored .station)) where
@@ -145,8 +128,8 @@ module _ {image : List ℕ} {restored : Restored} (r : Restores image restored) 
     is-copied : (blocks : ℕ) → copiedOr blocks list 0 (copying (saved .answer) (saved .blocks) after) ≡ copied blocks image list
     unfolding copied
     is-copied blocks =
-        ap (copiedOr blocks list 0) (w .result ∙ ap (λ (x : State). saving x list list) (e ∙ state-is))
-        ∙ ap (λ (k : ℕ). copiedOr blocks list k (saving (restoring image .state) list list)) (sym accepted ∙ refusal-is)
+        ap (copiedOr blocks list 0) (w .result ∙ ap (λ (x : State). saving x list list) (e ∙ state-is r))
+        ∙ ap (λ (k : ℕ). copiedOr blocks list k (saving (restoring image .state) list list)) (sym accepted ∙ refusal-is r)
 
     pub copy-unsized :
         {blocks blocksAfter k : ℕ} {listAfter : List ℕ}
@@ -169,6 +152,40 @@ module _ {image : List ℕ} {restored : Restored} (r : Restores image restored) 
     copy-saved {blocks} h n b i = record { result = rw (n, b, i) (sym (rw h refl) ∙ is-copied blocks) }
 
 -- An opening
+
+-- how it ends with an answer: its number, the numbers behind the references and the image
+pub record Ends (a : Answer) (s : State) (numbers image : List ℕ) (number : ℕ) (behind after : List ℕ) : Type 0 where
+  pub number-is : number ≡ told a .number
+  pub numbers-are : behind ≡ written (toldOver image a s) numbers
+  pub image-is : after ≡ cond (told a .isRefused) image (imageOf s)
+
+pub end-refused :
+    {a : Answer} {k number : ℕ} {s : State} {numbers behind image after : List ℕ}
+    → a ≡ refused k
+    → number ≡ k
+    → behind ≡ numbers
+    → after ≡ image
+    → Ends a s numbers image number behind after
+end-refused e n b i = record { number-is = rw e n; numbers-are = rw e b; image-is = rw e i }
+
+-- `x` is the answer taken apart, of which the numbers can be read
+pub end-saved :
+    {a x : Answer} {s : State} {numbers behind image after : List ℕ} {number : ℕ}
+    → a ≡ x
+    → told x .isRefused ≡ false
+    → number ≡ told x .number
+    → behind ≡ written (differing image (imageOf s) ∷ told x .numbers) numbers
+    → after ≡ imageOf s
+    → Ends a s numbers image number behind after
+end-saved e f n b i = record { number-is = rw e n; numbers-are = rw (e, f) b; image-is = rw (e, f) i }
+
+ends-left :
+    {r : Result} {a : Answer} {s : Station} {numbers image behind after list : List ℕ} {number : ℕ}
+    → Gives r a s list
+    → Ends a (view s) numbers image number behind after
+    → leaving number behind after list ≡ left numbers image r
+unfolding left
+ends-left g h = rw (h .number-is, h .numbers-are, h .image-is) (ap (left _ _) (g .result))
 
 pub open-unsized :
     {numbers behind image after : List ℕ} {x : Settings} {number : ℕ}

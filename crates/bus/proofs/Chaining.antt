@@ -1,4 +1,4 @@
--- C calls one after another: what they return, tell and report is what the list of station calls answers, and the image that they
+-- C calls and openings one after another: what they return, tell and report is what the rules answer, and the image that they
 -- leave is that of its station.
 use mathlib.Core.Path.{_≡_, refl, sym, ap, _∙_}
 use Prim.Native.Nat.{ℕ, zero, suc}
@@ -13,11 +13,13 @@ use Rattle.rules.proofs.Validity.{opening-valid, step-valid}
 use Rattle.layout.specs.Image.{imageOf}
 use Rattle.layout.specs.Reading.{RestoreResult}
 use Rattle.layout.specs.Blocks.{differing}
+use Rattle.layout.proofs.Imaging.{image-length}
 use Rattle.layout.proofs.Refusing.{saving-written}
 use Rattle.layout.proofs.RoundTrip.{restored-saved}
 use Rattle.layout.proofs.Comparing.{none-differs}
-use Rattle.bus.specs.Left.{told, counted, toldOver, leaving, Left, left, called, openedOver, Whole}
-use Rattle.bus.specs.Chains.{Made, chained, leftOf, leftOfEach}
+use Rattle.service.specs.Left.{told, counted, toldOver, leaving, Left, left, called, Whole}
+use Rattle.bus.specs.Images.{openedOver}
+use Rattle.bus.specs.Chains.{Made, calls, opens, leftBy, chained, openingOver, resultOf, resultsOf, behind, leftOf, leftOfEach}
 
 -- A refusal keeps the station
 
@@ -56,45 +58,73 @@ granted-stays s (withdraw ticket) = λ e. absurd (true≢false (sym e))
 refused-stays : (s : State) (c : Call) → Stays s (step s c)
 refused-stays s c = answering-stays (firstOf (refusals s c)) s (lent c) (granted s c) (granted-stays s c)
 
--- One call on a saved image, and many
+-- One call or opening on a saved image, and many
 
-left-of : (s : State) (m : Made) (r : Result) → Stays s r → left (m .numbers) (imageOf s) r ≡ leftOf s m r
+left-of : (s : State) (numbers : List ℕ) (r : Result) → Stays s r → left numbers (imageOf s) r ≡ leftOf s numbers r
 unfolding left
-left-of s m r h = go (told (r .answer) .isRefused) refl
+left-of s numbers r h = go (told (r .answer) .isRefused) refl
   where
-    go : (b : Bool) → told (r .answer) .isRefused ≡ b → left (m .numbers) (imageOf s) r ≡ leftOf s m r
+    go : (b : Bool) → told (r .answer) .isRefused ≡ b → left numbers (imageOf s) r ≡ leftOf s numbers r
     go true e = rw (e, h e)
     go false e = rw e
 
-pub called-saved : (s : State) (m : Made) → ValidState s → called (m .numbers) (imageOf s) (m .call) ≡ leftOf s m (step s (m .call))
+pub called-saved : (s : State) (numbers : List ℕ) (c : Call) → ValidState s → called numbers (imageOf s) c ≡ leftOf s numbers (step s c)
 unfolding called
-called-saved s m v =
+called-saved s numbers c v =
     ap
-    (λ (x : RestoreResult). left (m .numbers) (imageOf s) (answering (x .refusal) (x .state) (lent (m .call)) (step (x .state) (m .call))))
+    (λ (x : RestoreResult). left numbers (imageOf s) (answering (x .refusal) (x .state) (lent c) (step (x .state) c)))
     (restored-saved s v)
-    ∙ left-of s m (step s (m .call)) (refused-stays s (m .call))
+    ∙ left-of s numbers (step s c) (refused-stays s c)
 
-pub chained-saved :
-    (s : State) (ms : List Made) → ValidState s
-    → chained (imageOf s) ms ≡ leftOfEach s ms (run s (map (λ (m : Made). m .call) ms))
+-- an opening over an image of the right size, whatever it holds
+opened-left : (numbers image : List ℕ) (x : Settings) → Whole image → openedOver numbers image x ≡ left numbers image (opening x)
+unfolding openedOver
+opened-left numbers image x h = rw (saving-written (opening x .state) image image h h) refl
+
+opened-saved : (s : State) (numbers : List ℕ) (x : Settings) → ValidState s → openedOver numbers (imageOf s) x ≡ leftOf s numbers (openingOver s x)
+unfolding left
+opened-saved s numbers x v = opened-left numbers (imageOf s) x (image-length s) ∙ go (told (opening x .answer) .isRefused) refl
+  where
+    go : (b : Bool) → told (opening x .answer) .isRefused ≡ b → left numbers (imageOf s) (opening x) ≡ leftOf s numbers (openingOver s x)
+    go true e = rw (e, e)
+    go false e = rw (e, e)
+
+left-by : (s : State) (m : Made) → ValidState s → leftBy (imageOf s) m ≡ leftOf s (behind m) (resultOf s m)
+left-by s (calls numbers c) v = called-saved s numbers c v
+left-by s (opens numbers x) v = opened-saved s numbers x v
+
+result-valid : (s : State) (m : Made) → ValidState s → ValidState (resultOf s m .state)
+result-valid s (calls numbers c) v = step-valid s c v
+result-valid s (opens numbers x) v = go (told (opening x .answer) .isRefused)
+  where
+    go : (b : Bool) → ValidState (cond b (record { answer = opening x .answer; state = s; list = opening x .list }) (opening x) .state)
+    go true = v
+    go false = opening-valid x
+
+pub chained-saved : (s : State) (ms : List Made) → ValidState s → chained (imageOf s) ms ≡ leftOfEach s ms (resultsOf s ms)
 chained-saved s [] v = refl
 chained-saved s (m ∷ ms) v =
-    let next : State = step s (m .call) .state in
-    ap (λ (l : Left). l ∷ chained (l .image) ms) (called-saved s m v)
-    ∙ ap (λ (ls : List Left). leftOf s m (step s (m .call)) ∷ ls) (chained-saved next ms (step-valid s (m .call) v))
+    let next : State = resultOf s m .state in
+    ap (λ (l : Left). l ∷ chained (l .image) ms) (left-by s m v)
+    ∙ ap (λ (ls : List Left). leftOf s (behind m) (resultOf s m) ∷ ls) (chained-saved next ms (result-valid s m v))
+
+-- without an opening among them, the results are those of the list of calls
+pub results-run : (s : State) (cs : List (List ℕ × Call)) → resultsOf s (map (λ (x : List ℕ × Call). calls (x .0) (x .1)) cs) ≡ run s (map (λ (x : List ℕ × Call). x .1) cs)
+results-run s [] = refl
+results-run s (x ∷ cs) = ap (λ (rs : List Result). step s (x .1) ∷ rs) (results-run (step s (x .1) .state) cs)
 
 -- From an opening
 
 pub opened-image :
     (numbers image : List ℕ) (x : Settings) → Whole image → told (opening x .answer) .isRefused ≡ false
     → openedOver numbers image x .image ≡ imageOf (opening x .state)
-unfolding openedOver left
-opened-image numbers image x h e = rw (saving-written (opening x .state) image image h h) (rw e)
+unfolding left
+opened-image numbers image x h e = ap (λ (l : Left). l .image) (opened-left numbers image x h) ∙ rw e
 
--- any list of C calls on the image of an opening, whatever the image was before
+-- any list of C calls and further openings on the image of an opening, whatever the image was before
 pub chained-opened :
     (numbers image : List ℕ) (x : Settings) (ms : List Made) → Whole image → told (opening x .answer) .isRefused ≡ false
-    → chained (openedOver numbers image x .image) ms ≡ leftOfEach (opening x .state) ms (run (opening x .state) (map (λ (m : Made). m .call) ms))
+    → chained (openedOver numbers image x .image) ms ≡ leftOfEach (opening x .state) ms (resultsOf (opening x .state) ms)
 chained-opened numbers image x ms h e =
     ap (λ (after : List ℕ). chained after ms) (opened-image numbers image x h e)
     ∙ chained-saved (opening x .state) ms (opening-valid x)

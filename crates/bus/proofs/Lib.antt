@@ -1,2 +1,3 @@
 pub mod Calling
 pub mod Chaining
+pub mod Returning

@@ -1,2 +1,3 @@
-pub mod Left
+pub mod Images
+pub mod Plans
 pub mod Chains

@@ -1,10 +1,9 @@
 // The board: the starts of the tickets asked for, written to a lent list.
 ghost use mathlib.Core.List.{[], _∷_};
 ghost use Rattle.rules.specs.Calls.{board as boardCall};
-ghost use Rattle.bus.specs.Left.{Leaves};
-use image::restoring::restore;
-use image::saving::save_back;
-use station::board::BoardAnswer;
+ghost use Rattle.service.specs.Left.{Leaves};
+use calls::Call;
+use service::serve;
 
 #[no_mangle]
 pub extern "C" fn togbeyis_board(
@@ -16,22 +15,11 @@ pub extern "C" fn togbeyis_board(
 ) -> u32
     ensures { λ r. ⌜ Leaves (now (blocks .entry) ∷ now (looked .entry) ∷ []) (now (image .entry)) (boardCall (now (asked .entry)) (now (answers .entry))) r (now (blocks .exit) ∷ now (looked .exit) ∷ []) (now (image .exit)) (now (answers .exit)) ⌝ }
 {
-    let restored = restore(image);
-    let refusal = restored.answer;
-    if 0 < refusal {
-        return refusal;
+    let told = serve(image, Call::Board, asked, answers);
+    if 0 < told.refusal {
+        return told.refusal;
     }
-    let station = restored.station;
-    let done = station.board(asked, answers);
-    let answer = done.answer;
-    match answer {
-        BoardAnswer::Looked(count) => {
-            let same = done.station;
-            let saved = save_back(same, image);
-            *blocks = saved.blocks;
-            *looked = count;
-            0
-        }
-        BoardAnswer::Refused(number) => number,
-    }
+    *blocks = told.blocks;
+    *looked = told.looked;
+    0
 }

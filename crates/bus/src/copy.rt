@@ -1,7 +1,7 @@
 // An image by itself: tested, and saved to another list.
 ghost use mathlib.Core.Path.{_≡_};
 ghost use Rattle.layout.specs.Reading.{restoring};
-ghost use Rattle.bus.specs.Left.{Copies};
+ghost use Rattle.bus.specs.Images.{Copies};
 use image::restoring::restore;
 use image::saving::save_back;
 

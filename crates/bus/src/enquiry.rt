@@ -1,10 +1,9 @@
 // An enquiry. Of a waiting charge no end is told, so that `end` stays.
 ghost use mathlib.Core.List.{[], _∷_};
 ghost use Rattle.rules.specs.Calls.{enquire as enquireCall};
-ghost use Rattle.bus.specs.Left.{Leaves};
-use image::restoring::restore;
-use image::saving::save_back;
-use station::enquiry::EnquiryAnswer;
+ghost use Rattle.service.specs.Left.{Leaves};
+use calls::Call;
+use service::serve_alone;
 
 #[no_mangle]
 pub extern "C" fn togbeyis_enquire(
@@ -18,40 +17,17 @@ pub extern "C" fn togbeyis_enquire(
 ) -> u32
     ensures { λ r. ⌜ Leaves (now (blocks .entry) ∷ now (charging .entry) ∷ now (start .entry) ∷ now (rate .entry) ∷ now (end .entry) ∷ []) (now (image .entry)) (enquireCall ticket) r (now (blocks .exit) ∷ now (charging .exit) ∷ now (start .exit) ∷ now (rate .exit) ∷ now (end .exit) ∷ []) (now (image .exit)) [] ⌝ }
 {
-    let restored = restore(image);
-    let refusal = restored.answer;
-    if 0 < refusal {
-        return refusal;
+    let call = Call::Enquire { ticket };
+    let told = serve_alone(image, call);
+    if 0 < told.refusal {
+        return told.refusal;
     }
-    let station = restored.station;
-    let done = station.enquire(ticket);
-    let answer = done.answer;
-    let next = done.station;
-    match answer {
-        EnquiryAnswer::Waiting {
-            start: found,
-            rate: drawn,
-        } => {
-            let saved = save_back(next, image);
-            *blocks = saved.blocks;
-            *charging = 0;
-            *start = found;
-            *rate = drawn;
-            0
-        }
-        EnquiryAnswer::Charging {
-            start: found,
-            end: ended,
-            rate: drawn,
-        } => {
-            let saved = save_back(next, image);
-            *blocks = saved.blocks;
-            *charging = 1;
-            *start = found;
-            *rate = drawn;
-            *end = ended;
-            0
-        }
-        EnquiryAnswer::Refused => 15,
+    *blocks = told.blocks;
+    *charging = told.charging;
+    *start = told.start;
+    *rate = told.rate;
+    if 0 < told.charging {
+        *end = told.end;
     }
+    0
 }

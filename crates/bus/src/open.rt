@@ -1,7 +1,7 @@
 // An opening, which reads no image: whatever the list holds, it becomes the image of the fresh station.
 ghost use mathlib.Core.List.{[], _∷_};
 ghost use Rattle.rules.specs.Calls.{settings};
-ghost use Rattle.bus.specs.Left.{Opens};
+ghost use Rattle.bus.specs.Images.{Opens};
 use image::saving::save_back;
 use station::Station;
 use station::open::OpenAnswer;

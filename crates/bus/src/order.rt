@@ -1,11 +1,9 @@
 // An order, previewed and committed.
 ghost use mathlib.Core.List.{[], _∷_};
 ghost use Rattle.rules.specs.Calls.{preview as previewCall, commit as commitCall};
-ghost use Rattle.bus.specs.Left.{Leaves};
-use image::restoring::restore;
-use image::saving::save_back;
-use station::order::CommitAnswer;
-use station::order::PreviewAnswer;
+ghost use Rattle.service.specs.Left.{Leaves};
+use calls::Call;
+use service::serve_alone;
 
 #[no_mangle]
 pub extern "C" fn togbeyis_preview(
@@ -19,24 +17,19 @@ pub extern "C" fn togbeyis_preview(
 ) -> u32
     ensures { λ r. ⌜ Leaves (now (blocks .entry) ∷ now (start .entry) ∷ []) (now (image .entry)) (previewCall line time due rate) r (now (blocks .exit) ∷ now (start .exit) ∷ []) (now (image .exit)) [] ⌝ }
 {
-    let restored = restore(image);
-    let refusal = restored.answer;
-    if 0 < refusal {
-        return refusal;
+    let call = Call::Preview {
+        line,
+        time,
+        due,
+        rate,
+    };
+    let told = serve_alone(image, call);
+    if 0 < told.refusal {
+        return told.refusal;
     }
-    let station = restored.station;
-    let done = station.preview(line, time, due, rate);
-    let answer = done.answer;
-    match answer {
-        PreviewAnswer::Previewed(shown) => {
-            let same = done.station;
-            let saved = save_back(same, image);
-            *blocks = saved.blocks;
-            *start = shown;
-            0
-        }
-        PreviewAnswer::Refused(number) => number,
-    }
+    *blocks = told.blocks;
+    *start = told.start;
+    0
 }
 
 #[no_mangle]
@@ -53,26 +46,19 @@ pub extern "C" fn togbeyis_commit(
 ) -> u32
     ensures { λ r. ⌜ Leaves (now (blocks .entry) ∷ now (ticket .entry) ∷ now (start .entry) ∷ []) (now (image .entry)) (commitCall line time due rate shown) r (now (blocks .exit) ∷ now (ticket .exit) ∷ now (start .exit) ∷ []) (now (image .exit)) [] ⌝ }
 {
-    let restored = restore(image);
-    let refusal = restored.answer;
-    if 0 < refusal {
-        return refusal;
+    let call = Call::Commit {
+        line,
+        time,
+        due,
+        rate,
+        shown,
+    };
+    let told = serve_alone(image, call);
+    if 0 < told.refusal {
+        return told.refusal;
     }
-    let station = restored.station;
-    let done = station.commit(line, time, due, rate, shown);
-    let answer = done.answer;
-    match answer {
-        CommitAnswer::Committed {
-            ticket: given,
-            start: taken,
-        } => {
-            let next = done.station;
-            let saved = save_back(next, image);
-            *blocks = saved.blocks;
-            *ticket = given;
-            *start = taken;
-            0
-        }
-        CommitAnswer::Refused(number) => number,
-    }
+    *blocks = told.blocks;
+    *ticket = told.ticket;
+    *start = told.start;
+    0
 }

@@ -1,46 +1,33 @@
 // Offers and both replans, which end in the same way.
 ghost use mathlib.Core.List.{[], _∷_};
 ghost use Rattle.rules.specs.Calls.{offer as offerCall, replanLatest, replanLines};
-ghost use Rattle.station.specs.View.{view, Valid};
-ghost use Rattle.station.specs.Answers.{planAnswer};
-ghost use Rattle.bus.specs.Left.{Leaves, Ends, Whole};
-use image::restoring::restore;
-use image::saving::save_back;
-use station::plan::PlanAnswer;
-use station::plan::Planning;
+ghost use Rattle.service.specs.Left.{Leaves};
+ghost use Rattle.bus.specs.Plans.{TellsPlan};
+use calls::Call;
+use service::numbers::Numbers;
+use service::serve;
+use service::serve_alone;
 
-// Saves and tells what was planned, or leaves everything where it was refused.
-fn end_plan(
-    done: Planning,
-    image: &mut [u8],
+// Tells what was planned, or leaves everything where it was refused.
+fn tell_plan(
+    told: Numbers,
     cause: &mut u32,
     before: &mut u64,
     after: &mut u64,
     rounds: &mut u32,
     blocks: &mut u32,
 ) -> u32
-    requires { ⌜ Valid (done .station) × Whole (now image) ⌝ }
-    ensures { λ r. ⌜ Ends (planAnswer (done .answer)) (view (done .station)) (now (blocks .entry) ∷ now (cause .entry) ∷ now (before .entry) ∷ now (after .entry) ∷ now (rounds .entry) ∷ []) (now (image .entry)) r (now (blocks .exit) ∷ now (cause .exit) ∷ now (before .exit) ∷ now (after .exit) ∷ now (rounds .exit) ∷ []) (now (image .exit)) ⌝ }
+    ensures { λ r. ⌜ TellsPlan told (now (blocks .entry) ∷ now (cause .entry) ∷ now (before .entry) ∷ now (after .entry) ∷ now (rounds .entry) ∷ []) r (now (blocks .exit) ∷ now (cause .exit) ∷ now (before .exit) ∷ now (after .exit) ∷ now (rounds .exit) ∷ []) ⌝ }
 {
-    let answer = done.answer;
-    match answer {
-        PlanAnswer::Planned {
-            cause: found,
-            before: held,
-            after: then,
-            rounds: made,
-        } => {
-            let next = done.station;
-            let saved = save_back(next, image);
-            *blocks = saved.blocks;
-            *cause = found;
-            *before = held;
-            *after = then;
-            *rounds = made;
-            0
-        }
-        PlanAnswer::Refused(number) => number,
+    if 0 < told.refusal {
+        return told.refusal;
     }
+    *blocks = told.blocks;
+    *cause = told.cause;
+    *before = told.before;
+    *after = told.after;
+    *rounds = told.rounds;
+    0
 }
 
 #[no_mangle]
@@ -55,14 +42,8 @@ pub extern "C" fn togbeyis_offer(
 ) -> u32
     ensures { λ r. ⌜ Leaves (now (blocks .entry) ∷ now (cause .entry) ∷ now (before .entry) ∷ now (after .entry) ∷ now (rounds .entry) ∷ []) (now (image .entry)) (offerCall (now (starts .entry))) r (now (blocks .exit) ∷ now (cause .exit) ∷ now (before .exit) ∷ now (after .exit) ∷ now (rounds .exit) ∷ []) (now (image .exit)) (now (starts .entry)) ⌝ }
 {
-    let restored = restore(image);
-    let refusal = restored.answer;
-    if 0 < refusal {
-        return refusal;
-    }
-    let station = restored.station;
-    let offered = station.offer(starts);
-    end_plan(offered, image, cause, before, after, rounds, blocks)
+    let offered = serve(image, Call::Offer, starts, &mut []);
+    tell_plan(offered, cause, before, after, rounds, blocks)
 }
 
 #[no_mangle]
@@ -76,14 +57,8 @@ pub extern "C" fn togbeyis_latest(
 ) -> u32
     ensures { λ r. ⌜ Leaves (now (blocks .entry) ∷ now (cause .entry) ∷ now (before .entry) ∷ now (after .entry) ∷ now (rounds .entry) ∷ []) (now (image .entry)) replanLatest r (now (blocks .exit) ∷ now (cause .exit) ∷ now (before .exit) ∷ now (after .exit) ∷ now (rounds .exit) ∷ []) (now (image .exit)) [] ⌝ }
 {
-    let restored = restore(image);
-    let refusal = restored.answer;
-    if 0 < refusal {
-        return refusal;
-    }
-    let station = restored.station;
-    let latest = station.replan_latest();
-    end_plan(latest, image, cause, before, after, rounds, blocks)
+    let latest = serve_alone(image, Call::ReplanLatest);
+    tell_plan(latest, cause, before, after, rounds, blocks)
 }
 
 #[no_mangle]
@@ -98,12 +73,7 @@ pub extern "C" fn togbeyis_lines(
 ) -> u32
     ensures { λ r. ⌜ Leaves (now (blocks .entry) ∷ now (cause .entry) ∷ now (before .entry) ∷ now (after .entry) ∷ now (rounds .entry) ∷ []) (now (image .entry)) (replanLines allowance) r (now (blocks .exit) ∷ now (cause .exit) ∷ now (before .exit) ∷ now (after .exit) ∷ now (rounds .exit) ∷ []) (now (image .exit)) [] ⌝ }
 {
-    let restored = restore(image);
-    let refusal = restored.answer;
-    if 0 < refusal {
-        return refusal;
-    }
-    let station = restored.station;
-    let lines = station.replan_lines(allowance);
-    end_plan(lines, image, cause, before, after, rounds, blocks)
+    let call = Call::ReplanLines { allowance };
+    let lines = serve_alone(image, call);
+    tell_plan(lines, cause, before, after, rounds, blocks)
 }

@@ -9,7 +9,7 @@ use Rattle.calls.specs.declared.Call.{Call}
 use Rattle.calls.specs.declared.Call.the-variants.{Preview, Commit, Move, Offer, ReplanLatest, ReplanLines, Enquire, Board, Withdraw}
 use Rattle.calls.specs.declared.Answer.{Answer}
 use Rattle.calls.specs.declared.Answer.the-variants.{Preview as PreviewOf, Commit as CommitOf, Move as MoveOf, Plan as PlanOf, Enquiry as EnquiryOf, Board as BoardOf, Withdrawal as WithdrawalOf}
-use Rattle.station.specs.Answers.{Gives, previewAnswer, commitAnswer, moveAnswer, planAnswer, enquiryAnswer, boardAnswer, withdrawAnswer}
+use Rattle.station.specs.Answers.{Gives, previewAnswer, commitAnswer, moveAnswer, planAnswer, enquiryAnswer, boardAnswer, withdrawalAnswer}
 
 -- the call of the rules, with the lists that are lent to it
 abbrev pub callOf : Call → List ℕ → List ℕ → rules.Call
@@ -65,7 +65,7 @@ answerOf (MoveOf a) = moveAnswer a
 answerOf (PlanOf a) = planAnswer a
 answerOf (EnquiryOf a) = enquiryAnswer a
 answerOf (BoardOf a) = boardAnswer a
-answerOf (WithdrawalOf a) = withdrawAnswer a
+answerOf (WithdrawalOf a) = withdrawalAnswer a
 
 -- exactly what one step of the rules gives
 pub record Applies (s : State) (call : Call) (numbers before after : List ℕ) (answer : Answer) (next : Station) : Type 0 where

@@ -6,7 +6,7 @@ use station::enquiry::EnquiryAnswer;
 use station::order::CommitAnswer;
 use station::order::PreviewAnswer;
 use station::plan::PlanAnswer;
-use station::withdraw::WithdrawAnswer;
+use station::withdraw::WithdrawalAnswer;
 ghost use Rattle.station.specs.View.{view, Valid};
 ghost use Rattle.calls.specs.Applied.{Applies};
 
@@ -48,7 +48,7 @@ pub enum Answer {
     Plan(PlanAnswer),
     Enquiry(EnquiryAnswer),
     Board(BoardAnswer),
-    Withdrawal(WithdrawAnswer),
+    Withdrawal(WithdrawalAnswer),
 }
 
 pub struct Applied {

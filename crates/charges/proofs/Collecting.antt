@@ -9,6 +9,7 @@ use lib.Dec.{ltb, leb}
 use lib.ListN.{length, getD, set, length-set}
 use lib.Seq.{getD-set-same, getD-set-other}
 use borrow.Author.Tests.{lt-ltb, le-ltb, le-leb, lt-leb}
+use Rattle.rules.specs.Calls.{places}
 use Rattle.rules.specs.Basics.{Each, tabulate, keep}
 use Rattle.rules.proofs.Ranges.{below-or-not}
 use Rattle.rules.proofs.Lists.{tabulate-same, tabulate-next, length-tabulate, length-keep, map-tabulate, each-map, keep-each, each-tabulate}
@@ -16,22 +17,22 @@ use Rattle.charges.specs.declared.Charges.{Charges}
 use Rattle.charges.specs.declared.places.Places.{Places}
 use Rattle.charges.specs.declared.places.Which.{Which}
 use Rattle.charges.specs.Arrays.{chargeAt, chargesOf}
-use Rattle.charges.specs.Places.{placeAt, places, Inside, Lists, isMeant, isMeantAt, meantPlaces}
+use Rattle.charges.specs.Places.{placeAt, placesFrom, Inside, Lists, isMeant, isMeantAt, meantPlaces}
 use Rattle.charges.proofs.Walking.{keep-hit, keep-miss}
 use Rattle.charges.proofs.Members.{each-place, map-keep}
 
-pub inside-at : {p : Places} → Inside p → (j : ℕ) → j < p .count → placeAt p j < 180
-inside-at {p} v j h = each-place (λ i. i < 180) (placeAt p) (p .count) (v .below) j h
+pub inside-at : {p : Places} → Inside p → (j : ℕ) → j < p .count → placeAt p j < places
+inside-at {p} v j h = each-place (λ i. i < places) (placeAt p) (p .count) (v .below) j h
 
 -- those of the first i places of a list that pass a test
-module _ (f : ℕ → Bool) (g : ℕ → ℕ) (i count : ℕ) (is : List ℕ) (h : Lists (keep f (tabulate g i 0)) (places count is)) where
+module _ (f : ℕ → Bool) (g : ℕ → ℕ) (i count : ℕ) (is : List ℕ) (h : Lists (keep f (tabulate g i 0)) (placesFrom count is)) where
   pub lists-hit :
       {count′ : ℕ} {is′ : List ℕ}
       → f (g i) ≡ true
-      → count < 180
+      → count < places
       → is′ ≡ set is count (g i)
       → count′ ≡ count + 1
-      → Lists (keep f (tabulate g (i + 1) 0)) (places count′ is′)
+      → Lists (keep f (tabulate g (i + 1) 0)) (placesFrom count′ is′)
   lists-hit e room p q =
       rw (p, q)
       (record {
@@ -48,7 +49,7 @@ module _ (f : ℕ → Bool) (g : ℕ → ℕ) (i count : ℕ) (is : List ℕ) (h
       })
 
   pub lists-miss :
-      {count′ : ℕ} {is′ : List ℕ} → f (g i) ≡ false → is′ ≡ is → count′ ≡ count → Lists (keep f (tabulate g (i + 1) 0)) (places count′ is′)
+      {count′ : ℕ} {is′ : List ℕ} → f (g i) ≡ false → is′ ≡ is → count′ ≡ count → Lists (keep f (tabulate g (i + 1) 0)) (placesFrom count′ is′)
   lists-miss e p q = rw (p, q, keep-miss f g i e) h
 
 -- A charge that is meant: tests as the code makes them
@@ -85,9 +86,9 @@ module _ (which : Which) (c : Charges) where
       map-keep (chargeAt c) (isMeant which) (tabulate (λ i. i) (c .held) 0)
       ∙ ap (keep (isMeant which)) (map-tabulate (chargeAt c) (λ i. i) (c .held) 0)
 
-  pub meant-inside : {p : Places} → c .held ≤ 180 → Lists (meantPlaces which c) p → Inside p
+  pub meant-inside : {p : Places} → c .held ≤ places → Lists (meantPlaces which c) p → Inside p
   meant-inside le h =
       record {
         few = h .few;
-        below = rw (h .listed) (each-map (λ i. i < c .held) (λ i. i < 180) (λ i l. omega arith) (meantPlaces which c) meant-below);
+        below = rw (h .listed) (each-map (λ i. i < c .held) (λ i. i < places) (λ i l. omega arith) (meantPlaces which c) meant-below);
       }

@@ -5,6 +5,7 @@ use mathlib.Core.List.{List, map}
 use native.Mathlib.Omega.{arith}
 use lib.ListN.{length, getD, set, replicate, length-append, length-replicate, List·getD-append}
 use lib.Seq.{set-at, append-snoc, getD-append-add}
+use Rattle.rules.specs.Calls.{places}
 use Rattle.rules.specs.Basics.{tabulate, keep}
 use Rattle.rules.proofs.Lists.{length-tabulate, tabulate-next, tabulate-same, map-tabulate, getD-tabulate}
 use Rattle.charges.specs.declared.Charges.{Charges}
@@ -21,30 +22,30 @@ module _ (column is : List ℕ) where
   abbrev value : ℕ → ℕ
   value k = getD column (getD is k 0) 0
 
-  pub gathered-next : (k : ℕ) → k < 180 → set (gatheredOf column is k) k (value k) ≡ gatheredOf column is (k + 1)
+  pub gathered-next : (k : ℕ) → k < places → set (gatheredOf column is k) k (value k) ≡ gatheredOf column is (k + 1)
   gathered-next k h =
-      let e : 180 - k ≡ suc (180 - (k + 1)) = omega arith in
-      rw (e, set-at (tabulate value k 0) 0 (replicate (180 - (k + 1)) 0) (value k) k (length-tabulate value k 0), tabulate-next value k)
-      (sym (append-snoc (tabulate value k 0) (value k) (replicate (180 - (k + 1)) 0)))
+      let e : places - k ≡ suc (places - (k + 1)) = omega arith in
+      rw (e, set-at (tabulate value k 0) 0 (replicate (places - (k + 1)) 0) (value k) k (length-tabulate value k 0), tabulate-next value k)
+      (sym (append-snoc (tabulate value k 0) (value k) (replicate (places - (k + 1)) 0)))
 
   gathered-at : (n k : ℕ) → k < n → getD (gatheredOf column is n) k 0 ≡ value k
   gathered-at n k h =
       let from : 0 + k ≡ k = omega arith in
-      List·getD-append (tabulate value n 0) (replicate (180 - n) 0) 0 k (omega (arith, length-tabulate value n 0))
+      List·getD-append (tabulate value n 0) (replicate (places - n) 0) 0 k (omega (arith, length-tabulate value n 0))
       ∙ getD-tabulate value n 0 k 0 h
       ∙ ap value from
 
-  gathered-filled : (n : ℕ) → n ≤ 180 → Filled n (gatheredOf column is n)
+  gathered-filled : (n : ℕ) → n ≤ places → Filled n (gatheredOf column is n)
   gathered-filled n h =
       record {
         full =
-            length-append (tabulate value n 0) (replicate (180 - n) 0)
-            ∙ omega (arith, length-tabulate value n 0, length-replicate {A = ℕ} (180 - n) 0);
+            length-append (tabulate value n 0) (replicate (places - n) 0)
+            ∙ omega (arith, length-tabulate value n 0, length-replicate {A = ℕ} (places - n) 0);
         clear = λ i l.
             let e : i ≡ length (tabulate value n 0) + (i - n) = omega (arith, length-tabulate value n 0) in
             ap (λ (j : ℕ). getD (gatheredOf column is n) j 0) e
-            ∙ getD-append-add (tabulate value n 0) (replicate (180 - n) 0) (i - n) 0
-            ∙ zeros (180 - n) (i - n);
+            ∙ getD-append-add (tabulate value n 0) (replicate (places - n) 0) (i - n) 0
+            ∙ zeros (places - n) (i - n);
       }
 
 -- All of them

@@ -5,6 +5,7 @@ use mathlib.Core.List.{List, [], _∷_, _++_}
 use native.Mathlib.Omega.{arith}
 use lib.ListN.{length, getD, set, replicate, length-set}
 use lib.Seq.{getD-set-same, getD-set-other}
+use Rattle.rules.specs.Calls.{places}
 use Rattle.rules.specs.Charge.{Charge}
 use Rattle.rules.proofs.Lists.{length-tabulate, tabulate-same, tabulate-next}
 use Rattle.charges.specs.declared.Charges.{Charges}
@@ -44,17 +45,17 @@ abbrev pub empty : Charges
 empty =
     record {
       held = 0;
-      tickets = replicate 180 0;
-      lines = replicate 180 0;
-      «order_minutes» = replicate 180 0;
-      times = replicate 180 0;
-      «active_times» = replicate 180 0;
-      dues = replicate 180 0;
-      starts = replicate 180 0;
-      rates = replicate 180 0;
+      tickets = replicate places 0;
+      lines = replicate places 0;
+      «order_minutes» = replicate places 0;
+      times = replicate places 0;
+      «active_times» = replicate places 0;
+      dues = replicate places 0;
+      starts = replicate places 0;
+      rates = replicate places 0;
     }
 
-column-empty : (k : Column) → columnOf empty k ≡ replicate 180 0
+column-empty : (k : Column) → columnOf empty k ≡ replicate places 0
 column-empty tickets = refl
 column-empty lines = refl
 column-empty orderMinutes = refl
@@ -65,8 +66,8 @@ column-empty starts = refl
 column-empty rates = refl
 
 -- no place is used
-pub filled-none : Filled 0 (replicate 180 0)
-filled-none = record { full = refl; clear = λ i h. zeros 180 i }
+pub filled-none : Filled 0 (replicate places 0)
+filled-none = record { full = refl; clear = λ i h. zeros places i }
 
 pub holds-none : Holds [] empty
 holds-none = record { charges = refl; columns = record { few = omega arith; filled = λ k. rw (column-empty k) filled-none } }
@@ -104,7 +105,7 @@ filled-set n v xs f =
       clear = λ i h. getD-set-other xs n i v 0 (λ e. omega arith) ∙ f .clear i (omega arith);
     }
 
-module _ (c : Charges) (x : Charge) (w : Columns c) (room : c .held < 180) where
+module _ (c : Charges) (x : Charge) (w : Columns c) (room : c .held < places) where
   put-new : chargeAt (put c x) (c .held) ≡ x
   put-new =
       charge-same (chargeAt (put c x) (c .held)) x

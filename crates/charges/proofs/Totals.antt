@@ -6,14 +6,11 @@ use native.Mathlib.Omega.{arith}
 use Rattle.rules.specs.Basics.{tabulate}
 use Rattle.rules.specs.Charge.{Charge, endOf, lastEnd, lateOf, lateness}
 use Rattle.rules.proofs.Lists.{tabulate-next}
-
-lastEnd-append : (xs : List Charge) (x : Charge) → lastEnd (xs ++ (x ∷ [])) ≡ max (lastEnd xs) (endOf x)
-lastEnd-append [] x = omega arith
-lastEnd-append (y ∷ xs) x = rw (lastEnd-append xs x) (omega arith)
+use Rattle.rules.proofs.Ends.{lastEnd-more}
 
 pub lastEnd-next :
     (g : ℕ → Charge) (i : ℕ) → lastEnd (tabulate g (i + 1) 0) ≡ max (lastEnd (tabulate g i 0)) (endOf (g i))
-lastEnd-next g i = rw (tabulate-next g i) (lastEnd-append (tabulate g i 0) (g i))
+lastEnd-next g i = rw (tabulate-next g i) (lastEnd-more (tabulate g i 0) (g i))
 
 lateness-append : (xs : List Charge) (x : Charge) → lateness (xs ++ (x ∷ [])) ≡ lateness xs + lateOf x
 lateness-append [] x = omega arith

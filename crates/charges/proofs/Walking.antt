@@ -9,7 +9,7 @@ use lib.ListN.{length, length-append}
 use borrow.Author.Tests.{lt-ltb, le-ltb}
 use Rattle.rules.specs.Basics.{tabulate, at, nothing, first, keep}
 use Rattle.rules.specs.Charge.{Charge, isWaiting}
-use Rattle.rules.proofs.Lists.{tabulate-next, keep-append, length-keep}
+use Rattle.rules.proofs.Lists.{tabulate-next, keep-append}
 
 -- A search
 
@@ -34,9 +34,6 @@ module _ {A : Type 0} (f : A → Bool) (g : ℕ → A) (i : ℕ) where
 
   pub count-hit : f (g i) ≡ true → length (keep f (tabulate g (i + 1) 0)) ≡ length (keep f (tabulate g i 0)) + 1
   count-hit e = rw (keep-hit e) (length-append (keep f (tabulate g i 0)) (g i ∷ []))
-
-pub keep-length : {A : Type 0} (f : A → Bool) (xs : List A) → length (keep f xs) ≤ length xs
-keep-length f xs = length-keep f xs
 
 -- A charge that waits, and one that does not
 

@@ -3,6 +3,7 @@ use Prim.Native.Nat.{ℕ, _≤_}
 use mathlib.Core.Path.{_≡_}
 use mathlib.Core.List.{List}
 use lib.ListN.{length, getD}
+use Rattle.rules.specs.Calls.{places}
 use Rattle.rules.specs.Basics.{Found, at, nothing, tabulate}
 use Rattle.rules.specs.Charge.{Charge}
 use Rattle.charges.specs.declared.Charges.{Charges}
@@ -58,12 +59,12 @@ chargesOf c = tabulate (chargeAt c) (c .held) 0
 
 -- an array of 180 places of which those from n on are 0
 pub record Filled (n : ℕ) (xs : List ℕ) : Type 0 where
-  pub full : length xs ≡ 180
+  pub full : length xs ≡ places
   pub clear : (i : ℕ) → n ≤ i → getD xs i 0 ≡ 0
 
 -- "up to 180 charges": the places behind them are 0, so that the list determines the arrays
 pub record Columns (c : Charges) : Type 0 where
-  pub few : c .held ≤ 180
+  pub few : c .held ≤ places
   pub filled : (k : Column) → Filled (c .held) (columnOf c k)
 
 -- exactly these charges are held

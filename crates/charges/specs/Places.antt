@@ -5,6 +5,7 @@ use mathlib.Core.Bool.{Bool, not, _&&_}
 use mathlib.Core.List.{List, _++_}
 use lib.Dec.{leb, ltb, eqb}
 use lib.ListN.{length, getD, replicate}
+use Rattle.rules.specs.Calls.{places}
 use Rattle.rules.specs.Basics.{Each, tabulate, keep}
 use Rattle.rules.specs.Charge.{Charge}
 use Rattle.charges.specs.declared.Charges.{Charges}
@@ -19,19 +20,19 @@ placeAt p j = getD (p .places) j 0
 abbrev pub placesOf : Places → List ℕ
 placesOf p = tabulate (placeAt p) (p .count) 0
 
-abbrev pub places : ℕ → List ℕ → Places
-places count is = record { count = count; places = is }
+abbrev pub placesFrom : ℕ → List ℕ → Places
+placesFrom count is = record { count = count; places = is }
 
 -- places that may stand in an array of 180
 pub record Inside (p : Places) : Type 0 where
-  pub few : p .count ≤ 180
-  pub below : Each (λ i. i < 180) (placesOf p)
+  pub few : p .count ≤ places
+  pub below : Each (λ i. i < places) (placesOf p)
 
 -- exactly these places
 pub record Lists (is : List ℕ) (p : Places) : Type 0 where
   pub listed : placesOf p ≡ is
-  pub few : p .count ≤ 180
-  pub full : length (p .places) ≡ 180
+  pub few : p .count ≤ places
+  pub full : length (p .places) ≡ places
 
 -- whether a charge with this ticket, start and active time is meant
 abbrev pub means : Which → ℕ → ℕ → ℕ → Bool
@@ -52,4 +53,4 @@ meantPlaces which c = keep (isMeantAt which c) (tabulate (λ i. i) (c .held) 0)
 
 -- what a column has at the first n of these places, and zeros behind
 abbrev pub gatheredOf : List ℕ → List ℕ → ℕ → List ℕ
-gatheredOf column is n = tabulate (λ k. getD column (getD is k 0) 0) n 0 ++ replicate (180 - n) 0
+gatheredOf column is n = tabulate (λ k. getD column (getD is k 0) 0) n 0 ++ replicate (places - n) 0

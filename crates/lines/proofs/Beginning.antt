@@ -4,6 +4,7 @@ use Prim.Native.Nat.{ℕ, _+_, _≤_}
 use mathlib.Core.List.{List, [], append-nil}
 use native.Mathlib.Omega.{arith}
 use lib.ListN.{length, getD, replicate}
+use Rattle.rules.specs.Calls.{places}
 use Rattle.rules.specs.Basics.{keep}
 use Rattle.rules.specs.Charge.{loadsOf}
 use Rattle.rules.specs.Search.{Caps}
@@ -32,7 +33,7 @@ pub lines-start :
     {cap : Caps} {clock : ℕ} {c : Charges} {l first : ℕ} {p : Profile} → Listed c → clock ≤ 1000000 → Shows p clock (loadsOf (begunOf clock c))
     → l ≡ 0
     → first ≡ 0
-    → LinesDone cap clock c l p (replicate 180 first)
+    → LinesDone cap clock c l p (replicate places first)
 lines-start {cap} {clock} {c} h early s none clear =
     rw (none, clear)
     record {
@@ -42,7 +43,7 @@ lines-start {cap} {clock} {c} h early s none clear =
       plan =
           record {
             shows = rw (append-nil (begunOf clock c)) s;
-            stored = λ i l. sym (zeros 180 i);
+            stored = λ i l. sym (zeros places i);
             size = refl;
             ends = rw (append-nil (begunOf clock c)) (omega (arith, begun-end-most h clock));
           };

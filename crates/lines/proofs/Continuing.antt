@@ -4,6 +4,7 @@ use Prim.Native.Nat.{ℕ, suc, _-_, max, _≤_, _<_}
 use mathlib.Core.List.{List, [], _∷_, _++_}
 use native.Mathlib.Omega.{arith}
 use lib.ListN.{length, getD, set, length-append}
+use Rattle.rules.specs.Calls.{places}
 use Rattle.rules.specs.Load.{Load, IsLine, IsRate, lastUntil}
 use Rattle.rules.specs.Charge.{Charge, starting, drawOf, loadsOf}
 use Rattle.rules.specs.Search.{Caps}
@@ -56,7 +57,7 @@ module _ {cap : Caps} {caps : LineCaps} {clock : ℕ} {c : Charges} {line : ℕ}
           start-near (crowdOf (onLine line (waitingOf clock c))) loads-now h on shown (v .plan .shows) (v .are) r number-now total-now
           (v .below) (v .near)
 
-      pub next-inside : (t .place < 180) × (getD left (t .place) 0 < 180)
+      pub next-inside : (t .place < places) × (getD left (t .place) 0 < places)
       next-inside = (omega (arith, r .inside, v .are .few), omega (arith, low-place, h .columns .few))
 
       pub next-can-add : {time rate : ℕ} → time ≤ 1445 → IsRate rate → CanAdd p time rate (t .start)

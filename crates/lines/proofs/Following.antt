@@ -5,6 +5,7 @@ use mathlib.Core.List.{List, _++_}
 use native.Mathlib.Omega.{arith}
 use lib.Dec.{eqb}
 use lib.ListN.{length, getD, length-append}
+use Rattle.rules.specs.Calls.{places}
 use Rattle.rules.specs.Load.{IsLine}
 use Rattle.rules.specs.Charge.{loadsOf}
 use Rattle.rules.specs.Search.{Caps}
@@ -48,7 +49,7 @@ module _ {cap : Caps} {caps : LineCaps} {clock : ℕ} {c : Charges} {line : ℕ}
       go (inr l) = omega (arith, l .0)
 
   module _ (more : 0 < n) where
-    few : length (loadsOf (begunOf clock c ++ v .placed)) < 180
+    few : length (loadsOf (begunOf clock c ++ v .placed)) < places
     few =
         omega (
           arith,
@@ -78,7 +79,7 @@ module _ {cap : Caps} {caps : LineCaps} {clock : ℕ} {c : Charges} {line : ℕ}
           from-fits = omega (arith, v .near, v .plan .ends, line-room h on v);
         }
       where
-        own-few : length (onLine line (waitingOf clock c)) ≤ 180
+        own-few : length (onLine line (waitingOf clock c)) ≤ places
         own-few =
             omega (
               arith,

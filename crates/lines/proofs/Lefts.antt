@@ -8,6 +8,7 @@ use native.Mathlib.Omega.{arith}
 use lib.Dec.{eqb}
 use lib.ListN.{length, getD}
 use borrow.Author.Tests.{eqb-true, eqb-false, ne-eqb, not-true}
+use Rattle.rules.specs.Calls.{places}
 use Rattle.rules.specs.Basics.{Each, tabulate, keep}
 use Rattle.rules.specs.Charge.{Charge, latestStartBefore}
 use Rattle.rules.specs.Priority.{totalTime, withoutTicket}
@@ -17,7 +18,7 @@ use Rattle.rules.proofs.Lists.{map-tabulate, length-tabulate, each-keep, each-t
 use Rattle.rules.proofs.ThenTicket.{ThenTicket, ticket-decides, ticket-by-number, ticket-by-ticket}
 use Rattle.rules.proofs.LatestStarts.{latest-start-sums, latest-start-ordering}
 use Rattle.rules.proofs.Sorting.{Rearranged, rearranged-length, sorted-rearranged, sorted-sorted}
-use Rattle.rules.proofs.Picking.{Among, among-each, among-keep}
+use Rattle.rules.proofs.Picking.{Among, among-keep}
 use Rattle.charges.specs.declared.Charges.{Charges}
 use Rattle.charges.specs.Arrays.{chargeAt}
 use Rattle.charges.specs.Held.{Listed}
@@ -28,7 +29,7 @@ use Rattle.charges.proofs.Members.{each-place, map-keep}
 use Rattle.queues.proofs.EveryTwo.{two-tabulate, two-keep, two-places}
 use Rattle.priority.specs.Crowds.{sumOf}
 use Rattle.planner.proofs.Queueing.{places-apart}
-use Rattle.lines.proofs.Rearranging.{among-kept, among-to, among-back, keep-rearranged, rearranged-total, total-places, among-place, PlaceOf, place-among}
+use Rattle.lines.proofs.Rearranging.{among-kept, among-passes, among-to, among-back, keep-rearranged, rearranged-total, total-places, among-place, PlaceOf, place-among}
 
 -- the j-th charge left
 abbrev pub leftAt : Charges → List ℕ → ℕ → Charge
@@ -36,8 +37,8 @@ leftAt c left j = chargeAt c (getD left j 0)
 
 -- the first n places are those of the charges left, by latest start, then ticket
 pub record Left (c : Charges) (line : ℕ) (left : List ℕ) (n : ℕ) (rest : List Charge) : Type 0 where
-  pub full : length left ≡ 180
-  pub few : n ≤ 180
+  pub full : length left ≡ places
+  pub few : n ≤ places
   pub inside : (j : ℕ) → j < n → getD left j 0 < c .held
   pub on-line : (j : ℕ) → j < n → leftAt c left j .line ≡ line
   pub sorted : (i j : ℕ) → i < j → j < n → latestStartBefore (leftAt c left i) (leftAt c left j) ≡ true
@@ -212,10 +213,4 @@ module _ {c : Charges} {line : ℕ} {left : List ℕ} {n : ℕ} {rest : List Cha
         }
       where
         kept : (x : Charge) → Among x (withoutTicket (leftAt c left r .ticket) rest) → not (eqb (x .ticket) (leftAt c left r .ticket)) ≡ true
-        kept x k =
-            among-each (λ y. Unit {0} × (not (eqb (y .ticket) (leftAt c left r .ticket)) ≡ true)) k
-            (each-keep (λ y. Unit {0}) (λ y. not (eqb (y .ticket) (leftAt c left r .ticket))) rest (every rest)) .1
-          where
-            every : (l : List Charge) → Each (λ y. Unit {0}) l
-            every [] = tt
-            every (y ∷ l) = (tt, every l)
+        kept x k = among-passes (λ y. not (eqb (y .ticket) (leftAt c left r .ticket))) rest k

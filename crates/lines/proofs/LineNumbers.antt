@@ -3,6 +3,7 @@ use Prim.Native.Nat.{ℕ, _≤_, _<_}
 use mathlib.Core.List.{List, [], _∷_}
 use native.Mathlib.Omega.{arith}
 use lib.ListN.{length, getD}
+use Rattle.rules.specs.Calls.{places}
 use Rattle.rules.specs.Basics.{Each}
 use Rattle.rules.specs.Charge.{Charge}
 use Rattle.rules.specs.Priority.{totalTime}
@@ -21,7 +22,7 @@ pub queue-inside : {c : Charges} {xs : List Charge} {queue : Places} → Listed 
 queue-inside {c} {xs} {queue} h o =
     record {
       few = omega (arith, o .places .few, h .columns .few);
-      below = each-tabulate (λ i. i < 180) (placeAt queue) (queue .count) 0 (λ i a b. omega (arith, o .places .inside i (omega arith), h .columns .few));
+      below = each-tabulate (λ i. i < places) (placeAt queue) (queue .count) 0 (λ i a b. omega (arith, o .places .inside i (omega arith), h .columns .few));
     }
 
 -- what the numbers of those left meet

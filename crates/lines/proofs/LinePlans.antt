@@ -4,6 +4,7 @@ use Prim.Native.Nat.{ℕ, suc, _+_, max, _≤_, _<_}
 use mathlib.Core.List.{List, [], _∷_, _++_}
 use native.Mathlib.Omega.{arith}
 use lib.ListN.{length}
+use Rattle.rules.specs.Calls.{places}
 use Rattle.rules.specs.Load.{IsLine, lastUntil}
 use Rattle.rules.specs.Charge.{Charge, loadsOf}
 use Rattle.rules.specs.Search.{Caps}
@@ -70,5 +71,5 @@ pub record LineSoFar (cap : Caps) (clock : ℕ) (c : Charges) (line : ℕ) (left
 
 module _ {cap : Caps} {clock : ℕ} {c : Charges} {line : ℕ} {left : List ℕ} {n : ℕ} {p : Profile} {byPlace : List ℕ} {q : code.Crowd}
     {from : ℕ} (h : Listed c) (on : IsLine line) (v : LineSoFar cap clock c line left n p byPlace q from) where
-  pub line-room : length (begunOf clock c) + length (v .placed) + n ≤ 180
+  pub line-room : length (begunOf clock c) + length (v .placed) + n ≤ places
   line-room = omega (arith, v .many, many-room clock h line (on .high))

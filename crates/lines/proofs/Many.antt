@@ -7,6 +7,7 @@ use native.Mathlib.Omega.{arith}
 use lib.Dec.{eqb}
 use lib.ListN.{length}
 use borrow.Author.Tests.{eqb-true}
+use Rattle.rules.specs.Calls.{places}
 use Rattle.rules.specs.Charge.{Charge}
 use Rattle.rules.specs.Replan.{onLine}
 use Rattle.rules.proofs.Lists.{length-tabulate}
@@ -46,7 +47,7 @@ many-most cs (suc (suc (suc zero))) h = omega (arith, lines-length cs)
 many-most cs (suc (suc (suc (suc l)))) h = absurd (omega arith)
 
 -- the begun charges and those of the first l lines have room
-pub many-room : (clock : ℕ) {c : Charges} → Listed c → (l : ℕ) → l ≤ 3 → length (begunOf clock c) + manyUpTo l (waitingOf clock c) ≤ 180
+pub many-room : (clock : ℕ) {c : Charges} → Listed c → (l : ℕ) → l ≤ 3 → length (begunOf clock c) + manyUpTo l (waitingOf clock c) ≤ places
 many-room clock {c} h l most =
     omega (
       arith,

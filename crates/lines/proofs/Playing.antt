@@ -7,6 +7,7 @@ use native.Mathlib.Omega.{arith}
 use lib.Dec.{eqb}
 use borrow.Author.Tests.{eqb-true, eqb-false}
 use lib.ListN.{length, length-append}
+use Rattle.rules.specs.Calls.{places}
 use Rattle.rules.specs.Load.{IsLine, count, counts, lastUntil, limits}
 use Rattle.rules.specs.Charge.{loadsOf}
 use Rattle.rules.specs.Search.{Caps, firstUnbalanced}
@@ -88,7 +89,7 @@ module _ {limit bound clock : ℕ} {c : Charges} {caps : LineCaps} {r : Placemen
           → levelOf (r .profile) l t ≡ count (loadsOf (begunOf clock c ++ plan cap shown .placed)) l t
       level-counted cap shown l i = plan cap shown .plan .shows .counted l i t (range .0)
 
-      few : length (loadsOf (begunOf clock c ++ some-plan .placed)) ≤ 180
+      few : length (loadsOf (begunOf clock c ++ some-plan .placed)) ≤ places
       few =
           omega (
             arith,

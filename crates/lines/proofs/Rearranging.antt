@@ -8,7 +8,7 @@ use native.Mathlib.Nat.{zero-add}
 use Rattle.rules.specs.Basics.{Each, tabulate, keep}
 use Rattle.rules.specs.Charge.{Charge}
 use Rattle.rules.specs.Priority.{totalTime}
-use Rattle.rules.proofs.Lists.{each-map, each-tabulate, tabulate-each, tabulate-more}
+use Rattle.rules.proofs.Lists.{each-map, each-keep, each-tabulate, tabulate-each, tabulate-more}
 use Rattle.rules.proofs.Sorting.{Inserted, here, later, Rearranged, none, more, each-rearranged}
 use Rattle.rules.proofs.Picking.{Among, front, behind, among-each}
 use Rattle.priority.specs.Crowds.{sumOf}
@@ -29,6 +29,9 @@ among-kept f {x} (behind {d = d} {l = l} m) e = go (f d) (among-kept f m e)
     go : (b : Bool) → Among x (keep f l) → Among x (cond b (d ∷ keep f l) (keep f l))
     go true r = behind r
     go false r = r
+
+pub among-passes : (f : Charge → Bool) {x : Charge} (l : List Charge) → Among x (keep f l) → f x ≡ true
+among-passes f l m = among-each (λ y. Among y l × (f y ≡ true)) m (each-keep (λ y. Among y l) f l (each-self l)) .1
 
 among-first : {a : Charge} {l m : List Charge} → Inserted a l m → Among a m
 among-first here = front

@@ -13,7 +13,6 @@ use Rattle.rules.specs.Charge.{Charge, starting}
 use Rattle.rules.specs.Search.{Caps}
 use Rattle.rules.specs.Priority.{Crowd, urgency, takenBefore, chosen, foremost, Fitting, fitsAt, firstFit, picked}
 use Rattle.rules.proofs.Ranges.{below-or-not}
-use Rattle.rules.proofs.Lists.{each-keep}
 use Rattle.rules.proofs.Fitting.{NoneBelow, first-fit-is}
 use Rattle.rules.proofs.Picking.{Among, front, behind, among-each, among-keep, Taken, taken-some}
 use Rattle.rules.proofs.Foremost.{foremost-first}
@@ -30,7 +29,7 @@ use Rattle.priority.specs.Chosen.{fitsRun, Ahead}
 use Rattle.lines.specs.declared.next.Next.{Next}
 use Rattle.lines.specs.Next.{NextIs}
 use Rattle.lines.specs.Lines.{numbersOf}
-use Rattle.lines.proofs.Rearranging.{each-among, among-kept, PlaceOf}
+use Rattle.lines.proofs.Rearranging.{each-among, among-kept, among-passes, PlaceOf}
 use Rattle.lines.proofs.Lefts.{leftAt, Left}
 
 -- Tests of members
@@ -46,14 +45,6 @@ among-some f (behind {d = d} {l = l} m) e = rw (among-some f m e) (go (f d))
     go : (b : Bool) → b || true ≡ true
     go true = refl
     go false = refl
-
-among-passes : (f : Charge → Bool) {x : Charge} (l : List Charge) → Among x (keep f l) → f x ≡ true
-among-passes f {x} l m =
-    among-each (λ y. Unit {0} × (f y ≡ true)) m (each-keep (λ y. Unit {0}) f l (every l)) .1
-  where
-    every : (l : List Charge) → Each (λ y. Unit {0}) l
-    every [] = tt
-    every (y ∷ l) = (tt, every l)
 
 -- the rules' pick, from its start and its charge
 picked-is :

@@ -3,6 +3,7 @@ use mathlib.Core.Path.{_≡_}
 use Prim.Native.Nat.{ℕ, _≤_, _<_}
 use mathlib.Core.List.{List}
 use lib.ListN.{length, getD}
+use Rattle.rules.specs.Calls.{places}
 use Rattle.rules.specs.Load.{IsLine, IsRate}
 use Rattle.rules.specs.Search.{Caps}
 use Rattle.charges.specs.declared.Charges.{Charges}
@@ -30,7 +31,7 @@ module _ {caps : LineCaps} {clock : ℕ} {c : Charges} {line : ℕ} {left : List
   turn-can = can-next h on (w .shown) v more (w .enough)
 
   module _ {t : Next} (r : NextIs p caps line (numbersOf c) left n q from t) where
-    pub turn-inside : (t .place < 180) × (getD left (t .place) 0 < 180)
+    pub turn-inside : (t .place < places) × (getD left (t .place) 0 < places)
     turn-inside = next-inside h on (w .shown) v more r
 
     pub turn-small : Small (leftAt c left (t .place))
@@ -39,5 +40,5 @@ module _ {caps : LineCaps} {clock : ℕ} {c : Charges} {line : ℕ} {left : List
     pub turn-adds : {time rate : ℕ} → time ≤ 1445 → IsRate rate → CanAdd p time rate (t .start)
     turn-adds = next-can-add h on (w .shown) v more r
 
-    pub turn-removes : (length left ≡ 180) × (n ≤ 180) × (t .place < n)
+    pub turn-removes : (length left ≡ places) × (n ≤ places) × (t .place < n)
     turn-removes = (v .are .full, v .are .few, r .inside)

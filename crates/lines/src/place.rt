@@ -25,7 +25,8 @@ pub struct Placement {
     pub by_place: [u32; PLACES],
 }
 
-// The waiting charges of one more line, after those of the lines before it. The answer: the number of steps.
+// The waiting charges of one more line, after those of the lines before it. The answer: the number of steps. Columns are lent anew in
+// each turn, since two of them are read in it.
 pub fn place_line(
     at: &mut [u32; STEPS],
     counts: &mut [u32; COLUMNS * STEPS],
@@ -43,34 +44,16 @@ pub fn place_line(
     let own = on_line(queue, &charges.lines, line);
     let mut left = own.places;
     let mut n = own.count;
-    let columns = [
-        &charges.times,
-        &charges.active_times,
-        &charges.dues,
-        &charges.rates,
-    ];
+    let times = &charges.times;
+    let columns = [times, &charges.active_times, &charges.dues, &charges.rates];
     let mut crowd = crowd_of(columns, &left, n);
     let mut from = clock;
     let mut held = steps;
     while 0 < n {
-        let columns = [
-            &charges.times,
-            &charges.active_times,
-            &charges.dues,
-            &charges.rates,
-        ];
-        let taken = next_charge(
-            &*at,
-            &*counts,
-            held,
-            &caps.caps,
-            line,
-            columns,
-            &left,
-            n,
-            crowd,
-            from,
-        );
+        let times = &charges.times;
+        let columns = [times, &charges.active_times, &charges.dues, &charges.rates];
+        let lent = &caps.caps;
+        let taken = next_charge(at, counts, held, lent, line, columns, &left, n, crowd, from);
         let j = taken.place;
         let i = left[j];
         let time = charges.active_times[i];

@@ -7,7 +7,7 @@ use lib.ListN.{length}
 use Rattle.rules.specs.Basics.{keep}
 use Rattle.rules.specs.Load.{Load, IsRate, lastUntil, sound}
 use Rattle.rules.specs.Charge.{Charge, loadsOf}
-use Rattle.rules.specs.Calls.{isPassed}
+use Rattle.rules.specs.Calls.{places, isPassed}
 use Rattle.charges.specs.declared.Charges.{Charges}
 use Rattle.charges.specs.Arrays.{chargesOf}
 use Rattle.profile.specs.declared.Profile.{Profile}
@@ -41,10 +41,10 @@ pub record RoomFor (p : Profile) (k : ℕ) : Type 0 where
   pub clock : ℕ
   pub loads : List Load
   pub shows : Shows p clock loads
-  pub few : length loads + k ≤ 180
+  pub few : length loads + k ≤ places
 
 pub record CanAddStarted (p : Profile) (c : Charges) (low high : ℕ) : Type 0 where
-  pub held : c .held ≤ 180
+  pub held : c .held ≤ places
   pub ends : EndsFit c
   pub rated : Rated c
   pub room : RoomFor p (length (started low high (chargesOf c)))
@@ -55,13 +55,13 @@ StartedAdded p q c low high =
     (clock : ℕ) (loads : List Load) → Shows p clock loads → Shows q clock (loads ++ loadsOf (started low high (chargesOf c)))
 
 -- what the search for an order's start asks: a sound plan of charges with numbers in range, and what none of refusals 4 to 18 turns away
-pub record CanOrder (held : Charges) (clock : ℕ) (y : Limits) (a : Draw) : Type 0 where
-  pub few : held .held ≤ 180
-  pub ends : EndsFit held
-  pub rated : Rated held
-  pub end-most : lastUntil (loadsOf (chargesOf held)) ≤ 100001445
+pub record CanOrder (charges : Charges) (clock : ℕ) (y : Limits) (a : Draw) : Type 0 where
+  pub few : charges .held ≤ places
+  pub ends : EndsFit charges
+  pub rated : Rated charges
+  pub end-most : lastUntil (loadsOf (chargesOf charges)) ≤ 100001445
   pub clock-most : clock ≤ 1000000
-  pub sound-on : sound (limitsOf y) clock (loadsOf (chargesOf held)) ≡ true
+  pub sound-on : sound (limitsOf y) clock (loadsOf (chargesOf charges)) ≡ true
   pub some : 1 ≤ a .time
   pub time-most : a .time ≤ 1445
   pub is-rate : IsRate (a .rate)

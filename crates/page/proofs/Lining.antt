@@ -9,7 +9,7 @@ use Rattle.rules.specs.Basics.{Each}
 use Rattle.rules.specs.Charge.{Charge, endOf, isBegun}
 use Rattle.rules.proofs.Lists.{each-append}
 use Rattle.text.specs.Numbers.{decimal}
-use Rattle.page.specs.Lines.{atLeft, column, lineOf, ticketWord, lineWord, startWord, endWord, stateWord, heading, stateOf, rowOf, row, blank, noStationWords, noStation}
+use Rattle.page.specs.Lines.{atLeft, column, columns, ticketWord, lineWord, startWord, endWord, stateWord, heading, stateOf, rowOf, row, blank, noStationWords, noStation}
 use Rattle.page.specs.Lined.{Fits, ChargeFits, Character, Lined, no-line, one-more}
 use Rattle.page.proofs.Aligning.{length-column, length-left, ticket-digits, line-digits, start-digits, end-digits}
 use Rattle.page.proofs.Characters.{decimal-shown, column-shown, left-shown, characters}
@@ -39,7 +39,7 @@ module _ (ticket line start end state : List ℕ) (f : FitsLine ticket line star
   abbrev e : List ℕ
   e = atLeft 8 state
 
-  joined : (a ++ (b ++ (c ++ (d ++ e)))) ++ (10 ∷ []) ≡ lineOf ticket line start end state
+  joined : (a ++ (b ++ (c ++ (d ++ e)))) ++ (10 ∷ []) ≡ columns ticket line start end state
   joined =
       rw (append-assoc a (b ++ (c ++ (d ++ e))) (10 ∷ []), append-assoc b (c ++ (d ++ e)) (10 ∷ []), append-assoc c (d ++ e) (10 ∷ []), append-assoc d e (10 ∷ []))
 
@@ -55,7 +55,7 @@ module _ (ticket line start end state : List ℕ) (f : FitsLine ticket line star
       (each-append Character c (d ++ e) (column-shown 9 start (f .shown .2))
       (each-append Character d e (column-shown 9 end (f .shown .3)) (left-shown 8 state (f .shown .4)))))
 
-  pub line-lined : Lined 1 (lineOf ticket line start end state)
+  pub line-lined : Lined 1 (columns ticket line start end state)
   line-lined = rw (sym joined) (one-line (a ++ (b ++ (c ++ (d ++ e)))) counted all-shown)
 
 state-fits : (begun : Bool) → length (stateOf begun) ≤ 8

@@ -35,30 +35,30 @@ module _ (clock : ℕ) (cs : List Charge) (q : ℕ) where
   row-unused h = rw (le-ltb q (length cs) h)
 
 -- the rows of charges in arrays
-module _ (clock : ℕ) {held : Charges} (columns : Columns held) (q : ℕ) where
+module _ (clock : ℕ) {charges : Charges} (columns : Columns charges) (q : ℕ) where
   pub row-of :
       {begun : Bool} {ticket line start end : ℕ}
-      → q < held .held
-      → begun ≡ isBegun clock (chargeAt held q)
-      → ticket ≡ chargeAt held q .ticket
-      → line ≡ chargeAt held q .line
-      → start ≡ chargeAt held q .start
-      → end ≡ endOf (chargeAt held q)
-      → rowOf begun ticket line start end ≡ rowAt clock (chargesOf held) q
+      → q < charges .held
+      → begun ≡ isBegun clock (chargeAt charges q)
+      → ticket ≡ chargeAt charges q .ticket
+      → line ≡ chargeAt charges q .line
+      → start ≡ chargeAt charges q .start
+      → end ≡ endOf (chargeAt charges q)
+      → rowOf begun ticket line start end ≡ rowAt clock (chargesOf charges) q
   row-of h b t l s e =
-      let n : length (chargesOf held) ≡ held .held = length-tabulate (chargeAt held) (held .held) 0 in
-      let at-place : getD (chargesOf held) q noCharge ≡ chargeAt held q =
-      getD-tabulate (chargeAt held) (held .held) 0 q noCharge h ∙ ap (chargeAt held) (from-zero q) in
-      rw (b, t, l, s, e) (sym (row-held clock (chargesOf held) q (rw n h) ∙ ap (row clock) at-place))
+      let n : length (chargesOf charges) ≡ charges .held = length-tabulate (chargeAt charges) (charges .held) 0 in
+      let at-place : getD (chargesOf charges) q noCharge ≡ chargeAt charges q =
+      getD-tabulate (chargeAt charges) (charges .held) 0 q noCharge h ∙ ap (chargeAt charges) (from-zero q) in
+      rw (b, t, l, s, e) (sym (row-held clock (chargesOf charges) q (rw n h) ∙ ap (row clock) at-place))
     where
       from-zero : (q : ℕ) → 0 + q ≡ q
       from-zero q = omega arith
 
-  pub row-behind : held .held ≤ q → blank ≡ rowAt clock (chargesOf held) q
-  row-behind h = sym (row-unused clock (chargesOf held) q (rw (length-tabulate (chargeAt held) (held .held) 0) h))
+  pub row-behind : charges .held ≤ q → blank ≡ rowAt clock (chargesOf charges) q
+  row-behind h = sym (row-unused clock (chargesOf charges) q (rw (length-tabulate (chargeAt charges) (charges .held) 0) h))
 
-pub fits-at : {held : Charges} → Columns held → (q : ℕ) → Each ChargeFits (chargesOf held) → q < held .held → ChargeFits (chargeAt held q)
-fits-at {held} columns q e h = tabulate-each ChargeFits (chargeAt held) (held .held) 0 e q (omega arith) (omega arith)
+pub fits-at : {charges : Charges} → Columns charges → (q : ℕ) → Each ChargeFits (chargesOf charges) → q < charges .held → ChargeFits (chargeAt charges q)
+fits-at {charges} columns q e h = tabulate-each ChargeFits (chargeAt charges) (charges .held) 0 e q (omega arith) (omega arith)
 
 pub row-fits : {c : Charge} → ChargeFits c → Fits (c .ticket) (c .line) (c .start) (endOf c)
 row-fits f =

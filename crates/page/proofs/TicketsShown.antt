@@ -13,7 +13,7 @@ use Rattle.text.specs.Numbers.{valueFrom, numberOf, decimal}
 use Rattle.text.specs.declared.number.Number.{Number}
 use Rattle.text.specs.declared.number.Number.the-variants.{Value, NotANumber, TooLarge}
 use Rattle.text.proofs.Values.{read-back}
-use Rattle.page.specs.Lines.{spaces, atRight, atLeft, column, lineOf, heading, stateOf, rowOf, row, blank}
+use Rattle.page.specs.Lines.{spaces, atRight, atLeft, column, columns, heading, stateOf, rowOf, row, blank}
 use Rattle.page.specs.Lined.{ChargeFits}
 use Rattle.page.proofs.Aligning.{length-right, ticket-digits}
 use Rattle.page.proofs.Characters.{digits-each}
@@ -42,7 +42,7 @@ front-column : (xs more : List ℕ) → length xs ≡ 6 → take 6 ((xs ++ (32 �
 front-column xs more e =
     rw (append-assoc xs (32 ∷ []) more) (ap (λ (k : ℕ). take k (xs ++ (32 ∷ more))) (sym e) ∙ front-taken xs (32 ∷ more))
 
-first-column : (t l s e w : List ℕ) → length t ≤ 6 → take 6 (lineOf t l s e w) ≡ atRight 6 t
+first-column : (t l s e w : List ℕ) → length t ≤ 6 → take 6 (columns t l s e w) ≡ atRight 6 t
 first-column t l s e w h =
     front-column (atRight 6 t) (column 1 l ++ (column 9 s ++ (column 9 e ++ (atLeft 8 w ++ (10 ∷ []))))) (length-right 6 t h)
 

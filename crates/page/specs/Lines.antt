@@ -22,8 +22,8 @@ abbrev pub column : ℕ → List ℕ → List ℕ
 column width text = atRight width text ++ (32 ∷ [])
 
 -- "Columns: ticket (6, right), line (1), start (9, right), end (9, right), state (8, left), one space between."
-abbrev pub lineOf : List ℕ → List ℕ → List ℕ → List ℕ → List ℕ → List ℕ
-lineOf ticket line start end state =
+abbrev pub columns : List ℕ → List ℕ → List ℕ → List ℕ → List ℕ → List ℕ
+columns ticket line start end state =
     column 6 ticket ++ (column 1 line ++ (column 9 start ++ (column 9 end ++ (atLeft 8 state ++ (10 ∷ [])))))
 
 -- "Heading words, aligned as their columns: ticket, l, start, end, state."
@@ -43,7 +43,7 @@ abbrev pub stateWord : List ℕ
 stateWord = 115 ∷ 116 ∷ 97 ∷ 116 ∷ 101 ∷ []
 
 abbrev pub heading : List ℕ
-heading = lineOf ticketWord lineWord startWord endWord stateWord
+heading = columns ticketWord lineWord startWord endWord stateWord
 
 -- "States: waiting, charging." A charge in its tail has begun too.
 abbrev pub stateOf : Bool → List ℕ
@@ -51,7 +51,7 @@ stateOf begun =
     cond begun (99 ∷ 104 ∷ 97 ∷ 114 ∷ 103 ∷ 105 ∷ 110 ∷ 103 ∷ []) (119 ∷ 97 ∷ 105 ∷ 116 ∷ 105 ∷ 110 ∷ 103 ∷ [])
 
 unfoldable pub rowOf : Bool → ℕ → ℕ → ℕ → ℕ → List ℕ
-rowOf begun ticket line start end = lineOf (decimal ticket) (decimal line) (decimal start) (decimal end) (stateOf begun)
+rowOf begun ticket line start end = columns (decimal ticket) (decimal line) (decimal start) (decimal end) (stateOf begun)
 
 -- the row of a charge: "The end is s + p."
 abbrev pub row : ℕ → Charge → List ℕ
@@ -59,7 +59,7 @@ row clock c = rowOf (isBegun clock c) (c .ticket) (c .line) (c .start) (endOf c)
 
 -- "unused rows are spaces"
 abbrev pub blank : List ℕ
-blank = lineOf [] [] [] [] []
+blank = columns [] [] [] [] []
 
 -- "the row \"no station\", padded on the right"
 abbrev pub noStationWords : List ℕ

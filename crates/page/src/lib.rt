@@ -1,6 +1,6 @@
 // The page for the office wall: a heading and 24 rows to a page, a row to each charge held.
-mod line;
-mod rows;
+mod pages;
+mod row;
 
-pub use line::print_no_station;
-pub use rows::print_pages;
+pub use pages::print_pages;
+pub use row::print_no_station;

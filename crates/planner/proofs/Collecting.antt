@@ -6,6 +6,7 @@ use native.Mathlib.Omega.{arith}
 use native.Mathlib.Numerals.{add-one}
 use lib.ListN.{length, getD, set, take, replicate}
 use lib.Seq.{take-suc-set}
+use Rattle.rules.specs.Calls.{places}
 use Rattle.rules.specs.Basics.{tabulate}
 use Rattle.rules.specs.Charge.{Charge, isWaiting, waitingCharges}
 use Rattle.rules.specs.Replan.{startIn, startsIn}
@@ -28,7 +29,10 @@ pub record Collecting (clock : ℕ) (c : Charges) (starts : List ℕ) (i : ℕ) 
   pub gives :
       (placed : List Charge) → Stored c starts placed → i ≤ c .held → startsIn placed (waitingBelow clock c i) ≡ take k listed
 
-pub collecting-start : (clock : ℕ) (c : Charges) (starts : List ℕ) → Collecting clock c starts 0 (replicate 180 0) 0
+pub filled-zeros : {xs : List ℕ} → xs ≡ replicate places 0 → Filled 0 xs
+filled-zeros e = rw e filled-none
+
+pub collecting-start : (clock : ℕ) (c : Charges) (starts : List ℕ) → Collecting clock c starts 0 (replicate places 0) 0
 collecting-start clock c starts =
     record {
       few = omega arith;
@@ -38,7 +42,7 @@ collecting-start clock c starts =
     }
 
 module _ {clock : ℕ} {c : Charges} {starts : List ℕ} {i : ℕ} {listed : List ℕ} {k : ℕ}
-    (v : Collecting clock c starts i listed k) (low : i < c .held) (few : c .held ≤ 180) where
+    (v : Collecting clock c starts i listed k) (low : i < c .held) (few : c .held ≤ places) where
   pub collecting-begun :
       {listed′ : List ℕ} {k′ : ℕ}
       → chargeAt c i .start < clock

@@ -8,6 +8,7 @@ use lib.Dec.{eqb}
 use lib.ListN.{length, getD, set, length-set, length-append}
 use lib.Seq.{getD-set-same, getD-set-other}
 use borrow.Author.Tests.{eqb-true, eqb-false}
+use Rattle.rules.specs.Calls.{places}
 use Rattle.rules.specs.Load.{IsRate, lastUntil}
 use Rattle.rules.specs.Charge.{Charge, starting, drawOf, loadsOf}
 use Rattle.rules.specs.Search.{added}
@@ -34,7 +35,7 @@ grown begun placed x s =
 module _ {clock : ℕ} {c : Charges} {placed : List Charge} {p : Profile} {starts : List ℕ} (h : Listed c)
     (v : PlanShown clock c placed p starts) (i s : ℕ) (low : i < c .held)
     (near : s ≤ max clock (lastUntil (loadsOf (begunOf clock c ++ placed)))) where
-  pub plan-can-add : {time rate : ℕ} → length (begunOf clock c) + length placed < 180 → time ≤ 1445 → IsRate rate → CanAdd p time rate s
+  pub plan-can-add : {time rate : ℕ} → length (begunOf clock c) + length placed < places → time ≤ 1445 → IsRate rate → CanAdd p time rate s
   plan-can-add {time} {rate} few short rated =
       shown-can-add (v .shows) time rate s
       (omega (

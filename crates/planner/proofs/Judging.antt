@@ -38,10 +38,11 @@ module _ (next : Charges) {c : Charges} {x y : ℕ} (listed : Listed c) (ex : x 
   ends-fit active i low = (omega (arith, end-most i low), omega (arith, end-most i low, active i low))
 
   shows-next :
-      {p : Profile} {clock : ℕ}
-      → Shows p clock (loadsOf (begunCharges 4294967295 (chargesOf next)))
+      {p : Profile} {clock before : ℕ}
+      → Shows p clock (loadsOf (begunCharges before (chargesOf next)))
+      → before ≡ 4294967295
       → Shows p clock (loadsOf (chargesOf next))
-  shows-next s = rw (all-before next 4294967295 (λ i low. omega (arith, end-most i low))) at s
+  shows-next {before = before} s e = rw (all-before next before (λ i low. omega (arith, end-most i low))) at s
 
 -- The new plan has the rates and active times of the held one
 
@@ -85,16 +86,17 @@ module _ (limit bound : ℕ) (ss : List ℕ) {clock : ℕ} {c next : Charges} (h
               (lt-ltb (lastEnd (chargesOf c)) (lastEnd (chargesOf next)) (omega (arith, ex, ey))) refl refl;
         }
 
-    module _ (listed : Listed c) (l : y ≤ x) {p : Profile}
-        (s : Shows p clock (loadsOf (begunCharges 4294967295 (chargesOf next)))) {within : Bool} (d : WithinLimit p limit within) where
+    module _ (listed : Listed c) (l : y ≤ x) {p : Profile} {before : ℕ}
+        (s : Shows p clock (loadsOf (begunCharges before (chargesOf next)))) (latest : before ≡ 4294967295)
+        {within : Bool} {most : ℕ} (kept-by : WithinLimit p most within) (own-limit : most ≡ limit) where
       not-later : ltb (lastEnd (chargesOf c)) (lastEnd (chargesOf next)) ≡ false
       not-later = le-ltb (lastEnd (chargesOf c)) (lastEnd (chargesOf next)) (omega (arith, ex, ey))
 
       shows : Shows p clock (loadsOf (chargesOf next))
-      shows = shows-next next listed ex ey l s
+      shows = shows-next next listed ex ey l s latest
 
       kept : fromOn clock (loadsOf (chargesOf next)) (limitAt (limits limit bound) (loadsOf (chargesOf next))) ≡ within
-      kept = sym (d clock (loadsOf (chargesOf next)) bound shows)
+      kept = let d : WithinLimit p limit within = rw own-limit at kept-by in sym (d clock (loadsOf (chargesOf next)) bound shows)
 
       pub judges-five : within ≡ false → CauseOf limit bound clock c ss 5
       judges-five e =
@@ -104,9 +106,9 @@ module _ (limit bound : ℕ) (ss : List ℕ) {clock : ℕ} {c next : Charges} (h
                 not-later (kept ∙ e) refl;
           }
 
-      module _ (e : within ≡ true) (u : When) (f : Unbalanced p bound u) where
+      module _ (e : within ≡ true) (u : When) {apart : ℕ} (found-by : Unbalanced p apart u) (own-bound : apart ≡ bound) where
         unbalanced : firstUnbalanced (limits limit bound) clock (loadsOf (chargesOf next)) ≡ foundAt u
-        unbalanced = f clock (loadsOf (chargesOf next)) limit shows
+        unbalanced = let f : Unbalanced p bound u = rw own-bound at found-by in f clock (loadsOf (chargesOf next)) limit shows
 
         pub judges-six : {t : ℕ} → u ≡ Minute t → CauseOf limit bound clock c ss 6
         judges-six {t} w =
@@ -137,14 +139,14 @@ module _ {limit bound clock : ℕ} {c next : Charges} {ss : List ℕ} {first k b
   whole = h .same ∙ rw (← (n .charges), ← eb, ← ea, e)
 
   pub judges-kept :
-      (k ≡ 0 → ⊥) → Judges limit bound clock c ss (record { cause = k; before = before; after = before; charges = c })
-  judges-kept ne =
-      record { cause = whole; before = sym eb; after = sym eb; held = go k ne }
+      {late : ℕ} → (k ≡ 0 → ⊥) → late ≡ before → Judges limit bound clock c ss (record { cause = k; before = before; after = late; charges = c })
+  judges-kept ne same =
+      record { cause = whole; before = sym eb; after = sym (same ∙ eb); held = go k ne }
     where
       go : (k : ℕ) → (k ≡ 0 → ⊥) → HeldAfter k clock c ss c
       go zero n = absurd (n refl)
       go (suc k) n = refl
 
   pub judges-taken :
-      k ≡ 0 → Judges limit bound clock c ss (record { cause = k; before = before; after = after; charges = next })
-  judges-taken z = record { cause = whole; before = sym eb; after = sym ea; held = rw z n }
+      {late : ℕ} → k ≡ 0 → late ≡ after → Judges limit bound clock c ss (record { cause = k; before = before; after = late; charges = next })
+  judges-taken z same = record { cause = whole; before = sym eb; after = sym (same ∙ ea); held = rw z n }

@@ -5,6 +5,7 @@ use mathlib.Core.List.{List, [], _∷_, _++_, append-nil}
 use native.Mathlib.Omega.{arith}
 use native.Mathlib.Numerals.{add-one}
 use lib.ListN.{length, set, replicate, length-append}
+use Rattle.rules.specs.Calls.{places}
 use Rattle.rules.specs.Basics.{Found, at, nothing}
 use Rattle.rules.specs.Load.{IsRate, lastUntil}
 use Rattle.rules.specs.Charge.{Charge, starting, loadsOf}
@@ -41,7 +42,7 @@ pub placed-start :
     → Listed c
     → clock ≤ 1000000
     → Shows p clock (loadsOf (begunOf clock c))
-    → PlacedSoFar find clock c q 0 p (replicate 180 0)
+    → PlacedSoFar find clock c q 0 p (replicate places 0)
 placed-start find {clock} {c} {q} h early s =
     record {
       placed = [];
@@ -50,7 +51,7 @@ placed-start find {clock} {c} {q} h early s =
       plan =
           record {
             shows = rw (append-nil (begunOf clock c)) s;
-            stored = λ i l. sym (zeros 180 i);
+            stored = λ i l. sym (zeros places i);
             size = refl;
             ends = rw (append-nil (begunOf clock c)) (omega (arith, begun-end-most h clock));
           };
@@ -59,11 +60,11 @@ placed-start find {clock} {c} {q} h early s =
 
 -- The next charge of the queue
 
-module _ {c : Charges} {q : Places} {k : ℕ} (h : Listed c) (places : PlacesIn c q) (low : k < q .count) where
+module _ {c : Charges} {q : Places} {k : ℕ} (h : Listed c) (known : PlacesIn c q) (low : k < q .count) where
   pub next-inside : placeAt q k < c .held
-  next-inside = places .inside k low
+  next-inside = known .inside k low
 
-  pub next-below : placeAt q k < 180
+  pub next-below : placeAt q k < places
   next-below = omega (arith, next-inside, h .columns .few)
 
   pub next-rated : IsRate (chargeIn c q k .rate)
@@ -90,7 +91,7 @@ module _ {find : List Charge → Charge → Found} {clock : ℕ} {c : Charges} {
     turn : queueFrom c q k ≡ chargeIn c q k ∷ queueFrom c q (k + 1)
     turn = let e : q .count - k ≡ suc (q .count - (k + 1)) = omega arith in rw (e, add-one k)
 
-    plan-few : length (loadsOf (begunOf clock c ++ v .placed)) < 180
+    plan-few : length (loadsOf (begunOf clock c ++ v .placed)) < places
     plan-few =
         omega (
           arith,

@@ -4,6 +4,7 @@ use Prim.Native.Nat.{ℕ, _+_, _*_, _^_, max, _≤_, _<_}
 use mathlib.Core.List.{List}
 use native.Mathlib.Omega.{arith}
 use lib.ListN.{length}
+use Rattle.rules.specs.Calls.{places}
 use Rattle.rules.specs.Load.{Load, IsLine, IsRate, lastUntil}
 use Rattle.profile.specs.declared.Profile.{Profile}
 use Rattle.profile.specs.Shows.{profileOf, levelOf, Shows, CanAdd}
@@ -24,8 +25,8 @@ module _ {p : Profile} {clock : ℕ} {loads : List Load} (s : Shows p clock load
   pub shown-few : (l t : ℕ) → IsLine l → clock ≤ t → levelOf p l t ≤ 2 * length loads
   shown-few l t i h = omega (arith, s .counted l i t h, count-few loads (s .rated) l t)
 
-  pub shown-can-add : (time rate start : ℕ) → length loads < 180 → IsRate rate → start + time < 2 ^ 32 → CanAdd p time rate start
+  pub shown-can-add : (time rate start : ℕ) → length loads < places → IsRate rate → start + time < 2 ^ 32 → CanAdd p time rate start
   shown-can-add time rate start few is-rate fit = can-add p clock loads time rate start s few is-rate fit
 
-  pub shown-can-start : (time : ℕ) → length loads < 180 → max clock (lastUntil loads) + time < 2 ^ 32 → CanStart p time
+  pub shown-can-start : (time : ℕ) → length loads < places → max clock (lastUntil loads) + time < 2 ^ 32 → CanStart p time
   shown-can-start time few fit = can-start s time (omega arith) fit

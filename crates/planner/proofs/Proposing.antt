@@ -44,10 +44,11 @@ module _ (limit bound : ℕ) {clock : ℕ} {c : Charges} {q : Places} (order : O
   latest-none e = proposes-none 0 (rw (← (queue-whole order), e))
 
   pub latest-starts :
-      {p : Profile} {placed listed : List ℕ}
+      {p : Profile} {placed listed : List ℕ} {cause : ℕ}
       → AllPlaced (placeAll (soundStart (limits limit bound) clock (begunOf clock c)) [] (queueFrom c q 0)) clock c p placed
       → WaitingStarts clock c placed listed
-      → Proposes clock c (latest (limits limit bound) clock (chargesOf c)) (record { cause = 0; starts = listed })
+      → cause ≡ 0
+      → Proposes clock c (latest (limits limit bound) clock (chargesOf c)) (record { cause = cause; starts = listed })
   unfolding latest
-  latest-starts a w =
-      proposes-starts (rw (← (queue-whole order), a .gives, w .gives (a .placed) (a .plan .stored))) (w .filled)
+  latest-starts a w z =
+      rw z (proposes-starts (rw (← (queue-whole order), a .gives, w .gives (a .placed) (a .plan .stored))) (w .filled))

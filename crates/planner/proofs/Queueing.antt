@@ -6,6 +6,7 @@ use mathlib.Core.List.{List}
 use native.Mathlib.Omega.{arith}
 use native.Mathlib.Nat.{sub-zero}
 use lib.ListN.{length}
+use Rattle.rules.specs.Calls.{places}
 use Rattle.rules.specs.Basics.{tabulate}
 use Rattle.rules.specs.Charge.{Charge, latestStartBefore, waitingCharges}
 use Rattle.rules.specs.Replan.{byLatestStart}
@@ -32,8 +33,8 @@ queueFrom c q k = tabulate (chargeIn c q) (q .count - k) k
 
 -- held charges, none of them twice, that leave room for the begun ones
 pub record Queue (clock : ℕ) (c : Charges) (q : Places) : Type 0 where
+  pub room : length (begunOf clock c) + q .count ≤ places
   pub places : PlacesIn c q
-  pub room : length (begunOf clock c) + q .count ≤ 180
 
 -- charges at different places have different tickets
 pub places-apart :

@@ -6,14 +6,15 @@ use mathlib.Core.List.{List, [], _∷_, _++_}
 use native.Mathlib.Omega.{arith}
 use lib.ListN.{length}
 use borrow.Author.Tests.{lt-ltb, le-ltb}
+use Rattle.rules.specs.Calls.{places}
 use Rattle.rules.specs.Basics.{Each, tabulate, keep}
 use Rattle.rules.specs.Load.{IsRate, lastUntil}
 use Rattle.rules.specs.Charge.{Charge, activeUntil, loadOf, loadsOf, lastEnd, isBegun, begunCharges, waitingCharges}
-use Rattle.rules.proofs.Lists.{map-append, length-tabulate, each-tabulate}
+use Rattle.rules.proofs.Lists.{map-append, length-tabulate, each-tabulate, length-keep}
 use Rattle.charges.specs.declared.Charges.{Charges}
 use Rattle.charges.specs.Arrays.{chargeAt, chargesOf}
 use Rattle.charges.specs.Held.{Listed}
-use Rattle.charges.proofs.Walking.{keep-hit, keep-miss, keep-length}
+use Rattle.charges.proofs.Walking.{keep-hit, keep-miss}
 use Rattle.profile.specs.declared.Profile.{Profile}
 use Rattle.profile.specs.Shows.{Shows, LoadAdded, CanAdd}
 use Rattle.profile.proofs.Shown.{added-shows}
@@ -94,13 +95,13 @@ begunBelow before c i = begunCharges before (tabulate (chargeAt c) i 0)
 
 module _ (before : ℕ) (c : Charges) (i : ℕ) {clock : ℕ} {p : Profile} (s : Shows p clock (loadsOf (begunBelow before c i))) where
   pub begun-can-add :
-      {time rate : ℕ} → c .held ≤ 180 → chargeAt c i .start + time < 2 ^ 32 → IsRate rate → i < c .held → CanAdd p time rate (chargeAt c i .start)
+      {time rate : ℕ} → c .held ≤ places → chargeAt c i .start + time < 2 ^ 32 → IsRate rate → i < c .held → CanAdd p time rate (chargeAt c i .start)
   begun-can-add {time} {rate} few fits rated low =
       shown-can-add s time rate (chargeAt c i .start)
       (omega (
         arith,
         length-loads-of (begunBelow before c i),
-        keep-length (isBegun before) (tabulate (chargeAt c) i 0),
+        length-keep (isBegun before) (tabulate (chargeAt c) i 0),
         length-tabulate (chargeAt c) i 0,
       ))
       rated fits

@@ -3,6 +3,7 @@ use mathlib.Core.Path.{_≡_}
 use Prim.Native.Nat.{ℕ, _*_, max, _+_, _≤_}
 use mathlib.Core.List.{List, _++_}
 use lib.ListN.{length}
+use Rattle.rules.specs.Calls.{places}
 use Rattle.rules.specs.Basics.{Each}
 use Rattle.rules.specs.Load.{lastUntil}
 use Rattle.rules.specs.Charge.{Charge, loadsOf}
@@ -21,12 +22,12 @@ Missing t placed = Each (λ x. x .ticket ≡ t → ⊥) placed
 pub record PlanShown (clock : ℕ) (c : Charges) (placed : List Charge) (p : Profile) (byPlace : List ℕ) : Type 0 where
   pub shows : Shows p clock (loadsOf (begunOf clock c ++ placed))
   pub stored : Stored c byPlace placed
-  pub size : length byPlace ≡ 180
+  pub size : length byPlace ≡ places
   pub ends : max clock (lastUntil (loadsOf (begunOf clock c ++ placed))) ≤ 100001445 + 1445 * length placed
 
 -- every waiting charge is placed, as the rules place them
 pub record AllPlaced (result : Placed) (clock : ℕ) (c : Charges) (p : Profile) (byPlace : List ℕ) : Type 0 where
   pub placed : List Charge
   pub gives : result ≡ all placed
-  pub few : length (begunOf clock c) + length placed ≤ 180
+  pub few : length (begunOf clock c) + length placed ≤ places
   pub plan : PlanShown clock c placed p byPlace

@@ -1,6 +1,7 @@
 -- What the planners ask of the station.
 use Prim.Native.Nat.{ℕ, _^_, _≤_, _<_}
 use mathlib.Core.List.{List}
+use Rattle.rules.specs.Calls.{places}
 use Rattle.rules.specs.Load.{IsRate}
 use Rattle.rules.specs.Charge.{Charge, endOf, activeUntil, begunCharges}
 use Rattle.charges.specs.declared.Charges.{Charges}
@@ -28,7 +29,7 @@ Rated c = (i : ℕ) → i < c .held → IsRate (chargeAt c i .rate)
 
 -- charges that a profile takes, all of them with a start below the largest number of 32 bits
 pub record Profiled (c : Charges) : Type 0 where
-  pub few : c .held ≤ 180
+  pub few : c .held ≤ places
   pub ends : EndsFit c
   pub rated : Rated c
   pub below : (i : ℕ) → i < c .held → chargeAt c i .start < 4294967295

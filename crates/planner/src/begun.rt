@@ -3,6 +3,7 @@ use charges::Charges;
 use profile::Profile;
 use profile::loads::add;
 ghost use Prim.Native.Nat.{_≤_};
+ghost use Rattle.rules.specs.Calls.{places};
 ghost use Rattle.rules.specs.Charge.{begunCharges, loadsOf};
 ghost use Rattle.charges.specs.Arrays.{chargesOf};
 ghost use Rattle.profile.specs.Shows.{Shows};
@@ -10,7 +11,7 @@ ghost use Rattle.planner.specs.Ready.{EndsFit, Rated};
 
 // The profile, from the clock on, of the charges with a start below `before`: of the begun ones, where that is the clock.
 pub fn profile_before(charges: Charges, clock: u32, before: u32) -> Profile
-    requires { ⌜ (charges .held ≤ 180) × EndsFit charges × Rated charges ⌝ }
+    requires { ⌜ (charges .held ≤ places) × EndsFit charges × Rated charges ⌝ }
     ensures { λ r. ⌜ Shows r clock (loadsOf (begunCharges before (chargesOf charges))) ⌝ }
 {
     let n = charges.held;

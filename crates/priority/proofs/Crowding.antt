@@ -5,6 +5,7 @@ use Prim.Native.Nat.{ℕ, zero, suc, _+_, _*_, min, _≤_, _<_}
 use mathlib.Core.List.{List}
 use native.Mathlib.Omega.{arith}
 use native.Mathlib.Numerals.{add-one}
+use Rattle.rules.specs.Calls.{places}
 use Rattle.rules.proofs.Ranges.{below-or-not}
 use Rattle.priority.specs.declared.crowd.Span.{Span}
 use Rattle.priority.specs.declared.crowd.Crowd.{Crowd}
@@ -118,7 +119,7 @@ crowd-none e =
     }
 
 module _ {q : Numbers} {left : List ℕ} {n k : ℕ} {c : Crowd} (range : InRange q left n) (w : CrowdOf q left k c) (more : k < n) where
-  pub crowd-fits : (c .number < 180) × (c .total ≤ 260100)
+  pub crowd-fits : (c .number < places) × (c .total ≤ 260100)
   crowd-fits = (
     omega (arith, w .number, range .can-fit .few),
     omega (arith, w .total, sum-most (numberOf (q .times) left) n k (λ j h. range .short j h .1) (omega arith), range .can-fit .few),

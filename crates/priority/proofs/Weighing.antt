@@ -10,15 +10,16 @@ use native.Mathlib.Nat.{le-of-lt, lt-of-le-of-lt, mul-le-mul, mul-le-mul-left, m
 use lib.Ieee.Nearest.{div-mono}
 use lib.Pow.{pow-pos, pow-add}
 use lib.Seq.{ext-getD}
+use Rattle.rules.specs.Calls.{places}
 use Rattle.rules.specs.Priority.{fading, weights, weightOf, keepsTheRule}
 use Rattle.rules.proofs.Ranges.{below-or-not}
 use Rattle.rules.proofs.Weights.{keeps-rule, weights-table, weight-within, weight-beyond, table-weight}
 
 -- 256 × m × n
-pub scaled-fits : {m n : ℕ} → m ≤ 2000000 → n ≤ 180 → 256 * m * n < 2 ^ 64
+pub scaled-fits : {m n : ℕ} → m ≤ 2000000 → n ≤ places → 256 * m * n < 2 ^ 64
 scaled-fits {m} {n} h j =
     let more : 256 * m ≤ 512000000 = omega arith in
-    let most : 256 * m * n ≤ 512000000 * 180 = mul-le-mul more j in
+    let most : 256 * m * n ≤ 512000000 * places = mul-le-mul more j in
     omega (arith, most)
 
 pub no-slack : (m n p : ℕ) → m ≡ 0 → 256 * m * n / p ≡ 0

@@ -6,6 +6,7 @@ use mathlib.Core.Bool.{Bool, true, false, cond}
 use mathlib.Core.List.{List}
 use lib.Dec.{leb, eqb}
 use lib.ListN.{getD}
+use Rattle.rules.specs.Calls.{places}
 use Rattle.rules.specs.Priority.{weightOf}
 use Rattle.priority.specs.Numbers.{Numbers, numberOf, InRange}
 use Rattle.priority.specs.declared.crowd.Crowd.{Crowd}
@@ -26,10 +27,10 @@ weightAt q left c start j =
 
 -- what weighing the j-th charge asks
 pub record CanWeigh (q : Numbers) (left : List ℕ) (c : Crowd) (j : ℕ) : Type 0 where
-  pub low : j < 180
-  pub inside : getD left j 0 < 180
+  pub low : j < places
+  pub inside : getD left j 0 < places
   pub due-most : numberOf (q .dues) left j ≤ 2000000
-  pub number-most : c .number ≤ 180
+  pub number-most : c .number ≤ places
   pub total-low : 1 ≤ c .total
 
 pub record WeighedAt (q : Numbers) (left : List ℕ) (c : Crowd) (start j : ℕ) (r : Weighed) : Type 0 where
@@ -49,7 +50,7 @@ pub record FirstFitting (q : Numbers) (left : List ℕ) (n one two from r : ℕ)
 -- the charges are in the order of d − p, and none is below the shortest
 pub record CanChoose (q : Numbers) (left : List ℕ) (n : ℕ) (c : Crowd) : Type 0 where
   pub range : InRange q left n
-  pub number-most : c .number ≤ 180
+  pub number-most : c .number ≤ places
   pub total-low : 1 ≤ c .total
   pub shortest-low : (j : ℕ) → j < n → c .shortest ≤ numberOf (q .times) left j
   pub in-order :

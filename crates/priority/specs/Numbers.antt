@@ -3,6 +3,7 @@ use Prim.Native.Nat.{ℕ, _≤_, _<_}
 use mathlib.Core.List.{List, []}
 use lib.ListN.{getD}
 use denote.Ref.{RefT}
+use Rattle.rules.specs.Calls.{places}
 use Rattle.rules.specs.Load.{IsRate}
 
 pub record Numbers : Type 0 where
@@ -30,8 +31,8 @@ ShortTimes times left n = (j : ℕ) → j < n → (1 ≤ numberOf times left j) 
 
 -- the places are those of arrays
 pub record CanFit (left : List ℕ) (n : ℕ) : Type 0 where
-  pub few : n ≤ 180
-  pub inside : (j : ℕ) → j < n → getD left j 0 < 180
+  pub few : n ≤ places
+  pub inside : (j : ℕ) → j < n → getD left j 0 < places
 
 -- and the numbers of the first n charges are in range
 pub record InRange (q : Numbers) (left : List ℕ) (n : ℕ) : Type 0 where

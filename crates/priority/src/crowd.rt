@@ -5,6 +5,7 @@ use crate::columns::RATES;
 use crate::columns::TIMES;
 use charges::PLACES;
 ghost use Prim.Native.Nat.{_≤_, _<_};
+ghost use Rattle.rules.specs.Calls.{places};
 ghost use Rattle.priority.specs.Numbers.{numbersIn, InRange};
 ghost use Rattle.priority.specs.Crowds.{Widened, Joined, CrowdOf, Narrowed};
 
@@ -51,7 +52,7 @@ fn widened(span: Span, time: u32) -> Span
 
 // One more charge.
 fn joined(crowd: Crowd, time: u32, active_time: u32, rate: u32) -> Crowd
-    requires { ⌜ (crowd .number < 180) × (crowd .total ≤ 260100) × (time ≤ 1445) ⌝ }
+    requires { ⌜ (crowd .number < places) × (crowd .total ≤ 260100) × (time ≤ 1445) ⌝ }
     ensures { λ r. ⌜ Joined crowd time «active_time» rate r ⌝ }
 {
     let number = crowd.number + 1;

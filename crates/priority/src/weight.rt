@@ -1,6 +1,7 @@
 // What a charge weighs at a start.
 ghost use mathlib.Core.Path.{_≡_};
 ghost use Prim.Native.Nat.{_+_, _-_, _*_, _/_, _≤_};
+ghost use Rattle.rules.specs.Calls.{places};
 ghost use Rattle.rules.specs.Priority.{weights as weightsOf, weightOf};
 
 // "and the weight is 0 beyond"
@@ -32,7 +33,7 @@ pub fn urgency<'a>(
     number: u32,
     total: u32,
 ) -> u32
-    requires { ⌜ (now weights ≡ weightsOf) × (due ≤ 2000000) × (number ≤ 180) × (1 ≤ total) ⌝ }
+    requires { ⌜ (now weights ≡ weightsOf) × (due ≤ 2000000) × (number ≤ places) × (1 ≤ total) ⌝ }
     ensures { λ r. ⌜ (r ≡ weightOf (256 * (due - (start + time)) * number / total)) × (r ≤ 1073741824) ⌝ }
 {
     let m = slack(due, start, time);

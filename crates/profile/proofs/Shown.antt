@@ -5,6 +5,7 @@ use mathlib.Core.Bool.{Bool}
 use mathlib.Core.List.{List, [], _∷_}
 use native.Mathlib.Omega.{arith}
 use lib.ListN.{length, getD, length-append}
+use Rattle.rules.specs.Calls.{places}
 use Rattle.rules.specs.Basics.{Each}
 use Rattle.rules.specs.Load.{Draw, draw, Load, loadFrom, IsLine, IsRate, draws, count, counts, lastUntil}
 use Rattle.rules.specs.Search.{added}
@@ -67,12 +68,12 @@ pub count-few : (xs : List Load) → Each Rated xs → (l t : ℕ) → count xs 
 count-few [] e l t = omega arith
 count-few (x ∷ xs) e l t = omega (arith, e .0 .high, draws-most x l t, count-few xs (e .1) l t)
 
-pub shows-small : (p : Profile) (clock : ℕ) (loads : List Load) → Shows p clock loads → length loads ≤ 180 → Small p
+pub shows-small : (p : Profile) (clock : ℕ) (loads : List Load) → Shows p clock loads → length loads ≤ places → Small p
 shows-small p clock loads s few l hl t a = omega (arith, s .counted l hl t (omega (arith, s .starts)), count-few loads (s .rated) l t)
 
 -- a profile of fewer than 180 loads meets what one more asks
 pub can-add :
-    (p : Profile) (clock : ℕ) (loads : List Load) (time rate start : ℕ) → Shows p clock loads → length loads < 180 → IsRate rate → start + time < 2 ^ 32 →
+    (p : Profile) (clock : ℕ) (loads : List Load) (time rate start : ℕ) → Shows p clock loads → length loads < places → IsRate rate → start + time < 2 ^ 32 →
     CanAdd p time rate start
 can-add p clock loads time rate start s few is-rate fit =
     record {

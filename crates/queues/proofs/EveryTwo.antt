@@ -5,6 +5,7 @@ use mathlib.Core.Bool.{Bool, true, false, cond}
 use mathlib.Core.List.{List, [], _∷_}
 use native.Mathlib.Omega.{arith}
 use Rattle.rules.specs.Basics.{Each, tabulate, keep}
+use Rattle.rules.proofs.Ranges.{along}
 use Rattle.rules.proofs.Lists.{each-map, keep-each, each-tabulate, tabulate-each}
 use Rattle.rules.proofs.Sorting.{InOrder}
 
@@ -41,15 +42,9 @@ two-at R g (suc n) a e zero (suc j) h l =
   where
     nothing : (a : ℕ) → a + 0 ≡ a
     nothing a = omega arith
-
-    along : (a j : ℕ) → a + suc j ≡ suc a + j
-    along a j = omega arith
 two-at R g (suc n) a e (suc i) zero h l = absurd (omega arith)
 two-at R g (suc n) a e (suc i) (suc j) h l =
     rw (along a i, along a j) (two-at R g n (suc a) (e .1) i j (omega arith) (omega arith))
-  where
-    along : (a j : ℕ) → a + suc j ≡ suc a + j
-    along a j = omega arith
 
 -- from the first place on
 pub two-places :

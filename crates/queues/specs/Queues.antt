@@ -7,6 +7,7 @@ use lib.Dec.{eqb}
 use lib.IntN.{subℕ}
 use lib.Signed.{leZ}
 use lib.ListN.{length, getD}
+use Rattle.rules.specs.Calls.{places}
 use Rattle.rules.specs.Basics.{tabulate}
 use Rattle.rules.specs.Charge.{Charge}
 use Rattle.charges.specs.declared.Charges.{Charges}
@@ -26,11 +27,12 @@ notAfter dues times a b = leZ (subℕ (getD dues a 0) (getD times a 0)) (subℕ 
 abbrev pub isOnLine : List ℕ → ℕ → ℕ → Bool
 isOnLine lines line i = eqb (getD lines i 0) line
 
--- b is a without the j-th of its first n
+-- b is a without the j-th of its first n: those behind it have moved up by one, and from the last of them on all is as it was
 pub record Removed (a b : List ℕ) (n j : ℕ) : Type 0 where
-  pub full : length b ≡ 180
+  pub full : length b ≡ places
   pub before : (k : ℕ) → k < j → getD b k 0 ≡ getD a k 0
   pub after : (k : ℕ) → j ≤ k → k + 1 < n → getD b k 0 ≡ getD a (k + 1) 0
+  pub rest : (k : ℕ) → n ≤ k + 1 → getD b k 0 ≡ getD a k 0
 
 -- places of held charges, no place twice
 pub record PlacesIn (c : Charges) (p : Places) : Type 0 where

@@ -4,6 +4,7 @@ use charges::places::Places;
 ghost use mathlib.Core.Path.{_≡_};
 ghost use Prim.Native.Nat.{_<_, _≤_};
 ghost use lib.ListN.{length};
+ghost use Rattle.rules.specs.Calls.{places};
 ghost use Rattle.rules.specs.Basics.{keep};
 ghost use Rattle.charges.specs.Places.{placesOf, Inside, Lists};
 ghost use Rattle.queues.specs.Queues.{Removed, isOnLine};
@@ -27,13 +28,13 @@ pub fn on_line(queue: Places, lines: &[u32; PLACES], line: u32) -> Places
 }
 
 // The first n places without the j-th: those behind it move up by one.
-pub fn remove(places: &mut [usize; PLACES], n: usize, j: usize)
-    requires { ⌜ (length (now places) ≡ 180) × (n ≤ 180) × (j < n) ⌝ }
-    ensures { λ r. ⌜ Removed (now (places .entry)) (now (places .exit)) n j ⌝ }
+pub fn remove(list: &mut [usize; PLACES], n: usize, j: usize)
+    requires { ⌜ (length (now list) ≡ places) × (n ≤ places) × (j < n) ⌝ }
+    ensures { λ r. ⌜ Removed (now (list .entry)) (now (list .exit)) n j ⌝ }
 {
     let mut k = j + 1;
     while k < n {
-        places[k - 1] = places[k];
+        list[k - 1] = list[k];
         k += 1;
     }
 }

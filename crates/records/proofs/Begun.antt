@@ -6,6 +6,7 @@ use mathlib.Core.List.{List}
 use native.Mathlib.Omega.{arith}
 use lib.ListN.{length, getD, set, replicate, length-replicate}
 use lib.Seq.{getD-set-other}
+use Rattle.rules.specs.Calls.{places}
 use Rattle.rules.proofs.Ranges.{below-or-not}
 use Rattle.charges.proofs.Storing.{zeros}
 use Rattle.layout.specs.Lists.{listed}
@@ -80,7 +81,7 @@ begun-all r h z = filling-all (begun-skip r 4572 h z .filling) (omega arith)
 
 -- Rows
 
-module _ {f : ℕ → ℕ} {column : List ℕ} {held j byte : ℕ} (w : RowOf f column held j byte) (few : held ≤ 180) (inside : j < 20) where
+module _ {f : ℕ → ℕ} {column : List ℕ} {held j byte : ℕ} (w : RowOf f column held j byte) (few : held ≤ places) (inside : j < 20) where
   -- the byte of one record more
   pub row-more :
       {q : ℕ} {xs : List ℕ}

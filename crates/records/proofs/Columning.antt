@@ -11,7 +11,7 @@ use lib.Seq.{getD-set-same, getD-set-other}
 use borrow.Author.Tests.{leb-true, le-leb, lt-leb}
 use Rattle.rules.specs.Charge.{Charge}
 use Rattle.rules.specs.Basics.{tabulate}
-use Rattle.rules.specs.Calls.{State, boundOf, nearestHundreds}
+use Rattle.rules.specs.Calls.{places, State, boundOf, nearestHundreds}
 use Rattle.rules.proofs.Ranges.{and-left, and-right, below-or-not}
 use Rattle.rules.proofs.Lists.{tabulate-same}
 use Rattle.charges.specs.declared.Charges.{Charges}
@@ -24,14 +24,14 @@ use Rattle.validity.proofs.Ranging.{Ranged, ranged, product-fits, valid-ranged}
 use Rattle.records.specs.Contents.{recordIn, fieldIn, chargeFrom, stateFrom, headerRight}
 use Rattle.records.specs.Columns.{ColumnTo, HoldsFrom, ReadFrom}
 
-pub column-none : (f : ℕ → ℕ) → ColumnTo f 0 (replicate 180 0)
+pub column-none : (f : ℕ → ℕ) → ColumnTo f 0 (replicate places 0)
 column-none f = record { filled = filled-none; each = λ i h. absurd (omega arith) }
 
-pub filled-by-none : (held : ℕ) → Filled held (replicate 180 0)
-filled-by-none held = record { full = length-replicate {A = ℕ} 180 0; clear = λ i l. zeros 180 i }
+pub filled-by-none : (held : ℕ) → Filled held (replicate places 0)
+filled-by-none held = record { full = length-replicate {A = ℕ} places 0; clear = λ i l. zeros places i }
 
 pub column-more :
-    {f : ℕ → ℕ} {q : ℕ} {xs : List ℕ} → ColumnTo f q xs → (v : ℕ) → q < 180 → v ≡ f q → ColumnTo f (q + 1) (set xs q v)
+    {f : ℕ → ℕ} {q : ℕ} {xs : List ℕ} → ColumnTo f q xs → (v : ℕ) → q < places → v ≡ f q → ColumnTo f (q + 1) (set xs q v)
 column-more {f} {q} {xs} r v h e =
     record {
       filled = filled-set q v xs (r .filled);
@@ -65,7 +65,7 @@ pub joining-more :
     → Joining contents before held j q column
     → (b : ℕ)
     → q < held
-    → held ≤ 180
+    → held ≤ places
     → b ≡ recordIn contents q j
     → b < 256
     → Joining contents before held j (q + 1) (set column q (256 * getD column q 0 + b))
@@ -114,7 +114,7 @@ chargesWith held ticketsC linesC ordersC timesC activesC duesC startsC ratesC =
       rates = ratesC;
     }
 
-module _ (xs : List ℕ) (held tail : ℕ) (few : held ≤ 180) where
+module _ (xs : List ℕ) (held tail : ℕ) (few : held ≤ places) where
   pub holds-from :
       (tk ln om ti ac du st ra : List ℕ)
       → ColumnTo (fieldIn xs 0 4) held tk
@@ -146,13 +146,13 @@ module _ (xs : List ℕ) (held tail : ℕ) (few : held ≤ 180) where
 -- Block 0
 
 module _ (xs : List ℕ) (n : ℕ) (e : n ≡ headerAt xs 20) where
-  pub many-held : 180 < n → false ≡ headerRight xs
+  pub many-held : places < n → false ≡ headerRight xs
   unfolding headerRight
-  many-held h = rw (← e, lt-leb n 180 h)
+  many-held h = rw (← e, lt-leb n places h)
 
   pub header-is :
       (limit percent tail clock next : ℕ) (r : Bool)
-      → n ≤ 180
+      → n ≤ places
       → limit ≡ headerAt xs 0
       → percent ≡ headerAt xs 4
       → tail ≡ headerAt xs 8
@@ -161,19 +161,19 @@ module _ (xs : List ℕ) (n : ℕ) (e : n ≡ headerAt xs 20) where
       → r ≡ settingsValid limit percent tail clock next
       → r ≡ headerRight xs
   unfolding headerRight
-  header-is limit percent tail clock next r h a b c d f g = rw (← e, le-leb n 180 h, ← a, ← b, ← c, ← d, ← f) g
+  header-is limit percent tail clock next r h a b c d f g = rw (← e, le-leb n places h, ← a, ← b, ← c, ← d, ← f) g
 
 module _ (xs : List ℕ) (right : headerRight xs ≡ true) where
-  pub held-few : headerAt xs 20 ≤ 180
+  pub held-few : headerAt xs 20 ≤ places
   unfolding headerRight
   held-few =
-      leb-true (headerAt xs 20) 180
-      (and-left (leb (headerAt xs 20) 180) (settingsValid (headerAt xs 0) (headerAt xs 4) (headerAt xs 8) (headerAt xs 12) (headerAt xs 16)) right)
+      leb-true (headerAt xs 20) places
+      (and-left (leb (headerAt xs 20) places) (settingsValid (headerAt xs 0) (headerAt xs 4) (headerAt xs 8) (headerAt xs 12) (headerAt xs 16)) right)
 
   pub settings-right : settingsValid (headerAt xs 0) (headerAt xs 4) (headerAt xs 8) (headerAt xs 12) (headerAt xs 16) ≡ true
   unfolding headerRight
   settings-right =
-      and-right (leb (headerAt xs 20) 180) (settingsValid (headerAt xs 0) (headerAt xs 4) (headerAt xs 8) (headerAt xs 12) (headerAt xs 16)) right
+      and-right (leb (headerAt xs 20) places) (settingsValid (headerAt xs 0) (headerAt xs 4) (headerAt xs 8) (headerAt xs 12) (headerAt xs 16)) right
 
   pub header-ranged : Ranged (headerAt xs 0) (headerAt xs 4) (headerAt xs 8) (headerAt xs 12) (headerAt xs 16)
   header-ranged =

@@ -6,7 +6,7 @@ use lib.Dec.{leb}
 use lib.ListN.{getD}
 use Rattle.rules.specs.Basics.{tabulate}
 use Rattle.rules.specs.Charge.{Charge}
-use Rattle.rules.specs.Calls.{State, boundOf}
+use Rattle.rules.specs.Calls.{places, State, boundOf}
 use Rattle.charges.specs.Arrays.{charge}
 use Rattle.layout.specs.Lists.{listed}
 use Rattle.layout.specs.Bytes.{numberAt}
@@ -54,5 +54,5 @@ stateFrom contents =
 -- the number of charges and the settings pass their tests
 unfoldable pub headerRight : List ℕ → Bool
 headerRight contents =
-    leb (headerAt contents 20) 180
+    leb (headerAt contents 20) places
     && settingsValid (headerAt contents 0) (headerAt contents 4) (headerAt contents 8) (headerAt contents 12) (headerAt contents 16)

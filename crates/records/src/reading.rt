@@ -11,13 +11,14 @@ ghost use mathlib.Core.Path.{_≡_};
 ghost use mathlib.Core.Bool.{true};
 ghost use Prim.Native.Nat.{ℕ, _+_, _<_, _≤_};
 ghost use lib.ListN.{length, getD};
+ghost use Rattle.rules.specs.Calls.{places};
 ghost use Rattle.charges.specs.Arrays.{Filled};
 ghost use Rattle.records.specs.Contents.{headerRight};
 ghost use Rattle.records.specs.Columns.{RowJoined, ColumnRead, ColumnTo, HoldsFrom, ReadFrom};
 
 // Byte j of the records joined to the numbers of a column, as their lowest byte.
 fn join_row(column: &mut [u32; PLACES], contents: &[u8], held: usize, j: usize)
-    requires { ⌜ (held ≤ 180) × (j < 20) × (length (now contents) ≡ 4572) × Filled held (now column) × ((q : ℕ) → q < held → getD (now column) q 0 < 16777216) ⌝ }
+    requires { ⌜ (held ≤ places) × (j < 20) × (length (now contents) ≡ 4572) × Filled held (now column) × ((q : ℕ) → q < held → getD (now column) q 0 < 16777216) ⌝ }
     ensures { λ r. ⌜ RowJoined (now (contents .entry)) held j (now (column .entry)) (now (column .exit)) ⌝ }
 {
     for q in 0..held {
@@ -28,7 +29,7 @@ fn join_row(column: &mut [u32; PLACES], contents: &[u8], held: usize, j: usize)
 
 // The column of a field of `width` bytes: 0 behind the records held.
 fn read_column(contents: &[u8], held: usize, from: usize, width: usize) -> [u32; PLACES]
-    requires { ⌜ (held ≤ 180) × (from + width ≤ 20) × (width ≤ 4) × (length (now contents) ≡ 4572) ⌝ }
+    requires { ⌜ (held ≤ places) × (from + width ≤ 20) × (width ≤ 4) × (length (now contents) ≡ 4572) ⌝ }
     ensures { λ r. ⌜ ColumnRead (now (contents .entry)) from width held r ⌝ }
 {
     let mut column = [0u32; PLACES];
@@ -42,7 +43,7 @@ fn read_column(contents: &[u8], held: usize, from: usize, width: usize) -> [u32;
 
 // p + r of each record held.
 fn with_tail<'a>(times: &'a [u32; PLACES], held: usize, tail: u32) -> [u32; PLACES]
-    requires { ⌜ (held ≤ 180) × (tail ≤ 5) × ((q : ℕ) → q < held → getD (now times) q 0 < 65536) ⌝ }
+    requires { ⌜ (held ≤ places) × (tail ≤ 5) × ((q : ℕ) → q < held → getD (now times) q 0 < 65536) ⌝ }
     ensures { λ r. ⌜ ColumnTo (λ q. getD (now (times .entry)) q 0 + tail) held r ⌝ }
 {
     let mut column = [0u32; PLACES];
@@ -71,7 +72,7 @@ pub fn header_right(contents: &[u8]) -> bool
 
 // The charges that the contents would be of.
 fn read_charges(contents: &[u8], held: usize, tail: u32) -> Charges
-    requires { ⌜ (held ≤ 180) × (tail ≤ 5) × (length (now contents) ≡ 4572) ⌝ }
+    requires { ⌜ (held ≤ places) × (tail ≤ 5) × (length (now contents) ≡ 4572) ⌝ }
     ensures { λ r. ⌜ HoldsFrom (now (contents .entry)) held tail r ⌝ }
 {
     let tickets = read_column(contents, held, 0, 4);

@@ -8,6 +8,7 @@ use station::Station;
 ghost use mathlib.Core.Path.{_≡_};
 ghost use Prim.Native.Nat.{_+_, _<_, _≤_};
 ghost use lib.ListN.{length};
+ghost use Rattle.rules.specs.Calls.{places};
 ghost use Rattle.charges.specs.Arrays.{Columns};
 ghost use Rattle.station.specs.View.{view};
 ghost use Rattle.records.specs.Contents.{contentsOf};
@@ -27,7 +28,7 @@ fn put_header<'a>(header: &'a [u32; HEADER], contents: &mut [u8])
 
 // A byte of each number of a column, as byte j of the records.
 fn put_row<'a>(column: &'a [u32; PLACES], held: usize, j: usize, byte: usize, contents: &mut [u8])
-    requires { ⌜ (held ≤ 180) × (j < 20) × (byte < 4) × (length (now contents) ≡ 4572) ⌝ }
+    requires { ⌜ (held ≤ places) × (j < 20) × (byte < 4) × (length (now contents) ≡ 4572) ⌝ }
     ensures { λ r. ⌜ RowPut (now (column .entry)) held j byte (now (contents .entry)) (now (contents .exit)) ⌝ }
 {
     for q in 0..held {
@@ -38,7 +39,7 @@ fn put_row<'a>(column: &'a [u32; PLACES], held: usize, j: usize, byte: usize, co
 
 // A column of 32-bit numbers, as four bytes of the records.
 fn put_column<'a>(column: &'a [u32; PLACES], held: usize, from: usize, contents: &mut [u8])
-    requires { ⌜ (held ≤ 180) × (from + 4 ≤ 20) × (length (now contents) ≡ 4572) ⌝ }
+    requires { ⌜ (held ≤ places) × (from + 4 ≤ 20) × (length (now contents) ≡ 4572) ⌝ }
     ensures { λ r. ⌜ ColumnPut (now (column .entry)) held from (now (contents .entry)) (now (contents .exit)) ⌝ }
 {
     for byte in 0..4 {

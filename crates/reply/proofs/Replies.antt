@@ -1,35 +1,27 @@
 -- From what a call gives, and what is printed, to what a request is answered.
 use mathlib.Core.Path.{_≡_, refl, sym, ap, subst, _∙_}
 use mathlib.Core.List.{List, _++_}
-use Prim.Native.Nat.{ℕ, _+_, _*_, _≤_, min}
+use Prim.Native.Nat.{ℕ, _+_, _≤_, min}
 use native.Mathlib.Omega.{arith}
 use lib.ListN.{length, take, drop, replicate, length-replicate}
-use lib.Seq.{sets, sets-eq, take-at, drop-at}
+use lib.Seq.{sets, sets-eq, length-sets, take-at}
 use Rattle.rules.specs.Basics.{at}
-use Rattle.rules.specs.Calls.{State, Answer, Result, step}
+use Rattle.rules.specs.Calls.{State, Result}
 use Rattle.text.specs.Printed.{Printed}
+use Rattle.text.proofs.Printing.{printed-as}
 use Rattle.answers.specs.Answers.{answerText, listedOf}
-use Rattle.requests.specs.Requests.{readRequest, meaning, lentList, Lent, Asks}
+use Rattle.requests.specs.Requests.{Asked, readRequest, meaning, lentList, Fits, Lent, Asks}
 use Rattle.requests.specs.declared.request.Request.{Request}
 use Rattle.station.specs.declared.Station.{Station}
 use Rattle.calls.specs.declared.Call.{Call}
 use Rattle.calls.specs.declared.Call.the-variants.{Preview, Commit, Move, Offer, ReplanLatest, ReplanLines, Enquire, Board, Withdraw}
 use Rattle.calls.specs.declared.Answer as code
 use Rattle.station.specs.View.{view, Valid}
-use Rattle.station.specs.Answers.{Gives}
 use Rattle.calls.specs.Applied.{callOf, lends, answerOf, Applies}
-use Rattle.reply.specs.Reply.{told, numbersIn, reply, writtenBy, requestWritten, Replied, Lists, answered}
+use Rattle.reply.specs.Reply.{numbersIn, called, reply, writtenBy, placesOf, lentBy, saidText, Says, Replied, answered}
+use Rattle.reply.specs.declared.Reply as code-reply
+use Rattle.reply.specs.declared.Said.the-variants as said
 use Rattle.reply.proofs.Reports.{Reports, reports, few-reports, text-after}
-
-pub replied :
-    (numbers : ℕ) {r : Result} {a : Answer} {s : Station} {list before : List ℕ} {at : ℕ} {after : List ℕ} {next : ℕ}
-    → Gives r a s list → Printed (answerText a numbers list) before at after next → Replied (told numbers r) s before at after next
-replied numbers {r} {a} {s} {list} {before} {at} {after} {next} g p =
-    record {
-      state-is = ap (λ (x : Result). x .state) (g .result);
-      valid = g .valid;
-      printed = subst (λ (x : Result). Printed (answerText (x .answer) numbers (x .list)) before at after next) (g .result) p;
-    }
 
 -- a call reads the numbers that are lent to it, and where none are it is given none
 numbers-read : (c : Call) (ss list : List ℕ) (n places : ℕ) → Lent (lends c) n places → length ss ≤ n → numbersIn (callOf c ss list) ≡ length ss
@@ -53,23 +45,21 @@ module _ {s : Station} (c : Call) {ss list after : List ℕ} {a : code.Answer} {
   few-told : (listedOf (answerOf a) (length ss) ≤ 360) × (listedOf (answerOf a) (length ss) ≤ length list)
   few-told = few-reports (lends c) (listedOf (answerOf a) (length ss)) (length list) reports-so
 
-  -- what is printed of the list stands in it, and there is room for it
-  pub listed-inside : (asked : ℕ) {n : ℕ} → asked ≡ length ss → length list ≤ n → listedOf (answerOf a) asked ≤ n
-  listed-inside asked e h = rw e (omega (arith, few-told .1))
-
-  pub listed-room : (asked from : ℕ) {n : ℕ} → asked ≡ length ss → from + 7656 ≤ n → from + (96 + 21 * listedOf (answerOf a) asked) ≤ n
-  listed-room asked from e h = rw e (omega (arith, few-told .0))
-
-  -- a call is answered by what it gives, printed with the list that was lent to it
-  pub call-replied :
-      (n places asked : ℕ) {before : List ℕ} {at : ℕ} {out : List ℕ} {end : ℕ} → Lent (lends c) n places → length ss ≤ n → asked ≡ length ss
-      → Printed (answerText (answerOf a) asked after) before at out end
-      → Replied (told (numbersIn (callOf c ss list)) (step (view s) (callOf c ss list))) next before at out end
-  call-replied n places asked {before} {at} {out} {end} e h same q =
-      rw (numbers-read c ss list n places e h)
-      (replied (length ss) (p .gives)
-      (subst (λ (x : List ℕ). Printed x before at out end) (text-after (lends c) (answerOf a) (length ss) ss after (length list) reports-so)
-      (rw same at q)))
+  -- what is said to a call is what it gives, with the list that was lent to it at the front of a whole one
+  pub call-says :
+      (n places asked lent : ℕ) (whole : List ℕ) → Lent (lends c) n places → length ss ≤ n → asked ≡ length ss → take lent whole ≡ after
+      → lent ≤ length whole → length list ≤ lent
+      → Says (called (view s) (callOf c ss list)) (record { station = next; said = said.Call a asked lent }) whole
+  call-says n places asked lent whole e h same front room fill =
+      record {
+        state-is = ap (λ (x : Result). x .state) (p .gives .result);
+        valid = p .gives .valid;
+        text-is =
+            rw (front, same, numbers-read c ss list n places e h)
+            (text-after (lends c) (answerOf a) (length ss) ss after (length list) reports-so
+            ∙ ap (λ (x : Result). answerText (x .answer) (length ss) (x .list)) (p .gives .result));
+        fits = (room, (rw same (omega (arith, few-told .1)), rw same (few-told .0)));
+      }
 
 -- The lists that are lent
 
@@ -88,36 +78,48 @@ after-call s (Withdraw ticket) ss after n places e p = p .stays ∙ ap lentList 
 
 -- the lent front of the list as the call leaves it, and the rest of it as it was
 pub list-left :
-    {s : State} (c : Call) {ss after : List ℕ} (n places lent : ℕ) (list filled : List ℕ) {a : code.Answer} {next : Station}
-    → Lent (lends c) n places → filled ≡ replicate lent 4294967295 ++ drop lent list → length after ≡ lent → lent ≤ length list
-    → Applies s c ss (lentList places) after a next
-    → after ++ drop lent filled ≡ sets list 0 (writtenBy s (callOf c ss (lentList places)))
-list-left {s} c {ss} {after} n places lent list filled e f l h p =
-    let rest : drop lent filled ≡ drop lent list =
-    ap (drop lent) f ∙ drop-at (replicate lent 4294967295) (drop lent list) lent (length-replicate lent 4294967295) in
+    {s : State} (c : Call) {ss after : List ℕ} (n places lent : ℕ) (list : List ℕ) {a : code.Answer} {next : Station}
+    → Lent (lends c) n places → length after ≡ lent → lent ≤ length list → Applies s c ss (lentList places) after a next
+    → after ++ drop lent list ≡ sets list 0 (writtenBy s (callOf c ss (lentList places)))
+list-left {s} c {ss} {after} n places lent list e l h p =
     let put : sets list 0 after ≡ after ++ drop (0 + length after) list = sets-eq after list 0 (omega arith) in
     let size : 0 + length after ≡ lent = omega arith in
-    ap (λ (x : List ℕ). after ++ x) rest
-    ∙ sym (put ∙ ap (λ (x : ℕ). after ++ drop x list) size)
-    ∙ ap (sets list 0) (after-call s c ss after n places e p)
+    sym (put ∙ ap (λ (x : ℕ). after ++ drop x list) size) ∙ ap (sets list 0) (after-call s c ss after n places e p)
 
--- a request that was read so is answered so
-module _ (s : State) (text : List ℕ) {values numbers list : List ℕ} {l x : Request}
-    (a : Asks (readRequest text) values numbers list l) (e : l ≡ x) where
-  pub as-read :
-      {station : Station} {before : List ℕ} {at : ℕ} {after : List ℕ} {next : ℕ}
-      → Replied (reply s (meaning x list)) station before at after next → Replied (answered s text) station before at after next
-  unfolding answered
-  as-read h = rw (← (a .request-is), e) h
+-- The list as it is filled for a request, and what stands at its front
 
-  pub as-listed :
-      {written after : List ℕ} → after ≡ sets written 0 (requestWritten s (meaning x list))
-      → Lists values (requestWritten s (readRequest text)) numbers list written after
-  as-listed h = record { numbers-are = a .list-is; list-is = rw (← (a .request-is), e) h }
+pub filled-lent :
+    (lent places : ℕ) (list filled : List ℕ) → lent ≡ min places 4096 → lent ≤ length list → filled ≡ replicate lent 4294967295 ++ drop lent list
+    → filled ≡ sets list 0 (lentList places)
+filled-lent lent places list filled e h f =
+    let size : 0 + length (lentList places) ≡ lent = omega (arith, length-replicate {A = ℕ} (min places 4096) 4294967295) in
+    f ∙ ap (λ (n : ℕ). replicate n 4294967295 ++ drop lent list) e
+    ∙ ap (λ (n : ℕ). lentList places ++ drop n list) (sym size)
+    ∙ sym (sets-eq (lentList places) list 0 (omega arith))
 
-pub lent-front :
-    (lent places : ℕ) (list filled : List ℕ) → lent ≡ min places 4096 → filled ≡ replicate lent 4294967295 ++ drop lent list
-    → take lent filled ≡ lentList places
-lent-front lent places list filled e f =
-    ap (take lent) f ∙ take-at (replicate lent 4294967295) (drop lent list) lent (length-replicate lent 4294967295)
-    ∙ ap (λ (n : ℕ). replicate n 4294967295) e
+front-lent : (r : Request) (list : List ℕ) → 4096 ≤ length list → take (length (lentBy r)) (sets list 0 (lentBy r)) ≡ lentBy r
+front-lent r list h =
+    let size : length (lentBy r) ≤ 4096 = omega (arith, length-replicate {A = ℕ} (min (placesOf r) 4096) 4294967295) in
+    ap (take (length (lentBy r))) (sets-eq (lentBy r) list 0 (omega arith))
+    ∙ take-at (lentBy r) (drop (0 + length (lentBy r)) list) (length (lentBy r)) refl
+
+-- what `reply_request` asks for, from what `read` left
+pub can-reply :
+    {s : Station} {asked : Asked} {values numbers after filled : List ℕ} {r : Request} (list : List ℕ) → Valid s → 2048 ≤ length after → 4096 ≤ length list
+    → Asks asked values numbers after r → filled ≡ sets list 0 (lentBy r)
+    → Valid s × ((2048 ≤ length after) × ((4096 ≤ length filled) × (Fits 2048 r × (take (length (lentBy r)) filled ≡ lentBy r))))
+can-reply {s} {asked} {values} {numbers} {after} {filled} {r} list v n l a e =
+    (v, (n, (omega (arith, ap length e, length-sets list 0 (lentBy r)), (a .fits, ap (take (length (lentBy r))) e ∙ front-lent r list l))))
+
+-- a request that was read so, and was replied to so, is answered so
+pub replied :
+    (s : State) (text : List ℕ) {values numbers after : List ℕ} {x : Request} {r : code-reply.Reply} {list before : List ℕ} {at : ℕ} {out : List ℕ} {next : ℕ}
+    → Asks (readRequest text) values numbers after x → Says (reply s (meaning x after)) r list → Printed (saidText (r .said) list) before at out next
+    → Replied (answered s text) (r .station) before at out next
+unfolding answered
+replied s text {values} {numbers} {after} {x} {r} {list} {before} {at} {out} {next} a h p =
+    record {
+      state-is = h .state-is ∙ ap (λ (y : Asked). reply s y .state) (a .request-is);
+      valid = h .valid;
+      printed = printed-as p (h .text-is ∙ ap (λ (y : Asked). reply s y .text) (a .request-is));
+    }

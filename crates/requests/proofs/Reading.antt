@@ -22,6 +22,7 @@ use Rattle.requests.specs.Requests.{
   numbers,
   wrong,
   taken,
+  AtMost,
   followed,
   readNumbers,
   before,
@@ -42,6 +43,7 @@ use Rattle.requests.specs.Requests.{
 use Rattle.requests.specs.declared.request.Reason.{Reason}
 use Rattle.requests.specs.declared.request.Reason.the-variants.{UnknownCall, MissingNumber, ExtraNumber, LineTooLong}
 use Rattle.requests.specs.declared.word.CallName.{CallName}
+use Rattle.requests.specs.declared.request.Takes.{Takes}
 use Rattle.requests.specs.declared.request.Takes.the-variants.{Between, NoCall}
 use Rattle.requests.specs.declared.request.Request as declared
 use Rattle.requests.specs.declared.request.Request.the-variants as asked
@@ -203,6 +205,12 @@ fits-more k asked.Nothing h f = tt
 fits-more k (asked.Open x) h f = tt
 fits-more k (asked.Call c from until places) h f = (f .0, (omega (arith, f .1 .0), f .1 .1))
 fits-more k (asked.Error reason) h f = tt
+
+-- what a name takes, by the least and the most
+pub takes-between :
+    {takes : Takes} {least most a b : ℕ} → takes ≡ Between a b → least ≡ a → most ≡ b → most ≤ 2048
+    → (Between least most ≡ takes) × AtMost 2048 (Between least most)
+takes-between e p q few = (rw (p, q) (sym e), few)
 
 -- a name that is none, numbers that are wrong, a call
 module _ (name : CallName) (words : List (List ℕ)) (list : List ℕ) where

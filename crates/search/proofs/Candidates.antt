@@ -13,10 +13,10 @@ use Rattle.rules.proofs.Ranges.{below-or-not}
 use Rattle.rules.proofs.Counts.{share-most, sound-all, sound-same, sound-few}
 use Rattle.rules.proofs.TestedStarts.{LookedTo, tested-fails, tested-passes, tested-told, tested-stops, tested-same, looked-bounds, counts-own}
 use Rattle.profile.specs.Steps.{mostSteps, In}
-use Rattle.profile.specs.Shows.{ofLines, lineOf, levelOf, lastMinute, mostDrawn}
+use Rattle.profile.specs.Shows.{ofLines, lineOf, levelOf, firstMinute, lastMinute, mostDrawn}
 use Rattle.profile.specs.declared.Profile.{Profile}
 use Rattle.profile.proofs.Lines.{each-line, sound-tests}
-use Rattle.profile.proofs.Levels.{level-in, at-step, in-more, rising-le}
+use Rattle.profile.proofs.Levels.{level-in, at-step, in-more, rising-le, step-from}
 use Rattle.profile.proofs.Adds.{small-step}
 use Rattle.search.specs.Rooms.{End}
 use Rattle.search.specs.Candidates.{limitsOf, drawOf, testedOf, fitsIn, CanTest, TestedAs, TestShows, CanFit, FailsBelow, FirstFitting}
@@ -54,8 +54,16 @@ test-begin y can same =
 
 module _ {p : Profile} {y : Limits} {a : Draw} {start step i t until : ℕ} (can : CanTest p a start step) (all : until ≡ start + a .time)
     (w : Testing p y a start until i t) where
-  pub test-inside : t < until → (i < p .steps) × (p .steps ≤ mostSteps) × (start ≤ t)
-  test-inside more = (w .here more .below, can .formed .fits, w .low)
+  pub test-inside : t < until → (i < p .steps) × (p .steps ≤ mostSteps) × (start ≤ t) × (firstMinute p ≤ t)
+  test-inside more = (w .here more .below, can .formed .fits, w .low, omega (arith, w .here more .begun, step-from (can .formed) (w .here more .below)))
+
+  -- each step ends after the minute that was looked at
+  pub test-moves : t < until → {end : ℕ} → End (p .at) (p .steps) i until end → t < end
+  test-moves more {end} q =
+      ⊎-elim
+      (λ c. let k = q .next c in omega (arith, w .here more .later (i + 1) (omega arith) (k .0), k .1))
+      (λ c. omega arith)
+      (below-or-not end until)
 
   pub test-small : t < until → (l : ℕ) → IsLine l → lineOf p l i ≤ mostDrawn
   test-small more l h = small-step p (can .formed) (can .small) l h i (w .here more .below)
@@ -96,11 +104,11 @@ module _ {p : Profile} {y : Limits} {a : Draw} {start step i t until : ℕ} (can
         last = omega (arith, w .low)
 
     -- it goes on with the next step
-    pub test-on : {end u : ℕ} → r ≡ true → End (p .at) (p .steps) i until end → u ≡ end → Testing p y a start until (i + 1) u
-    test-on {end} g q same =
-        rw same
+    pub test-on : {end u k : ℕ} → r ≡ true → End (p .at) (p .steps) i until end → u ≡ end → k ≡ i + 1 → Testing p y a start until k u
+    test-on {end} g q same next =
+        rw (same, next)
         (record {
-          low = ⊎-elim (λ c. absurd (back c)) (λ c. omega (arith, w .low)) (below-or-not end t);
+          low = omega (arith, w .low, test-moves more q);
           here = λ c.
               let k = q .next c in
               subst (λ (x : ℕ). In (p .at) (p .steps) (i + 1) x) (sym (k .1)) (at-step (p .at) (p .steps) (i + 1) (can .formed .rises) (k .0));
@@ -109,11 +117,6 @@ module _ {p : Profile} {y : Limits} {a : Draw} {start step i t until : ℕ} (can
       where
         within : (u : ℕ) → t ≤ u → u < end → In (p .at) (p .steps) i u
         within u b d = in-more u (can .formed .rises) (w .here more) b (λ h. omega (arith, q .within h))
-
-        back : end < t → ⊥
-        back c =
-            let k = q .next (omega arith) in
-            omega (arith, w .here more .later (i + 1) (omega arith) (k .0), k .1)
 
 -- What the answer says of the loads that a profile shows
 

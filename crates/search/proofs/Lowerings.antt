@@ -16,17 +16,21 @@ use Rattle.rules.proofs.Ranges.{below-or-not}
 use Rattle.profile.specs.Steps.{columns, lineIn}
 use Rattle.profile.proofs.Levels.{same-or-not}
 use Rattle.search.specs.Rooms.{hasRoom}
-use Rattle.search.specs.Caps.{capPlaces, capsOf, CapsShown, Level, Lowered, CapLowered, LoweredAt, Whole, CanCap}
+use Rattle.search.specs.Caps.{capPlaces, capsOf, CapsShown, Unlowered, Lowered, CapLowered, LoweredAt, Whole, CanCap}
 use Rattle.search.specs.declared.caps.LineCaps.{LineCaps}
 use Rattle.search.proofs.Rooms.{room-before, room-after, room-cond}
 
 pub past-end : (a : List ℕ) (l k : ℕ) → length a ≡ columns * capPlaces → IsLine l → capPlaces ≤ k → lineIn a l k ≡ 0
 past-end a l k h hl j = List·getD-eq-default a 0 (omega (arith, hl .low))
 
+-- the number of a line at a place
+pub place-read : (a : List ℕ) (l k : ℕ) {p x : ℕ} → x ≡ getD a p 0 → p ≡ columns * k + l - 1 → x ≡ lineIn a l k
+place-read a l k e same = e ∙ ap (λ (p : ℕ). getD a p 0) same
+
 -- A cap in every minute
 
-pub level-none : (a : List ℕ) → length a ≡ columns * capPlaces → ((k : ℕ) → k < columns * capPlaces → getD a k 0 ≡ 0) → Level 0 a
-level-none a h z =
+pub unlowered-none : (a : List ℕ) → length a ≡ columns * capPlaces → ((k : ℕ) → k < columns * capPlaces → getD a k 0 ≡ 0) → Unlowered 0 a
+unlowered-none a h z =
     record {
       size = h;
       each = λ k.
@@ -34,18 +38,18 @@ level-none a h z =
           ∙ sym (ap (λ (b : Bool). cond b 4294967295 0) (le-ltb k 0 (omega arith)));
     }
 
-pub level-more : {a : List ℕ} {n : ℕ} → Level n a → n < columns * capPlaces → Level (n + 1) (set a n 4294967295)
-level-more {a} {n} w h =
+pub unlowered-more : {a : List ℕ} {n v : ℕ} → Unlowered n a → n < columns * capPlaces → v ≡ 4294967295 → Unlowered (n + 1) (set a n v)
+unlowered-more {a} {n} {v} w h e =
     record {
-      size = length-set a n 4294967295 ∙ w .size;
+      size = length-set a n v ∙ w .size;
       each = λ k.
           ⊎-elim
           (λ q.
           rw q
-          (getD-set-same a n 4294967295 0 (omega (arith, w .size))
+          (getD-set-same a n v 0 (omega (arith, w .size)) ∙ e
           ∙ sym (ap (λ (b : Bool). cond b 4294967295 0) (lt-ltb n (n + 1) (omega arith)))))
           (λ ne.
-          getD-set-other a n k 4294967295 0 ne ∙ w .each k
+          getD-set-other a n k v 0 ne ∙ w .each k
           ∙ ap (λ (b : Bool). cond b 4294967295 0) (same k ne (below-or-not k n)))
           (same-or-not k n);
     }
@@ -54,17 +58,17 @@ level-more {a} {n} w h =
     same k ne (inl b) = lt-ltb k n b ∙ sym (lt-ltb k (n + 1) (omega arith))
     same k ne (inr b) = le-ltb k n b ∙ sym (le-ltb k (n + 1) (omega (arith, ne)))
 
-pub level-shown : (c : LineCaps) (n : ℕ) → Level (columns * (n + 1)) (c .caps) → CapsShown c (λ l t. n)
-level-shown c n w =
+pub unlowered-shown : (c : LineCaps) (n : ℕ) {m : ℕ} → Unlowered m (c .caps) → m ≡ columns * (n + 1) → CapsShown c (λ l t. n)
+unlowered-shown c n {m} w e =
     record {
       size = w .size;
       rooms = λ l h k t.
           ap (λ (x : ℕ). hasRoom x t) (w .each (columns * k + l - 1) ∙ ap (λ (b : Bool). cond b 4294967295 0) (same l h k (below-or-not n k))) ∙ room-cond (leb k n) t;
     }
   where
-    same : (l : ℕ) → IsLine l → (k : ℕ) → (n < k) ⊎ (k ≤ n) → ltb (columns * k + l - 1) (columns * (n + 1)) ≡ leb k n
-    same l h k (inl b) = le-ltb (columns * k + l - 1) (columns * (n + 1)) (omega (arith, h .low, h .high)) ∙ sym (lt-leb k n b)
-    same l h k (inr b) = lt-ltb (columns * k + l - 1) (columns * (n + 1)) (omega (arith, h .low, h .high)) ∙ sym (le-leb k n b)
+    same : (l : ℕ) → IsLine l → (k : ℕ) → (n < k) ⊎ (k ≤ n) → ltb (columns * k + l - 1) m ≡ leb k n
+    same l h k (inl b) = le-ltb (columns * k + l - 1) m (omega (arith, h .low, h .high)) ∙ sym (lt-leb k n b)
+    same l h k (inr b) = lt-ltb (columns * k + l - 1) m (omega (arith, h .low, h .high)) ∙ sym (le-leb k n b)
 
 -- A line of the list lowered
 

@@ -158,6 +158,6 @@ module _ {ats rooms : List ℕ} {n time start i s m k : ℕ} (c : CanSearch ats 
       }
 
 pub seek-done :
-    {ats rooms : List ℕ} {n time start i s : ℕ} → Seek ats rooms n time start i s →
-    ((t : ℕ) → s ≤ t → t < s + time → roomAt ats rooms n t ≡ true) → Least (roomAt ats rooms n) time start s
-seek-done w h = record { low = w .low; passes = h; failed = w .failed }
+    {ats rooms : List ℕ} {n time start i s r : ℕ} → Seek ats rooms n time start i s → r ≡ s →
+    ((t : ℕ) → s ≤ t → t < s + time → roomAt ats rooms n t ≡ true) → Least (roomAt ats rooms n) time start r × (r ≤ getD ats (n - 1) 0)
+seek-done w e h = rw e (record { low = w .low; passes = h; failed = w .failed }, w .high)

@@ -1,11 +1,11 @@
--- Three counts within limit and bound, by the largest and the smallest.
+-- Three counts within limit and bound, by the largest and the smallest, the room that they have, and what a load adds to them.
 use Prim.Native.Nat.{ℕ, _-_, _≤_, _<_, max, min}
-use mathlib.Core.Path.{_≡_, sym}
-use mathlib.Core.Bool.{false}
+use mathlib.Core.Path.{_≡_, sym, _∙_, ap}
+use mathlib.Core.Bool.{Bool, false, cond}
 use native.Mathlib.Omega.{arith}
-use borrow.Author.Tests.{le-leb, leb-true}
+use borrow.Author.Tests.{le-leb, leb-true, eq-eqb, ne-eqb}
 use lib.Dec.{leb}
-use Rattle.rules.specs.Load.{Limits, IsLine, soundCounts}
+use Rattle.rules.specs.Load.{Limits, IsLine, share, soundCounts}
 use Rattle.rules.proofs.Ranges.{same-test, fails}
 use Rattle.rules.proofs.Counts.{Sound, sound-at, sound-all}
 use Rattle.profile.specs.Shows.{ofLines}
@@ -46,3 +46,16 @@ module _ (y : Limits) (a b c high : ℕ) (top : high ≡ max a (max b c)) where
               s .balance 3 1 line-three line-one,
               s .balance 3 2 line-three line-two,
             )
+
+-- the room that goes by a test with the outcome v
+pub room-by-test :
+    (y : Limits) (a b c : ℕ) {test v : Bool} {r : ℕ} → test ≡ soundCounts y (ofLines a b c) → test ≡ v → r ≡ cond v 4294967295 0
+    → r ≡ cond (soundCounts y (ofLines a b c)) 4294967295 0
+room-by-test y a b c e h k = k ∙ ap (λ (x : Bool). cond x 4294967295 0) (sym h ∙ e)
+
+-- what one load of line i adds to the count of line l
+pub share-own : (i rate l : ℕ) {r : ℕ} → i ≡ l → r ≡ rate → r ≡ share i rate l
+share-own i rate l h e = e ∙ sym (ap (λ (b : Bool). cond b rate 0) (eq-eqb i l h))
+
+pub share-other : (i rate l : ℕ) {r : ℕ} → (i ≡ l → ⊥) → r ≡ 0 → r ≡ share i rate l
+share-other i rate l h e = e ∙ sym (ap (λ (b : Bool). cond b rate 0) (ne-eqb i l h))

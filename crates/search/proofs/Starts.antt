@@ -6,6 +6,7 @@ use mathlib.Core.List.{List}
 use mathlib.Core.Logic.{_⊎_, inl, inr, ⊎-elim}
 use native.Mathlib.Omega.{arith}
 use lib.ListN.{length}
+use Rattle.rules.specs.Calls.{places}
 use Rattle.rules.specs.Load.{draw, Load, loadFrom, limits, share, counts, lastUntil, soundCounts, sound}
 use Rattle.rules.specs.Search.{added, earliest}
 use Rattle.rules.proofs.Ranges.{fails, below-or-not, first-is, first-nothing}
@@ -124,7 +125,7 @@ module _ {p : Profile} {clock : ℕ} {loads : List Load} (s : Shows p clock load
       ∙ h .fails))
 
   -- a profile of loads meets what a search for a start asks
-  pub can-start : (time : ℕ) → length loads ≤ 180 → max clock (lastUntil loads) + time < 2 ^ 32 → CanStart p time
+  pub can-start : (time : ℕ) → length loads ≤ places → max clock (lastUntil loads) + time < 2 ^ 32 → CanStart p time
   can-start time few fit =
       record {
         formed = s .formed;

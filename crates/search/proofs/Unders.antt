@@ -17,12 +17,12 @@ use Rattle.profile.specs.Steps.{mostSteps, In}
 use Rattle.profile.specs.Shows.{lineOf, levelOf, firstMinute, lastMinute, Shows}
 use Rattle.profile.specs.declared.Profile.{Profile}
 use Rattle.profile.proofs.Levels.{level-in, Place, step-of}
-use Rattle.search.specs.Rooms.{hasRoom, roomAt, FailsAt, Misses, Least, CanSearch}
+use Rattle.search.specs.Rooms.{hasRoom, roomAt, FailsAt, Misses, Least, Rests}
 use Rattle.search.specs.Starts.{CanStart}
 use Rattle.search.specs.Caps.{capsOf, CapsShown, RoomsUnder, roomUnder, CanCap, EarliestStartUnder}
 use Rattle.search.specs.declared.caps.LineCaps.{LineCaps}
 use Rattle.search.proofs.Rooms.{room-in, Walk}
-use Rattle.search.proofs.Within.{filled-more, least-same, start-search, first-last}
+use Rattle.search.proofs.Within.{filled-more, least-same, first-last}
 
 pub under-none : (counts caps : ℕ → ℕ) (rate : ℕ) (rooms : List ℕ) → length rooms ≡ mostSteps → RoomsUnder counts caps rate 0 rooms
 under-none counts caps rate rooms h = record { filled = record { size = h; each = λ i b. absurd (omega arith) } }
@@ -41,14 +41,11 @@ room-step p c line rate i t h =
 
 -- The smallest start
 
-module _ {p : Profile} {c : LineCaps} {line time rate from start : ℕ} {rooms : List ℕ} (can : CanStart p time) (h : IsLine line) (full : CanCap c line rate)
-    (w : RoomsUnder (lineOf p line) (capsOf c line) rate (p .steps) rooms) (low : firstMinute p ≤ from)
-    (cut : start ≡ min from (lastMinute p)) where
-  pub under-search : CanSearch (p .at) rooms (p .steps) time start
-  under-search =
-      start-search rooms can
-      (omega (arith, w .filled .each (p .steps - 1) (omega (arith, can .formed .some)), ap (capsOf c line) rests, full .some))
-      (omega (arith, first-last can)) (omega arith)
+module _ {p : Profile} {c : LineCaps} {line time rate : ℕ} {rooms : List ℕ} (can : CanStart p time) (h : IsLine line) (full : CanCap c line rate)
+    (w : RoomsUnder (lineOf p line) (capsOf c line) rate (p .steps) rooms) where
+  pub under-rests : Rests rooms (p .steps)
+  under-rests =
+      omega (arith, w .filled .each (p .steps - 1) (omega (arith, can .formed .some)), ap (capsOf c line) rests, full .some)
     where
       rests : lineOf p line (p .steps - 1) + rate ≡ rate
       rests = omega (arith, can .empty line h)
@@ -62,21 +59,23 @@ module _ {p : Profile} {c : LineCaps} {line time rate from start : ℕ} {rooms :
           ∙ ap (λ (x : ℕ). hasRoom x t) (w .filled .each (i .step) (i .inside .below))
           ∙ sym (room-step p c line rate (i .step) t (i .inside))
 
+  -- the search was for `minutes` from `start` on
   pub under-earliest :
-      {r : ℕ} → Least (roomAt (p .at) rooms (p .steps)) time start r → r ≤ lastMinute p
+      {from start minutes r : ℕ} → firstMinute p ≤ from → start ≡ min from (lastMinute p) → minutes ≡ time
+      → Least (roomAt (p .at) rooms (p .steps)) minutes start r → r ≤ lastMinute p
       → EarliestStartUnder p c line time rate (min from (lastMinute p)) r
-  under-earliest m b =
-      rw (← cut) (record { least = least-same (λ t a. same-room t (omega (arith, first-last can))) m; high = b })
+  under-earliest low cut whole m b =
+      rw (← cut, ← whole) (record { least = least-same (λ t a. same-room t (omega (arith, first-last can))) m; high = b })
 
 -- The run of minutes with room
 
 -- the room of a step, from its count
 pub step-room :
-    (p : Profile) (c : LineCaps) (line rate : ℕ) {i k x : ℕ} → k ≡ lineOf p line i → x ≡ capsOf c line (k + rate)
+    (p : Profile) (c : LineCaps) (line rate i : ℕ) {k x : ℕ} → x ≡ capsOf c line k → k ≡ lineOf p line i + rate
     → (v : ℕ) → In (p .at) (p .steps) i v → roomUnder p c line rate v ≡ hasRoom x v
-step-room p c line rate {i} e d v h =
+step-room p c line rate i d e v h =
     room-step p c line rate i v h
-    ∙ ap (λ (y : ℕ). hasRoom y v) (sym (d ∙ ap (λ (k : ℕ). capsOf c line (k + rate)) e))
+    ∙ ap (λ (y : ℕ). hasRoom y v) (sym (d ∙ ap (capsOf c line) e))
 
 module _ (p : Profile) (c : LineCaps) (line rate most : ℕ) {from until : ℕ} (ends : until ≡ from + most) where
   pub run-ends : {i t : ℕ} → Walk (roomUnder p c line rate) (p .at) (p .steps) from until i t → until ≤ t → most ≡ runOf (roomUnder p c line rate) most from

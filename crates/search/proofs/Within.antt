@@ -91,9 +91,9 @@ module _ {p : Profile} {time limit bound line rate : ℕ} (can : CanStart p time
       omega arith
 
 pub start-search :
-    {p : Profile} {time start : ℕ} (rooms : List ℕ) → CanStart p time → Rests rooms (p .steps) → getD (p .at) 0 0 ≤ start → start ≤ getD (p .at) (p .steps - 1) 0 →
-    CanSearch (p .at) rooms (p .steps) time start
-start-search rooms c r low high =
+    {p : Profile} {most time start : ℕ} (rooms : List ℕ) → CanStart p most → Rests rooms (p .steps) → getD (p .at) 0 0 ≤ start → start ≤ getD (p .at) (p .steps - 1) 0 →
+    time ≤ most → CanSearch (p .at) rooms (p .steps) time start
+start-search rooms c r low high short =
     record {
       some = c .formed .some;
       fits = c .formed .fits;
@@ -101,7 +101,7 @@ start-search rooms c r low high =
       rests = r;
       low = low;
       high = high;
-      ends-fit = c .ends-fit;
+      ends-fit = omega (arith, c .ends-fit);
     }
 
 pub first-last : {p : Profile} {time : ℕ} → CanStart p time → firstMinute p ≤ lastMinute p

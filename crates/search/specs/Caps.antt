@@ -32,7 +32,7 @@ pub record CapsShown (c : LineCaps) (cap : Caps) : Type 0 where
   pub rooms : (l : ℕ) → IsLine l → (k t : ℕ) → hasRoom (capsOf c l k) t ≡ leb k (cap l t)
 
 -- the first n numbers have no end
-pub record Level (n : ℕ) (a : List ℕ) : Type 0 where
+pub record Unlowered (n : ℕ) (a : List ℕ) : Type 0 where
   pub size : length a ≡ columns * capPlaces
   pub each : (k : ℕ) → getD a k 0 ≡ cond (ltb k n) 4294967295 0
 

@@ -6,7 +6,7 @@ ghost use Prim.Native.Nat.{_*_, _<_, _≤_};
 ghost use lib.ListN.{length};
 ghost use Rattle.profile.specs.Steps.{columns};
 ghost use Rattle.rules.specs.Load.{IsLine};
-ghost use Rattle.search.specs.Caps.{capPlaces, CapsShown, Level, Lowered, CapLowered, Whole};
+ghost use Rattle.search.specs.Caps.{capPlaces, CapsShown, Unlowered, Lowered, CapLowered, Whole};
 
 // So many places a line has among the caps, one for each count from 0 to the largest limit, 60.
 pub const CAP_PLACES: usize = 61;
@@ -16,9 +16,9 @@ pub struct LineCaps {
 }
 
 // Counts below n are at or below the cap of each line in every minute.
-pub fn level(n: usize) -> [u32; COLUMNS * CAP_PLACES]
+pub fn unlowered(n: usize) -> [u32; COLUMNS * CAP_PLACES]
     requires { ⌜ n ≤ capPlaces ⌝ }
-    ensures { λ r. ⌜ Level (columns * n) r ⌝ }
+    ensures { λ r. ⌜ Unlowered (columns * n) r ⌝ }
 {
     let mut caps = [0u32; COLUMNS * CAP_PLACES];
     let mut k = 0;
@@ -37,7 +37,8 @@ pub fn lower(caps: &mut [u32; COLUMNS * CAP_PLACES], line: usize, v: usize, t: u
     let mut k = v;
     while k < CAP_PLACES {
         let p = COLUMNS * k + line - 1;
-        caps[p] = smaller(caps[p], t);
+        let held = caps[p];
+        caps[p] = smaller(held, t);
         k += 1;
     }
 }
@@ -49,7 +50,7 @@ impl LineCaps {
         ensures { λ r. ⌜ CapsShown r (λ l t. limit) ⌝ }
     {
         let n = limit as usize;
-        let caps = level(n + 1);
+        let caps = unlowered(n + 1);
         LineCaps { caps }
     }
 

@@ -65,6 +65,7 @@ pub fn next_under<'a>(
     ensures { λ r. ⌜ EarliestStartUnder (profileOf n (now (at .entry)) (now (counts .entry))) (capsIn (now (caps .entry))) line time rate (min from (lastMinute (profileOf n (now (at .entry)) (now (counts .entry))))) r ⌝ }
 {
     let rooms = rooms_under(counts, line as usize, rate, caps, n);
-    let start = smaller(from, at[n - 1]);
+    let last = at[n - 1];
+    let start = smaller(from, last);
     search(at, &rooms, n, time, start)
 }

@@ -38,6 +38,10 @@ part-slice from end l h k =
     ∙ take-slice from (end - from) (length l) l (omega arith)
     ∙ ap (λ (n : ℕ). slice from n l) e
 
+-- where a request ends, by what the search for it found
+pub ends-at : {b from to end r : ℕ} {block : List ℕ} → PartEnd b block from to end → r ≡ end → PartEnd b block from to r
+ends-at e same = rw same e
+
 -- Requests that are answered
 
 pub answers-none : (s : Station) (block out : List ℕ) → Valid s → Answers (view s) block (record { station = s; from = 0; at = 0 }) out
@@ -53,16 +57,18 @@ answers-none s block out v =
 module _ {s : State} {block : List ℕ} {l : Replies} {out : List ℕ} {end : ℕ}
     (a : Answers s block l out) (e : PartEnd 10 block (l .from) (length block) end) where
   pub answers-more :
-      {q : Station} {out' : List ℕ} {at' : ℕ} → end < length block
+      {q kept : Station} {behind : ℕ} {out' : List ℕ} {at' : ℕ} → end < length block
       → Replied (answered (view (l .station)) (take (end - l .from) (drop (l .from) block))) q out (l .at) out' at'
-      → Answers s block (record { station = q; from = end + 1; at = at' }) out'
-  answers-more {q} {out'} {at'} h k =
+      → kept ≡ q → behind ≡ end + 1
+      → Answers s block (record { station = kept; from = behind; at = at' }) out'
+  answers-more {q} {out' = out'} {at'} h k same next =
       let p : Station = l .station in
       let request : List ℕ = slice (l .from) end block in
       let r : Replied (answered (view p) request) q out (l .at) out' at' = rw (part-slice (l .from) end block (e .low) (e .high)) at k in
       let parts : requestsAfter block (l .from) ≡ request ∷ requestsAfter block (end + 1) =
       rw (add-one end) (rw (lt-ltb end (length block) h) at (e .parts)) in
-      record {
+      rw (same, next)
+      (record {
         replies-are =
             a .replies-are
             ∙ ap (λ (x : List (List ℕ)). first (take (l .at) out) (served (view p) x)) parts
@@ -75,7 +81,7 @@ module _ {s : State} {block : List ℕ} {l : Replies} {out : List ℕ} {end : �
         text-fits =
             omega (arith, r .printed .within, ap length (r .printed .bytes), length-sets out (l .at) (answered (view p) request .text));
         some-answered = λ _. omega arith;
-      }
+      })
 
   pub stops-done : end ≡ length block → Stops block l
   stops-done h = record { none-left = λ _. rw (le-ltb end (length block) (omega arith), h) at (e .parts) }

@@ -15,6 +15,7 @@ use Rattle.station.specs.declared.Station.{Station}
 use Rattle.station.specs.View.{view}
 use Rattle.reply.specs.Reply.{Told, Replied, answered}
 use Rattle.session.specs.Session.{first, enough, served, feed}
+use Rattle.session.specs.declared.turn.Wants.{Wants}
 use Rattle.session.specs.declared.turn.Wants.the-variants.{Bytes, Room as Space, Nothing}
 use Rattle.session.specs.declared.turn.Session.{Session}
 use Rattle.session.specs.declared.turn.Next.{Next}
@@ -56,6 +57,14 @@ turned-last {s} {count} {block} {r} {out} e l =
       within = omega (arith, l .none-held);
       text-fits = l .text-fits;
     }
+
+-- the session that is handed on has the station, the end of the text and the wants of a turn
+pub turned-as :
+    {s : Session} {count : ℕ} {block : List ℕ} {q kept : Station} {held at end : ℕ} {wants asks : Wants} {next out : List ℕ}
+    → Turned s count block (record { session = record { station = q; held = held; wants = wants }; at = at }) next out
+    → kept ≡ q → asks ≡ wants → end ≡ at
+    → Turned s count block (record { session = record { station = kept; held = held; wants = asks }; at = end }) next out
+turned-as t same-station same-wants same-end = rw (same-station, same-wants, same-end) t
 
 -- the bytes from `from` on that stay, moved to the front
 carried-front :

@@ -7,6 +7,8 @@ ghost use lib.ListN.{length};
 ghost use Rattle.text.specs.Parts.{PartEnd};
 ghost use Rattle.station.specs.View.{view, Valid};
 ghost use Rattle.session.specs.Turns.{ends, Room, Answers, Stops, KeptTo, LastTurn, Turned};
+use reply::Reply;
+use reply::Said;
 use reply::reply_request;
 use station::Station;
 
@@ -59,28 +61,34 @@ fn answer_requests(
     ensures { λ r. ⌜ Answers (view station) (now (block .entry)) r (now (out .exit)) ⌝ }
     ensures { λ r. ⌜ Stops (now (block .entry)) r ⌝ }
 {
-    let mut replies = Replies {
+    let mut from = 0;
+    let mut at = 0;
+    let mut reply = Reply {
         station,
-        from: 0,
-        at: 0,
+        said: Said::Nothing,
     };
-    while replies.at <= 57000 {
-        let from = replies.from;
+    while at <= 57000 {
         let end = request_end(block, from);
         if end == block.len() {
-            return replies;
+            let last = reply.station;
+            return Replies {
+                station: last,
+                from,
+                at,
+            };
         }
-        let present = replies.station;
-        let at = replies.at;
-        let reply = reply_request(present, &block[from..end], numbers, list, out, at);
-        let after = reply.station;
-        replies = Replies {
-            station: after,
-            from: end + 1,
-            at: reply.at,
-        };
+        let request = reply::read(&block[from..end], numbers, list);
+        reply = reply_request(reply.station, request, numbers, list);
+        let said = reply.said;
+        at = reply::print(said, list, out, at);
+        from = end + 1;
     }
-    replies
+    let last = reply.station;
+    Replies {
+        station: last,
+        from,
+        at,
+    }
 }
 
 // Of a request that goes on no more is kept than shows that it is too long.
@@ -118,17 +126,17 @@ fn last_turn(
 {
     let station = session.station;
     let held = session.held;
-    let reply = reply_request(station, &block[..held], numbers, list, out, 0);
+    let request = reply::read(&block[..held], numbers, list);
+    let reply = reply_request(station, request, numbers, list);
     let last = reply.station;
+    let said = reply.said;
+    let at = reply::print(said, list, out, 0);
     let over = Session {
         station: last,
         held: 0,
         wants: Wants::Nothing,
     };
-    Next {
-        session: over,
-        at: reply.at,
-    }
+    Next { session: over, at }
 }
 
 // One turn. After the bytes that are held stand `count` bytes that were read; none, where some were wanted, are the end of

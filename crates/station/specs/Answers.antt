@@ -22,8 +22,8 @@ use Rattle.station.specs.declared.enquiry.EnquiryAnswer.{EnquiryAnswer}
 use Rattle.station.specs.declared.enquiry.EnquiryAnswer.the-variants.{Waiting, Charging, Refused as EnquiryRefused}
 use Rattle.station.specs.declared.board.BoardAnswer.{BoardAnswer}
 use Rattle.station.specs.declared.board.BoardAnswer.the-variants.{Looked, Refused as BoardRefused}
-use Rattle.station.specs.declared.withdraw.WithdrawAnswer.{WithdrawAnswer}
-use Rattle.station.specs.declared.withdraw.WithdrawAnswer.the-variants.{Withdrawn, Refused as WithdrawRefused}
+use Rattle.station.specs.declared.withdraw.WithdrawalAnswer.{WithdrawalAnswer}
+use Rattle.station.specs.declared.withdraw.WithdrawalAnswer.the-variants.{Withdrawn, Refused as WithdrawalRefused}
 use Rattle.station.specs.View.{view, Valid}
 
 -- an answer, the station beside it and the lent list, as a result of the rules
@@ -74,6 +74,6 @@ abbrev pub boardAnswer : BoardAnswer → Answer
 boardAnswer (Looked n) = looked n
 boardAnswer (BoardRefused number) = refused number
 
-abbrev pub withdrawAnswer : WithdrawAnswer → Answer
-withdrawAnswer Withdrawn = withdrawn
-withdrawAnswer (WithdrawRefused number) = refused number
+abbrev pub withdrawalAnswer : WithdrawalAnswer → Answer
+withdrawalAnswer Withdrawn = withdrawn
+withdrawalAnswer (WithdrawalRefused number) = refused number

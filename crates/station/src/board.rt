@@ -1,6 +1,7 @@
 // A board: the starts of the tickets that are asked for.
 use crate::Station;
 use boards::rises;
+use charges::PLACES;
 ghost use mathlib.Core.Path.{_≡_};
 ghost use Rattle.rules.specs.Basics.{firstOf};
 ghost use Rattle.rules.specs.Calls.{State, refusals, board as boardCall, step};
@@ -24,7 +25,7 @@ fn board_refusal(asked: &[u32], answers: &[u32]) -> u32
     if !rises(asked) {
         return 23;
     }
-    if 180 < asked.len() {
+    if PLACES < asked.len() {
         return 23;
     }
     if answers.len() < asked.len() {

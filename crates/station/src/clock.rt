@@ -1,11 +1,15 @@
 // A clock move: reports the charges that the clock passes, then drops the finished ones.
 use crate::Station;
+use charges::PLACES;
 use queues::by_start;
 ghost use mathlib.Core.Path.{_≡_};
 ghost use Rattle.rules.specs.Basics.{firstOf};
 ghost use Rattle.rules.specs.Calls.{refusals, move as moveCall, step};
 ghost use Rattle.station.specs.View.{view, Valid};
 ghost use Rattle.station.specs.Answers.{Gives, moveAnswer};
+
+// A report has a ticket and a start for each charge that may be held.
+const REPORTED: usize = 2 * PLACES;
 
 pub enum MoveAnswer {
     Moved { reported: usize, dropped: usize },
@@ -25,7 +29,7 @@ impl Station {
         if 1000000 < target {
             return 8;
         }
-        if report.len() < 360 {
+        if report.len() < REPORTED {
             return 9;
         }
         if target < self.clock {
@@ -46,12 +50,12 @@ impl Station {
                 station: self,
             };
         }
-        let held = self.charges;
-        let passed = by_start(held, self.clock, target);
-        queues::report(held, passed, report);
-        let left = held.unfinished(target);
+        let charges = self.charges;
+        let passed = by_start(charges, self.clock, target);
+        queues::report(charges, passed, report);
+        let left = charges.unfinished(target);
         let reported = passed.count;
-        let dropped = held.held - left.held;
+        let dropped = charges.held - left.held;
         let mut next = self;
         next.clock = target;
         next.charges = left;

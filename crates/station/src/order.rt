@@ -9,7 +9,7 @@ ghost use mathlib.Core.List.{[]};
 ghost use Prim.Native.Nat.{_<_};
 ghost use lib.ListN.{length, set};
 ghost use Rattle.rules.specs.Basics.{firstOf};
-ghost use Rattle.rules.specs.Calls.{orderRefusals, preview as previewCall, commit as commitCall, step};
+ghost use Rattle.rules.specs.Calls.{places, orderRefusals, preview as previewCall, commit as commitCall, step};
 ghost use Rattle.orders.specs.Windows.{drawing};
 ghost use Rattle.station.specs.View.{view, Valid};
 ghost use Rattle.station.specs.Answers.{Gives, previewAnswer, commitAnswer};
@@ -82,7 +82,7 @@ fn start_for<'a>(
 
 // A number at a place of a list.
 fn put(list: &mut [u32; PLACES], place: usize, number: u32)
-    requires { ⌜ (length (now list) ≡ 180) × (place < 180) ⌝ }
+    requires { ⌜ (length (now list) ≡ places) × (place < places) ⌝ }
     ensures { λ r. ⌜ now (list .exit) ≡ set (now (list .entry)) place number ⌝ }
 {
     list[place] = number;
@@ -121,7 +121,7 @@ impl Station {
         if 2000000 < due {
             return 6;
         }
-        if 180 <= self.charges.held {
+        if PLACES <= self.charges.held {
             return 13;
         }
         if 65535 < self.next {

@@ -9,7 +9,7 @@ ghost use mathlib.Core.List.{[]};
 ghost use Prim.Native.Nat.{_≤_};
 ghost use lib.ListN.{length, take};
 ghost use Rattle.rules.specs.Replan.{starts as startsOf};
-ghost use Rattle.rules.specs.Calls.{offer as offerCall, replanLatest, replanLines, step};
+ghost use Rattle.rules.specs.Calls.{places, offer as offerCall, replanLatest, replanLines, step};
 ghost use Rattle.planner.specs.Starts.{waitingCount};
 ghost use Rattle.planner.specs.Answers.{proposalOf};
 ghost use Rattle.station.specs.View.{view, Valid};
@@ -54,7 +54,7 @@ impl Station {
 
     // What a replan proposes meets the test, or its cause keeps the held plan.
     fn replanned(self, proposed: Proposed, rounds: u32) -> Planning
-        requires { ⌜ Valid self × (length (proposed .starts) ≡ 180) ⌝ }
+        requires { ⌜ Valid self × (length (proposed .starts) ≡ places) ⌝ }
         ensures { λ r. ⌜ Tests (view self) rounds (proposalOf (waitingCount (self .clock) (self .charges)) proposed) (planAnswer (r .answer)) (r .station) ⌝ }
     {
         let held = self.charges;

@@ -4,15 +4,15 @@ use planner::plan::plan_sound;
 ghost use mathlib.Core.List.{[]};
 ghost use Rattle.rules.specs.Calls.{withdraw as withdrawCall, step};
 ghost use Rattle.station.specs.View.{view, Valid};
-ghost use Rattle.station.specs.Answers.{Gives, withdrawAnswer};
+ghost use Rattle.station.specs.Answers.{Gives, withdrawalAnswer};
 
-pub enum WithdrawAnswer {
+pub enum WithdrawalAnswer {
     Withdrawn,
     Refused(u32),
 }
 
 pub struct Withdrawing {
-    pub answer: WithdrawAnswer,
+    pub answer: WithdrawalAnswer,
     pub station: Station,
 }
 
@@ -20,33 +20,33 @@ impl Station {
     // A start equal to the clock still waits. No other start moves, and the ticket is not given again.
     pub fn withdraw(self, ticket: u32) -> Withdrawing
         requires { ⌜ Valid self ⌝ }
-        ensures { λ r. ⌜ Gives (step (view self) (withdrawCall ticket)) (withdrawAnswer (r .answer)) (r .station) [] ⌝ }
+        ensures { λ r. ⌜ Gives (step (view self) (withdrawCall ticket)) (withdrawalAnswer (r .answer)) (r .station) [] ⌝ }
     {
+        let mut next = self;
         let held = self.charges;
         let charges::Place::At(i) = held.find(ticket) else {
             return Withdrawing {
-                answer: WithdrawAnswer::Refused(15),
-                station: self,
+                answer: WithdrawalAnswer::Refused(15),
+                station: next,
             };
         };
         let start = held.starts[i];
         if start < self.clock {
             return Withdrawing {
-                answer: WithdrawAnswer::Refused(25),
-                station: self,
+                answer: WithdrawalAnswer::Refused(25),
+                station: next,
             };
         }
         let rest = held.without(ticket);
         if !plan_sound(rest, self.clock, self.limit, self.bound) {
             return Withdrawing {
-                answer: WithdrawAnswer::Refused(26),
-                station: self,
+                answer: WithdrawalAnswer::Refused(26),
+                station: next,
             };
         }
-        let mut next = self;
         next.charges = rest;
         Withdrawing {
-            answer: WithdrawAnswer::Withdrawn,
+            answer: WithdrawalAnswer::Withdrawn,
             station: next,
         }
     }

@@ -18,14 +18,16 @@ module _ (b : List ℕ) (from to i : ℕ) (h : from ≤ to) (k : to ≤ length b
       rw (f, getD-append-add (take i (slice from to b)) (drop i b) from 0, getD-drop i b from 0, add-comm i from, getD-drop from (take to b) i 0, getD-take to b (from + i) 0 (omega arith))
 
   pub carried-more :
-      i < to - from
-      → set (take i (slice from to b) ++ drop i b) i (getD (take i (slice from to b) ++ drop i b) (from + i) 0)
+      {place : ℕ}
+      → i < to - from
+      → place ≡ from + i
+      → set (take i (slice from to b) ++ drop i b) i (getD (take i (slice from to b) ++ drop i b) place 0)
       ≡ take (i + 1) (slice from to b) ++ drop (i + 1) b
-  carried-more l =
+  carried-more l same =
       let s : List ℕ = slice from to b in
       let m : i < length s = omega (arith, length-slice from to b k) in
       let e : length (take i s) ≡ i = length-take-le i s (omega arith) in
-      rw (kept-byte l, drop-cons b i 0 (omega arith), set-at (take i s) (getD b i 0) (drop (suc i) b) (getD s i 0) i e, add-one i, take-suc s i 0 m, append-snoc (take i s) (getD s i 0) (drop (suc i) b))
+      rw (same, kept-byte l, drop-cons b i 0 (omega arith), set-at (take i s) (getD b i 0) (drop (suc i) b) (getD s i 0) i e, add-one i, take-suc s i 0 m, append-snoc (take i s) (getD s i 0) (drop (suc i) b))
 
   pub carried-all :
       i ≡ to - from → take i (slice from to b) ++ drop i b ≡ slice from to b ++ drop (to - from) b

@@ -58,11 +58,12 @@ pub printed-digit :
 printed-digit n before at h k = rw (decimal-small n h) (printed-byte (48 + n) before at k)
 
 pub printed-digits :
-    (n : ℕ) (before : List ℕ) (at : ℕ) (after : List ℕ) (next : ℕ) → 10 ≤ n → n < 2 ^ 64 → next < length after
+    (n : ℕ) (before : List ℕ) (at : ℕ) (after : List ℕ) (next : ℕ) {digit : ℕ} → 10 ≤ n → n < 2 ^ 64 → next < length after
     → Printed (decimal (n / 10)) before at after next
-    → Printed (decimal n) before at (set after next (48 + n % 10)) (next + 1)
-printed-digits n before at after next h k r p =
-    rw (decimal-more n h k) (printed-then p (printed-byte (48 + n % 10) after next r))
+    → digit ≡ n % 10
+    → Printed (decimal n) before at (set after next (48 + digit)) (next + 1)
+printed-digits n before at after next h k r p e =
+    rw (decimal-more n h k, e) (printed-then p (printed-byte (48 + n % 10) after next r))
 
 listed-join : (xs ys : List ℕ) → listed (xs ++ ys) ≡ listed xs ++ listed ys
 listed-join [] ys = refl

@@ -53,10 +53,11 @@ same-test from k to h =
     (below-or-not (from + k) to)
 
 pub part-ends :
-    (b : ℕ) (bytes : List ℕ) (from to end : ℕ) → from ≤ to → to ≤ length bytes
-    → end ≡ from + indexOf b (slice from to bytes) → end ≤ to → PartEnd b bytes from to end
-part-ends b bytes from to end h k e m =
+    (b : ℕ) (bytes : List ℕ) (from to end : ℕ) {begun : ℕ} → from ≤ to → to ≤ length bytes
+    → end ≡ begun + indexOf b (slice begun to bytes) → begun ≡ from → end ≤ to → PartEnd b bytes from to end
+part-ends b bytes from to end h k found same m =
     let i : ℕ = indexOf b (slice from to bytes) in
+    let e : end ≡ from + i = rw same at found in
     record {
       low = omega arith;
       high = m;

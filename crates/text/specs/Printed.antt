@@ -23,3 +23,19 @@ spaced n = field (32 ∷ []) n
 abbrev pub listed : List ℕ → List ℕ
 listed [] = []
 listed (n ∷ ns) = spaced n ++ listed ns
+
+abbrev pub lineFeed : List ℕ
+lineFeed = 10 ∷ []
+
+-- one to four numbers, each after a text, and the line feed
+abbrev pub one : List ℕ → ℕ → List ℕ
+one text n = field text n ++ lineFeed
+
+abbrev pub two : List ℕ → ℕ → List ℕ → ℕ → List ℕ
+two text n next m = field text n ++ one next m
+
+abbrev pub three : List ℕ → ℕ → ℕ → ℕ → List ℕ
+three text a b c = field text a ++ two (32 ∷ []) b (32 ∷ []) c
+
+abbrev pub four : List ℕ → ℕ → ℕ → ℕ → ℕ → List ℕ
+four text a b c d = field text a ++ three (32 ∷ []) b c d

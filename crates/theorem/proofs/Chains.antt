@@ -3,7 +3,7 @@ use mathlib.Core.Path.{_≡_, refl, sym, ap, subst, _∙_}
 use mathlib.Core.List.{List, [], _∷_, map}
 use Rattle.rules.specs.Basics.{Each}
 use Rattle.rules.specs.Calls as rules
-use Rattle.rules.specs.Calls.{State, Result, opening, run, step}
+use Rattle.rules.specs.Calls.{Settings, State, Result, opening, run, step}
 use Rattle.guarantee.specs.Past.{Past, beginning, extended, after, past}
 use Rattle.guarantee.specs.DemandOne.{DemandOne}
 use Rattle.guarantee.specs.DemandTwo.{DemandTwo}
@@ -12,11 +12,16 @@ use Rattle.guarantee.specs.Demands.{reached}
 use Rattle.guarantee.proofs.Demands.{demands}
 use Rattle.station.specs.declared.Station.{Station}
 use Rattle.station.specs.View.{view, Valid}
+use Rattle.station.specs.Answers.{Gives}
 use Rattle.theorem.specs.Theorem.{Made, MeetsApply, Chain, callMade, given, left, known, Theorem}
+
+-- an opening with the settings that were passed in
+pub opened-with : {x y : Settings} {answer : rules.Answer} {first : Station} → Gives (opening x) answer first [] → x ≡ y → Gives (opening y) answer first []
+opened-with gives same = rw same at gives
 
 -- one call: what it gave is one step of the rules
 one-step : (s : Station) (m : Made) → Valid s → MeetsApply s m → given m ≡ step (view s) (callMade m)
-one-step s m v meets = meets v .gives .result
+one-step s m v meets = search (meets v .gives .result)
 
 chain-valid : (s : Station) (calls : List Made) → Valid s → Chain s calls → Each (λ m. Valid (m .station)) calls
 chain-valid s [] v chain = tt

@@ -4,6 +4,7 @@ use charges::PLACES;
 use station::Station;
 ghost use mathlib.Core.Path.{_≡_};
 ghost use Prim.Native.Nat.{_<_, _≤_};
+ghost use Rattle.rules.specs.Calls.{places};
 ghost use Rattle.layout.specs.Lists.{every};
 ghost use Rattle.layout.specs.Validity.{recordRight};
 ghost use Rattle.station.specs.View.{view};
@@ -11,7 +12,7 @@ ghost use Rattle.validity.specs.Settled.{Settled, ticketOrNext, ticketRi
 
 // The ticket of place q, or the next one behind the last.
 fn ticket_or_next<'a>(tickets: &'a [u32; PLACES], held: usize, next: u32, q: usize) -> u32
-    requires { ⌜ held ≤ 180 ⌝ }
+    requires { ⌜ held ≤ places ⌝ }
     ensures { λ r. ⌜ r ≡ ticketOrNext (now (tickets .entry)) held next q ⌝ }
 {
     if q < held {
@@ -22,7 +23,7 @@ fn ticket_or_next<'a>(tickets: &'a [u32; PLACES], held: usize, next: u32, q: usi
 
 // "Tickets, the next one last, are 1 or more and rise."
 fn ticket_rises<'a>(tickets: &'a [u32; PLACES], held: usize, next: u32, q: usize) -> bool
-    requires { ⌜ (held ≤ 180) × (q < held) ⌝ }
+    requires { ⌜ (held ≤ places) × (q < held) ⌝ }
     ensures { λ r. ⌜ r ≡ ticketRises (now (tickets .entry)) held next q ⌝ }
 {
     let ticket = ticket_or_next(tickets, held, next, q);
@@ -38,19 +39,19 @@ pub fn records_right(s: Station) -> bool
     requires { ⌜ Settled s ⌝ }
     ensures { λ r. ⌜ r ≡ every (recordRight (view s)) (s .charges .held) ⌝ }
 {
-    let held = s.charges;
-    let n = held.held;
+    let charges = s.charges;
+    let n = charges.held;
     for q in 0..n {
-        if !ticket_rises(&held.tickets, n, s.next, q) {
+        if !ticket_rises(&charges.tickets, n, s.next, q) {
             return false;
         }
-        let line = held.lines[q];
-        let order_minute = held.order_minutes[q];
-        let time = held.times[q];
-        let active_time = held.active_times[q];
-        let due = held.dues[q];
-        let start = held.starts[q];
-        let rate = held.rates[q];
+        let line = charges.lines[q];
+        let order_minute = charges.order_minutes[q];
+        let time = charges.times[q];
+        let active_time = charges.active_times[q];
+        let due = charges.dues[q];
+        let start = charges.starts[q];
+        let rate = charges.rates[q];
         if !charge_valid(
             s.limit,
             s.bound,

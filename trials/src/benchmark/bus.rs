@@ -8,7 +8,7 @@ use super::table::Table;
 const HELD: [usize; 2] = [20, 180];
 
 /// A call of each kind on a station with so many charges.
-fn measured(held: usize) -> [(&'static str, Measured); 8] {
+fn measured(held: usize) -> [(&'static str, Measured); 10] {
     [
         ("open", calls::opening()),
         ("preview", calls::typical_preview(held)),
@@ -18,6 +18,8 @@ fn measured(held: usize) -> [(&'static str, Measured); 8] {
         ("latest start", calls::typical_latest(held)),
         ("lines", calls::typical_lines(held)),
         ("enquire", calls::typical_enquiry(held)),
+        ("board of 20 tickets", calls::board_of(20, held)),
+        ("withdraw", calls::typical_withdrawal(held)),
     ]
 }
 

@@ -195,9 +195,14 @@ pub fn preview_before_all(held: usize) -> Measured {
 
 /// A board of so many tickets at a full station, spread evenly over those held.
 pub fn board(asked: usize) -> Measured {
-    let tickets = (1..=asked).map(|place| (180 * place / asked) as u32).collect();
+    board_of(asked, 180)
+}
+
+/// The same at a station with so many charges.
+pub fn board_of(asked: usize, held: usize) -> Measured {
+    let tickets = (1..=asked).map(|place| (held * place / asked) as u32).collect();
     let call = Call::Board { places: asked as u32, tickets };
-    Measured::repeatable(states::peak(180), write_call(&call).into_bytes())
+    Measured::repeatable(states::peak(held), write_call(&call).into_bytes())
 }
 
 /// A withdrawal of the last of so many charges.

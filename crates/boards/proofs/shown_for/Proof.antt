@@ -1,3 +1,4 @@
+-- `boards::shown_for` meets its contract: by whether the charge has the ticket.
 use borrow.Author.Tests.{eq-eqb, ne-eqb}
 use Rattle.boards.proofs.shown_for.Statement.{statement}
 use Rattle.boards.proofs.shown_for.Tie as tie

@@ -1,3 +1,4 @@
+-- The invariant: the starts of those of the first i charges that wait are listed, k of them.
 use native.Mathlib.Omega.{arith}
 use mathlib.Core.Logic.{⊎-elim}
 use Prim.Native.Nat.{_≤_, _-_}
@@ -46,8 +47,8 @@ loop-again c =
     let l = c .before .before .before in
     let few = l .before .pre .few in
     ⊎-elim
-    (λ w. (omega arith, omega (arith, w .2), collecting-waiting (l .loop .inv .2) (omega arith) few (w .0 .taken) (w .1) (w .2)))
-    (λ w. (omega arith, omega (arith, w .2), collecting-begun (l .loop .inv .2) (omega arith) few (w .0 .left) (w .1) (w .2)))
+    (λ w. (omega arith, omega (arith, w .2), collecting-waiting (l .loop .inv .2) (omega arith) few (omega (arith, w .0 .taken)) (search (w .1)) (w .2)))
+    (λ w. (omega arith, omega (arith, w .2), collecting-begun (l .loop .inv .2) (omega arith) few (omega (arith, w .0 .left)) (w .1) (w .2)))
     (c .if1 .came)
 
 returns : tie.Need-returns Inv-loop μ-loop

@@ -1,6 +1,6 @@
 -- With no times the latest start is the start. Tickets rise with the places, so that equal starts stay in ticket order.
 use lib.ListN.{replicate}
-use Rattle.rules.specs.Calls.{startBefore}
+use Rattle.rules.specs.Calls.{places, startBefore}
 use Rattle.charges.specs.declared.places.Which.the-variants.{Passed}
 use Rattle.charges.proofs.Collecting.{meant-inside}
 use Rattle.queues.specs.Queues.{notAfter}
@@ -23,7 +23,7 @@ returns c =
     let p = c .before .before .before .before in
     let s = p .before in
     let held = s .args .t1 in
-    ordered (Passed (s .args .clock) (s .args .target)) held (notAfter (held .starts) (replicate 180 0)) startBefore (p .meant .result) (c .sorted .result) (s .pre .rising)
+    ordered (Passed (s .args .clock) (s .args .target)) held (notAfter (held .starts) (replicate places 0)) startBefore (p .meant .result) (c .sorted .result) (s .pre .rising)
     (by-start-before held)
     (search (p .meant .ensures))
     (search (c .sorted .ensures))

@@ -1,5 +1,7 @@
--- `reply::reply_open` meets its contract: what the call gives is printed.
-use Rattle.reply.proofs.Replies.{replied}
+-- `reply::reply_open` meets its contract: what the call gives is said, whatever the list.
+use mathlib.Core.Path.{ap}
+use Rattle.rules.specs.Calls.{Result}
+use Rattle.answers.specs.Answers.{answerText}
 use borrow.Author.Needs.{needs}
 use Rattle.reply.proofs.reply_open.Statement.{statement}
 use Rattle.reply.proofs.reply_open.Tie as tie
@@ -7,20 +9,20 @@ use Rattle.reply.proofs.reply_open.Tie as tie
 open-requires : tie.Need-open-requires
 open-requires c κs = search needs
 
-print-opening-requires : tie.Need-print-opening-requires
-print-opening-requires c κs = search needs
-
-same-length : tie.Need-same-length
-same-length c = search needs
-
 returns : tie.Need-returns
-returns c = replied 0 (c .before .before .before .before .before .«open» .ensures) (c .before .before .print-opening .ensures)
+returns c =
+    let g = c .before .«open» .ensures in
+    λ list.
+    record {
+      state-is = ap (λ (x : Result). x .state) (g .result);
+      valid = g .valid;
+      text-is = ap (λ (x : Result). answerText (x .answer) 0 (x .list)) (g .result);
+      fits = tt;
+    }
 
 pub reply-open-spec : {M : Type 1} → statement M
 reply-open-spec =
     tie.close
     (tie.spec
     open-requires
-    print-opening-requires
-    same-length
     returns)

@@ -1,135 +1,74 @@
--- `reply::reply_request` meets its contract: what the text asks for is answered, and the lent lists are those of what was read.
-use mathlib.Core.Path.{sym, refl}
-use Prim.Native.Nat.{_≤_}
-use lib.ListN.{length}
+-- `reply::reply_request` meets its contract, case by case.
+use mathlib.Core.Path.{refl, sym}
 use native.Mathlib.Omega.{arith}
 use lib.Seq.{length-take-le}
-use Rattle.station.specs.View.{view}
 use Rattle.requests.specs.Requests.{Fits}
 use Rattle.requests.specs.declared.request.Request.the-variants.{Call}
-use Rattle.text.proofs.Printing.{printed-none}
-use Rattle.reply.proofs.Replies.{as-read, as-listed}
 use borrow.Author.Needs.{needs}
 use Rattle.reply.proofs.reply_request.Statement.{statement}
 use Rattle.reply.proofs.reply_request.Tie as tie
 
--- what is lent beside the call that was read
-fit : (c : tie.After-read2) → Fits 2048 (Call (c .read2 .given .0 .0) (c .read2 .given .0 .1 .0) (c .read2 .given .0 .1 .1 .0) (c .read2 .given .0 .1 .1 .1 .0))
-fit c = rw (c .read2 .given .1) at (c .before .before .before .before .read-request .ensures .fits)
-
-read-request-requires : tie.Need-read-request-requires
-read-request-requires c κs = search needs
+-- what is lent beside the call
+fit : (c : tie.After-request2) → Fits 2048 (Call (c .request2 .given .0 .0) (c .request2 .given .0 .1 .0) (c .request2 .given .0 .1 .1 .0) (c .request2 .given .0 .1 .1 .1 .0))
+fit c = rw (c .request2 .given .1) at (c .before .before .before .before .pre .1 .1 .1 .0)
 
 enum-told : tie.Need-enum-told
 enum-told c = search needs
 
-enum-known-read : tie.Need-enum-known-read
-enum-known-read c = search needs
+enum-known-request : tie.Need-enum-known-request
+enum-known-request c = search needs
 
 reply-open-requires : tie.Need-reply-open-requires
 reply-open-requires c κs = search needs
 
-enum-known-read-2 : tie.Need-enum-known-read-2
-enum-known-read-2 c = search needs
-
-slice-reshare-prefix-reply-call : tie.Need-slice-reshare-prefix-reply-call
-slice-reshare-prefix-reply-call c = omega (arith, fit (c .before) .1 .0, c .before .before .before .before .before .read-request .kept .1 .0, c .before .before .before .before .before .before .before .before .before .before .before .pre .1 .0)
+enum-known-request-2 : tie.Need-enum-known-request-2
+enum-known-request-2 c = search needs
 
 slice-aggregate-reply-call : tie.Need-slice-aggregate-reply-call
-slice-aggregate-reply-call c = sym (length-take-le _ _ (omega (arith, fit (c .before .before) .1 .0, c .before .before .before .before .before .before .read-request .kept .1 .0, c .before .before .before .before .before .before .before .before .before .before .before .before .pre .1 .0)))
+slice-aggregate-reply-call c = sym (length-take-le _ _ (omega (arith, fit (c .before .before) .1 .0, c .before .before .before .before .before .before .pre .1 .0)))
 
 reply-call-requires : tie.Need-reply-call-requires
 reply-call-requires c κs =
-    let s = c .before .before .before .before .before .before .before .before .before .before .before .before .before .before in
-    let f = fit (c .before .before .before .before) in
-    let room : c .before .before .before .before .read2 .given .0 .1 .1 .0 ≤ length (c .before .before .before .before .before .before .before .before .read-request .last .1 .0) = omega (arith, f .1 .0, c .before .before .before .before .before .before .before .before .read-request .kept .1 .0, s .pre .1 .0) in
-    (s .pre .0, (search needs, (search needs, (omega (arith, f .0, length-take-le (c .before .before .before .before .read2 .given .0 .1 .1 .0) (c .before .before .before .before .before .before .before .before .read-request .last .1 .0) room), rw (length-take-le (c .before .before .before .before .read2 .given .0 .1 .1 .0) (c .before .before .before .before .before .before .before .before .read-request .last .1 .0) room) (f .1 .1)))))
+    let s = c .before .before .before .before .before .before .before in
+    let f = fit (c .before .before .before) in
+    let long = length-take-le (c .before .before .before .request2 .given .0 .1 .1 .0) (s .args .numbers .now) (omega (arith, f .1 .0, s .pre .1 .0)) in
+    (s .pre .0, (s .pre .1 .1 .0, (rw (c .before .before .before .request2 .given .1) at (s .pre .1 .1 .1 .1), (omega (arith, f .0, long), rw long (f .1 .1)))))
 
-enum-known-read-3 : tie.Need-enum-known-read-3
-enum-known-read-3 c = search needs
+enum-known-request-3 : tie.Need-enum-known-request-3
+enum-known-request-3 c = search needs
 
-print-error-requires : tie.Need-print-error-requires
-print-error-requires c κs = search needs
+returns : tie.Need-returns
+returns c =
+    (rw (c .enum-told .given .1) (record { state-is = refl; valid = c .before .before .before .before .pre .0; text-is = refl; fits = tt }), rw (c .enum-told .given .1) refl)
+
+returns-2 : tie.Need-returns-2
+returns-2 c = (rw (c .before .before .request .given .1) (c .reply-open .ensures _), rw (c .before .before .request .given .1) refl)
 
 same-length : tie.Need-same-length
 same-length c = search needs
 
-returns : tie.Need-returns
-returns c =
-    let s = c .before .before .before .before .before .before .before .before .before .before in
-    let r = c .before .before .before .before .read-request .ensures in (
-      as-read (view (s .args .station)) (s .args .text .now) r (c .enum-told .given .1) (record { state-is = refl; valid = s .pre .0; printed = printed-none (s .args .out .now) (s .args .at) (omega arith) }),
-      as-listed (view (s .args .station)) (s .args .text .now) r (c .enum-told .given .1) refl,
-    )
-
-same-length-2 : tie.Need-same-length-2
-same-length-2 c = search needs
-
-same-length-3 : tie.Need-same-length-3
-same-length-3 c = search needs
-
-returns-2 : tie.Need-returns-2
-returns-2 c =
-    let s = c .before .before .before .before .before .before .before .before .before .before .before .before .before .before .before in
-    let r = c .before .before .before .before .before .before .before .before .before .read-request .ensures in (
-      as-read (view (s .args .station)) (s .args .text .now) r (c .before .before .before .before .before .read .given .1) (c .before .before .reply-open .ensures),
-      as-listed (view (s .args .station)) (s .args .text .now) r (c .before .before .before .before .before .read .given .1) refl,
-    )
-
-same-length-4 : tie.Need-same-length-4
-same-length-4 c = search needs
-
-same-length-5 : tie.Need-same-length-5
-same-length-5 c = search needs
-
-same-length-6 : tie.Need-same-length-6
-same-length-6 c = search needs
-
 returns-3 : tie.Need-returns-3
 returns-3 c =
-    let s = c .before .before .before .before .before .before .before .before .before .before .before .before .before .before .before .before .before .before .before in
-    let r = c .before .before .before .before .before .before .before .before .before .before .before .before .before .read-request .ensures in (
-      as-read (view (s .args .station)) (s .args .text .now) r (c .before .before .before .before .before .before .before .before .before .read2 .given .1) (c .before .before .before .before .reply-call .ensures .0),
-      as-listed (view (s .args .station)) (s .args .text .now) r (c .before .before .before .before .before .before .before .before .before .read2 .given .1) (c .before .before .before .before .reply-call .ensures .1),
-    )
-
-same-length-7 : tie.Need-same-length-7
-same-length-7 c = search needs
-
-same-length-8 : tie.Need-same-length-8
-same-length-8 c = search needs
+    let r = c .before .before .reply-call in
+    (rw (c .before .before .before .before .before .before .request2 .given .1) (r .ensures .0), rw (c .before .before .before .before .before .before .request2 .given .1) (r .ensures .1))
 
 returns-4 : tie.Need-returns-4
 returns-4 c =
-    let s = c .before .before .before .before .before .before .before .before .before .before .before .before .before .before .before in
-    let r = c .before .before .before .before .before .before .before .before .before .read-request .ensures in (
-      as-read (view (s .args .station)) (s .args .text .now) r (c .before .before .before .before .before .read3 .given .1) (record { state-is = refl; valid = s .pre .0; printed = c .before .before .print-error .ensures }),
-      as-listed (view (s .args .station)) (s .args .text .now) r (c .before .before .before .before .before .read3 .given .1) refl,
-    )
+    (rw (c .before .request3 .given .1) (record { state-is = refl; valid = c .before .before .before .before .before .pre .0; text-is = refl; fits = tt }), rw (c .before .request3 .given .1) refl)
 
 pub reply-request-spec : {M : Type 1} → statement M
 reply-request-spec =
     tie.close
     (tie.spec
-    read-request-requires
     enum-told
-    enum-known-read
+    enum-known-request
     reply-open-requires
-    enum-known-read-2
-    slice-reshare-prefix-reply-call
+    enum-known-request-2
     slice-aggregate-reply-call
     reply-call-requires
-    enum-known-read-3
-    print-error-requires
-    same-length
+    enum-known-request-3
     returns
-    same-length-2
-    same-length-3
     returns-2
-    same-length-4
-    same-length-5
-    same-length-6
+    same-length
     returns-3
-    same-length-7
-    same-length-8
     returns-4)

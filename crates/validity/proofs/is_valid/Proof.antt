@@ -1,3 +1,4 @@
+-- A record that is not right, or the plan by its own test.
 use mathlib.Core.Path.{sym, _∙_}
 use borrow.Author.Tests.{not-true, not-false}
 use Rattle.validity.proofs.Settling.{valid-fails, valid-told, all-profiled}

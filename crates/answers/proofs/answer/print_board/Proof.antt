@@ -1,44 +1,47 @@
--- `answers::print_board` meets its contract: its parts are printed one after another.
+-- `answers::print_board` meets its contract, case by case.
 use Rattle.answers.specs.Answers.{answerText}
-use Rattle.text.proofs.Printing.{printed-as, printed-then}
+use Rattle.text.proofs.Printing.{printed-as}
 use borrow.Author.Needs.{needs}
 use Rattle.answers.proofs.answer.print_board.Statement.{statement}
 use Rattle.answers.proofs.answer.print_board.Tie as tie
 
-slice-aggregate-print-field : tie.Need-slice-aggregate-print-field
-slice-aggregate-print-field c = search needs
+enum-known-answer : tie.Need-enum-known-answer
+enum-known-answer c = search needs
 
-print-field-requires : tie.Need-print-field-requires
-print-field-requires c κs = search needs
+print-looked-requires : tie.Need-print-looked-requires
+print-looked-requires c κs = rw (c .before .before .answer .given .1) at (c .before .before .before .before .before .before .pre)
 
-print-list-requires : tie.Need-print-list-requires
-print-list-requires c κs = search needs
+enum-known-answer-2 : tie.Need-enum-known-answer-2
+enum-known-answer-2 c = search needs
 
-slice-aggregate-print-text : tie.Need-slice-aggregate-print-text
-slice-aggregate-print-text c = search needs
-
-print-text-requires : tie.Need-print-text-requires
-print-text-requires c κs = search needs
+print-refused-requires : tie.Need-print-refused-requires
+print-refused-requires c κs = search needs
 
 same-length : tie.Need-same-length
 same-length c = search needs
 
 returns : tie.Need-returns
 unfolding answerText
-returns c =
-    printed-as
-    (printed-then (c .before .before .before .before .before .before .before .before .before .before .before .print-field .ensures .0)
-    (printed-then (c .before .before .before .before .before .before .before .print-list .ensures .0) (c .before .before .print-text .ensures)))
-    (search)
+returns c = rw (c .before .before .before .before .before .answer .given .1) (printed-as (c .before .before .print-looked .ensures) (search))
+
+same-length-2 : tie.Need-same-length-2
+same-length-2 c = search needs
+
+returns-2 : tie.Need-returns-2
+unfolding answerText
+returns-2 c =
+    let a = c .before .before .before .before .before .before .before .before .before .args in
+    rw (c .before .before .before .before .before .answer2 .given .1) (printed-as (c .before .before .print-refused .ensures (a .asked) (a .list .now)) (search))
 
 pub print-board-spec : {M : Type 1} → statement M
 print-board-spec =
     tie.close
     (tie.spec
-    slice-aggregate-print-field
-    print-field-requires
-    print-list-requires
-    slice-aggregate-print-text
-    print-text-requires
+    enum-known-answer
+    print-looked-requires
+    enum-known-answer-2
+    print-refused-requires
     same-length
-    returns)
+    returns
+    same-length-2
+    returns-2)

@@ -1,7 +1,7 @@
 -- `answers::print_enquiry` meets its contract, case by case.
 use Rattle.answers.specs.Answers.{answerText}
 use Rattle.text.proofs.Printing.{printed-as}
-use Rattle.answers.proofs.Answering.{refused-left}
+use Rattle.calls.proofs.Enquiries.{refused-left}
 use borrow.Author.Needs.{needs}
 use Rattle.answers.proofs.answer.print_enquiry.Statement.{statement}
 use Rattle.answers.proofs.answer.print_enquiry.Tie as tie
@@ -29,7 +29,7 @@ same-length c = search needs
 
 returns : tie.Need-returns
 unfolding answerText
-returns c = rw (c .before .before .before .before .before .before .before .answer .given .1) (printed-as (c .before .before .print-two .ensures) (search))
+returns c asked list = rw (c .before .before .before .before .before .before .before .answer .given .1) (printed-as (c .before .before .print-two .ensures) (search))
 
 enum-known-answer-2 : tie.Need-enum-known-answer-2
 enum-known-answer-2 c = search needs
@@ -42,7 +42,7 @@ same-length-2 c = search needs
 
 returns-2 : tie.Need-returns-2
 unfolding answerText
-returns-2 c = rw (refused-left (c .before .before .before .before .before .before .before .args .answer) (c .before .before .before .before .before .match .keys2) (c .before .before .before .before .match2 .keys2)) (printed-as (c .before .before .print-refused .ensures) (search))
+returns-2 c asked list = rw (refused-left (c .before .before .before .before .before .before .before .args .answer) (c .before .before .before .before .before .match .keys2) (c .before .before .before .before .match2 .keys2)) (printed-as (c .before .before .print-refused .ensures asked list) (search))
 
 slice-aggregate-print-three : tie.Need-slice-aggregate-print-three
 slice-aggregate-print-three c = search needs
@@ -64,7 +64,7 @@ same-length-3 c = search needs
 
 returns-3 : tie.Need-returns-3
 unfolding answerText
-returns-3 c = rw (c .before .before .before .before .before .before .answer2 .given .1) (printed-as (c .before .before .print-three .ensures) (search))
+returns-3 c asked list = rw (c .before .before .before .before .before .before .answer2 .given .1) (printed-as (c .before .before .print-three .ensures) (search))
 
 pub print-enquiry-spec : {M : Type 1} → statement M
 print-enquiry-spec =

@@ -34,7 +34,7 @@ same-length c = search needs
 
 returns : tie.Need-returns
 unfolding answerText
-returns c =
+returns c asked =
     printed-as
     (printed-then (c .before .before .before .before .before .before .before .before .before .before .before .before .before .before .before .before .print-field .ensures .0)
     (printed-then (c .before .before .before .before .before .before .before .before .before .before .before .print-field2 .ensures .0)

@@ -1,5 +1,6 @@
 -- `answers::print_opening` meets its contract, case by case.
 use Rattle.answers.specs.Answers.{answerText}
+use mathlib.Core.List.{[]}
 use Rattle.text.proofs.Printing.{printed-as}
 use borrow.Author.Needs.{needs}
 use Rattle.answers.proofs.answer.print_opening.Statement.{statement}
@@ -35,7 +36,7 @@ same-length-2 c = search needs
 
 returns-2 : tie.Need-returns-2
 unfolding answerText
-returns-2 c = rw (c .before .before .before .before .before .answer2 .given .1) (printed-as (c .before .before .print-refused .ensures) (search))
+returns-2 c = rw (c .before .before .before .before .before .answer2 .given .1) (printed-as (c .before .before .print-refused .ensures 0 []) (search))
 
 pub print-opening-spec : {M : Type 1} → statement M
 print-opening-spec =

@@ -16,7 +16,7 @@ same-length c = search needs
 
 returns : tie.Need-returns
 unfolding answerText
-returns c = printed-as (c .before .before .print-one .ensures) (search)
+returns c asked list = printed-as (c .before .before .print-one .ensures) (search)
 
 pub print-refused-spec : {M : Type 1} → statement M
 print-refused-spec =

@@ -1,3 +1,4 @@
+-- A shift is a division, and what is left of 256 is a byte.
 use Rattle.blocks.proofs.Numbers.{byte-shifted}
 use borrow.Author.Needs.{needs}
 use Rattle.blocks.proofs.bytes.byte_of.Statement.{statement}

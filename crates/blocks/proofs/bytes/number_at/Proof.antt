@@ -1,3 +1,4 @@
+-- The sum of the bytes, each with its weight, fits.
 use Rattle.blocks.proofs.Numbers.{number-joined}
 use borrow.Author.Needs.{needs}
 use Rattle.blocks.proofs.bytes.number_at.Statement.{statement}

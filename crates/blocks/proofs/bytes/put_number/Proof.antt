@@ -1,3 +1,4 @@
+-- Byte by byte, the lowest first; the other places stay.
 use lib.ListN.{length-set}
 use native.Mathlib.Omega.{arith}
 use borrow.Author.Needs.{needs}

@@ -1,3 +1,4 @@
+-- The loop has copied the places before it.
 use mathlib.Core.Path.{refl}
 use Prim.Native.Nat.{ℕ, _+_, _≤_, _-_}
 use lib.ListN.{getD, length-replicate}

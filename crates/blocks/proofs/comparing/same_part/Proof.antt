@@ -1,3 +1,4 @@
+-- The loop knows whether the places before it are the same.
 use mathlib.Core.Logic.{⊎-elim}
 use mathlib.Core.Path.{_≡_, refl, sym, _∙_, ap}
 use mathlib.Core.Bool.{true}

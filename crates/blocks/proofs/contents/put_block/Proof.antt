@@ -1,3 +1,4 @@
+-- The loop has put the bytes before it, and their check so far.
 use Prim.Native.Nat.{_+_, _-_, _*_, _≤_}
 use mathlib.Core.Path.{_≡_, refl, sym}
 use lib.ListN.{length, length-set}

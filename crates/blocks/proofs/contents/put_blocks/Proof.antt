@@ -1,3 +1,4 @@
+-- The loop has put the blocks before it.
 use mathlib.Core.Path.{_≡_}
 use Prim.Native.Nat.{_-_, _*_, _≤_}
 use lib.ListN.{length}

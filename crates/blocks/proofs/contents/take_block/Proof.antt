@@ -1,3 +1,4 @@
+-- The loop has taken the bytes before it, and their check so far.
 use Prim.Native.Nat.{_+_, _-_, _*_, _≤_}
 use mathlib.Core.Path.{_≡_, refl, sym, _∙_, ap}
 use lib.ListN.{length, length-set}

@@ -1,3 +1,4 @@
+-- The loop has taken the blocks before it, and knows whether their checks are right.
 use mathlib.Core.Logic.{⊎-elim}
 use mathlib.Core.Path.{_≡_, sym, _∙_, ap}
 use mathlib.Core.Bool.{true, false}

@@ -1,3 +1,4 @@
+-- The product fits.
 use mathlib.Core.Path.{ap}
 use Prim.Native.Nat.{_*_}
 use Rattle.blocks.proofs.Numbers.{weight-small}

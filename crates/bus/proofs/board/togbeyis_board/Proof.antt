@@ -1,73 +1,40 @@
-use mathlib.Core.Path.{ap}
+-- Served with both lists, and told.
+use mathlib.Core.Path.{refl}
 use native.Mathlib.Omega.{arith}
-use Rattle.station.specs.Answers.{boardAnswer}
-use Rattle.bus.proofs.Calling.{end-refused, end-saved, saved-blocks, saved-whole, whole, restore-refused, call-left}
+use Rattle.bus.proofs.Calling.{call-refused, call-told}
 use borrow.Author.Needs.{needs}
 use Rattle.bus.proofs.board.togbeyis_board.Statement.{statement}
 use Rattle.bus.proofs.board.togbeyis_board.Tie as tie
 
-restore-requires : tie.Need-restore-requires
-restore-requires c κs = search needs
+serve-requires : tie.Need-serve-requires
+serve-requires c κs = search needs
 
 same-length : tie.Need-same-length
 same-length c = search needs
 
-returns : tie.Need-returns
-returns c = restore-refused (c .before .restore .ensures) (omega (arith, c .if1 .taken)) (search needs) (search needs) (search needs) (search needs)
-
-board-requires : tie.Need-board-requires
-board-requires c κs = search needs
-
-enum-known-answer : tie.Need-enum-known-answer
-enum-known-answer c = search needs
-
-save-back-requires : tie.Need-save-back-requires
-save-back-requires c κs = search needs
-
-enum-known-answer-2 : tie.Need-enum-known-answer-2
-enum-known-answer-2 c = search needs
-
 same-length-2 : tie.Need-same-length-2
 same-length-2 c = search needs
+
+returns : tie.Need-returns
+returns c = call-refused (c .before .before .before .before .before .before .serve .ensures .0) (search needs) (omega (arith, c .if1 .taken)) (search needs) (search needs) (search needs) (search needs)
 
 same-length-3 : tie.Need-same-length-3
 same-length-3 c = search needs
 
-returns-2 : tie.Need-returns-2
-returns-2 c =
-    let b = c .before .before .before .before .before .before .before .before .before .before in
-    let r = b .before .before .before .before .restore .ensures in
-    let w = whole r (omega (arith, b .before .before .before .if1 .left)) in
-    let s = c .before .before .save-back .ensures in
-    call-left r (omega (arith, b .before .before .before .if1 .left)) (b .board .ensures) (search needs)
-    (end-saved (ap boardAnswer (c .before .before .before .before .before .before .answer .given .1)) (search needs) (search needs) (search (saved-blocks w s)) (search (saved-whole w s)))
-
 same-length-4 : tie.Need-same-length-4
 same-length-4 c = search needs
 
-same-length-5 : tie.Need-same-length-5
-same-length-5 c = search needs
-
-returns-3 : tie.Need-returns-3
-returns-3 c =
-    let b = c .before .before .before .before .before in
-    call-left (b .before .before .before .before .restore .ensures) (omega (arith, b .before .before .before .if1 .left)) (b .board .ensures) (search needs)
-    (end-refused (ap boardAnswer (c .before .answer2 .given .1)) (search needs) (search needs) (search needs))
+returns-2 : tie.Need-returns-2
+returns-2 c = call-told (c .before .before .before .before .before .before .serve .ensures .0) (search needs) (omega (arith, c .if1 .left)) refl (search needs) (search needs) (search needs) (search needs)
 
 pub togbeyis-board-spec : {M : Type 1} → statement M
 togbeyis-board-spec =
     tie.close
     (tie.spec
-    restore-requires
+    serve-requires
     same-length
-    returns
-    board-requires
-    enum-known-answer
-    save-back-requires
-    enum-known-answer-2
     same-length-2
+    returns
     same-length-3
-    returns-2
     same-length-4
-    same-length-5
-    returns-3)
+    returns-2)

@@ -1,3 +1,4 @@
+-- Refused by the restore, by the size of the copy, and saved.
 use native.Mathlib.Omega.{arith}
 use Rattle.bus.proofs.Calling.{save-refused, copy-refused, copy-unsized, copy-saved}
 use borrow.Author.Needs.{needs}

@@ -1,87 +1,39 @@
-use mathlib.Core.Path.{ap}
+-- Refused, and told of a charging charge and of a waiting one, whose end stays.
 use native.Mathlib.Omega.{arith}
-use Rattle.station.specs.Answers.{enquiryAnswer}
-use Rattle.bus.proofs.Calling.{end-refused, end-saved, saved-blocks, saved-whole, whole, restore-refused, call-left}
+use Rattle.bus.proofs.Calling.{call-refused, call-told, charging-numbers, waiting-numbers}
 use borrow.Author.Needs.{needs}
 use Rattle.bus.proofs.enquiry.togbeyis_enquire.Statement.{statement}
 use Rattle.bus.proofs.enquiry.togbeyis_enquire.Tie as tie
 
-restore-requires : tie.Need-restore-requires
-restore-requires c κs = search needs
+serve-alone-requires : tie.Need-serve-alone-requires
+serve-alone-requires c κs = search needs
 
 same-length : tie.Need-same-length
 same-length c = search needs
 
 returns : tie.Need-returns
-returns c = restore-refused (c .before .restore .ensures) (omega (arith, c .if1 .taken)) (search needs) (search needs) (search needs) (search needs)
-
-enquire-requires : tie.Need-enquire-requires
-enquire-requires c κs = search needs
-
-enum-known-answer : tie.Need-enum-known-answer
-enum-known-answer c = search needs
-
-save-back-requires : tie.Need-save-back-requires
-save-back-requires c κs = search needs
-
-enum-known-answer-2 : tie.Need-enum-known-answer-2
-enum-known-answer-2 c = search needs
-
-save-back-requires-2 : tie.Need-save-back-requires-2
-save-back-requires-2 c κs = search needs
-
-enum-told : tie.Need-enum-told
-enum-told c = search needs
+returns c = call-refused (c .before .before .before .before .serve-alone .ensures) (search needs) (omega (arith, c .if1 .taken)) (search needs) (search needs) (search needs) (search needs)
 
 same-length-2 : tie.Need-same-length-2
 same-length-2 c = search needs
 
 returns-2 : tie.Need-returns-2
-returns-2 c =
-    let b = c .before .before .before .before .before .before .before .before in
-    let r = b .before .before .before .restore .ensures in
-    let w = whole r (omega (arith, b .before .before .if1 .left)) in
-    let s = c .before .before .save-back .ensures in
-    call-left r (omega (arith, b .before .before .if1 .left)) (b .enquire .ensures) (search needs)
-    (end-saved (ap enquiryAnswer (c .before .before .before .before .before .answer .given .1)) (search needs) (search needs) (search (saved-blocks w s)) (search (saved-whole w s)))
+returns-2 c = call-told (c .before .before .before .before .before .before .serve-alone .ensures) (search needs) (omega (arith, c .before .before .if1 .left)) (charging-numbers (c .before .before .before .before .before .before .serve-alone .result) (omega (arith, c .if2 .taken))) (search needs) (search needs) (search needs) (search needs)
 
 same-length-3 : tie.Need-same-length-3
 same-length-3 c = search needs
 
 returns-3 : tie.Need-returns-3
-returns-3 c =
-    let b = c .before .before .before .before .before .before .before .before in
-    let r = b .before .before .before .restore .ensures in
-    let w = whole r (omega (arith, b .before .before .if1 .left)) in
-    let s = c .before .before .save-back2 .ensures in
-    call-left r (omega (arith, b .before .before .if1 .left)) (b .enquire .ensures) (search needs)
-    (end-saved (ap enquiryAnswer (c .before .before .before .before .before .answer2 .given .1)) (search needs) (search needs) (search (saved-blocks w s)) (search (saved-whole w s)))
-
-same-length-4 : tie.Need-same-length-4
-same-length-4 c = search needs
-
-returns-4 : tie.Need-returns-4
-returns-4 c =
-    let b = c .before .before .before in
-    call-left (b .before .before .before .restore .ensures) (omega (arith, b .before .before .if1 .left)) (b .enquire .ensures) (search needs)
-    (end-refused (ap enquiryAnswer (c .enum-told .given .1)) (search needs) (search needs) (search needs))
+returns-3 c = call-told (c .before .before .before .before .before .before .serve-alone .ensures) (search needs) (omega (arith, c .before .before .if1 .left)) (waiting-numbers (c .before .before .before .before .before .before .serve-alone .result) (omega (arith, c .if2 .left))) (search needs) (search needs) (search needs) (search needs)
 
 pub togbeyis-enquire-spec : {M : Type 1} → statement M
 togbeyis-enquire-spec =
     tie.close
     (tie.spec
-    restore-requires
+    serve-alone-requires
     same-length
     returns
-    enquire-requires
-    enum-known-answer
-    save-back-requires
-    enum-known-answer-2
-    save-back-requires-2
-    enum-told
     same-length-2
     returns-2
     same-length-3
-    returns-3
-    same-length-4
-    returns-4)
+    returns-3)

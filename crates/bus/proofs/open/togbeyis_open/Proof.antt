@@ -1,6 +1,8 @@
+-- Of another size, refused, and saved over whatever the list held.
 use mathlib.Core.Path.{ap}
 use Rattle.station.specs.Answers.{openAnswer}
-use Rattle.bus.proofs.Calling.{end-refused, end-saved, saved-blocks, saved-whole, open-unsized, open-left}
+use Rattle.service.proofs.Serving.{saved-blocks, saved-whole}
+use Rattle.bus.proofs.Calling.{end-refused, end-saved, open-unsized, open-left}
 use borrow.Author.Needs.{needs}
 use Rattle.bus.proofs.open.togbeyis_open.Statement.{statement}
 use Rattle.bus.proofs.open.togbeyis_open.Tie as tie

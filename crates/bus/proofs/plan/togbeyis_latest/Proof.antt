@@ -1,42 +1,26 @@
-use native.Mathlib.Omega.{arith}
-use Rattle.bus.proofs.Calling.{whole, restore-refused, call-left}
+-- Served, and told as every plan is.
+use Rattle.bus.proofs.Calling.{call-left}
 use borrow.Author.Needs.{needs}
 use Rattle.bus.proofs.plan.togbeyis_latest.Statement.{statement}
 use Rattle.bus.proofs.plan.togbeyis_latest.Tie as tie
 
-restore-requires : tie.Need-restore-requires
-restore-requires c κs = search needs
+serve-alone-requires : tie.Need-serve-alone-requires
+serve-alone-requires c κs = search needs
+
+tell-plan-requires : tie.Need-tell-plan-requires
+tell-plan-requires c κs = search needs
 
 same-length : tie.Need-same-length
 same-length c = search needs
 
 returns : tie.Need-returns
-returns c = restore-refused (c .before .restore .ensures) (omega (arith, c .if1 .taken)) (search needs) (search needs) (search needs) (search needs)
-
-replan-latest-requires : tie.Need-replan-latest-requires
-replan-latest-requires c κs = search needs
-
-end-plan-requires : tie.Need-end-plan-requires
-end-plan-requires c κs =
-    let b = c .before .before .before .before .before .before in
-    (b .replan-latest .ensures .valid, whole (b .before .before .before .restore .ensures) (omega (arith, b .before .before .if1 .left)))
-
-same-length-2 : tie.Need-same-length-2
-same-length-2 c = search needs
-
-returns-2 : tie.Need-returns-2
-returns-2 c =
-    let b = c .before .before .before .before .before .before .before .before .before in
-    call-left (b .before .before .before .restore .ensures) (omega (arith, b .before .before .if1 .left)) (b .replan-latest .ensures) (search needs) (search (c .before .before .end-plan .ensures))
+returns c = call-left (c .before .before .before .before .before .before .before .before .serve-alone .ensures) (search needs) (search (c .tell-plan .ensures .number-is)) (search (c .tell-plan .ensures .numbers-are)) (search needs) (search needs)
 
 pub togbeyis-latest-spec : {M : Type 1} → statement M
 togbeyis-latest-spec =
     tie.close
     (tie.spec
-    restore-requires
+    serve-alone-requires
+    tell-plan-requires
     same-length
-    returns
-    replan-latest-requires
-    end-plan-requires
-    same-length-2
-    returns-2)
+    returns)

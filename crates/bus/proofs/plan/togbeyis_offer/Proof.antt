@@ -1,42 +1,25 @@
-use native.Mathlib.Omega.{arith}
-use Rattle.bus.proofs.Calling.{whole, restore-refused, call-left}
+-- Served with the starts to read, and told as every plan is.
+use Rattle.bus.proofs.Calling.{call-left}
 use borrow.Author.Needs.{needs}
 use Rattle.bus.proofs.plan.togbeyis_offer.Statement.{statement}
 use Rattle.bus.proofs.plan.togbeyis_offer.Tie as tie
 
-restore-requires : tie.Need-restore-requires
-restore-requires c κs = search needs
+slice-aggregate-serve : tie.Need-slice-aggregate-serve
+slice-aggregate-serve c = search needs
+
+serve-requires : tie.Need-serve-requires
+serve-requires c κs = search needs
+
+tell-plan-requires : tie.Need-tell-plan-requires
+tell-plan-requires c κs = search needs
 
 same-length : tie.Need-same-length
 same-length c = search needs
 
 returns : tie.Need-returns
-returns c = restore-refused (c .before .restore .ensures) (omega (arith, c .if1 .taken)) (search needs) (search needs) (search needs) (search needs)
-
-offer-requires : tie.Need-offer-requires
-offer-requires c κs = search needs
-
-end-plan-requires : tie.Need-end-plan-requires
-end-plan-requires c κs =
-    let b = c .before .before .before .before .before .before in
-    (b .offer .ensures .valid, whole (b .before .before .before .restore .ensures) (omega (arith, b .before .before .if1 .left)))
-
-same-length-2 : tie.Need-same-length-2
-same-length-2 c = search needs
-
-returns-2 : tie.Need-returns-2
-returns-2 c =
-    let b = c .before .before .before .before .before .before .before .before .before in
-    call-left (b .before .before .before .restore .ensures) (omega (arith, b .before .before .if1 .left)) (b .offer .ensures) (search needs) (search (c .before .before .end-plan .ensures))
+returns c = call-left (c .before .before .before .before .before .before .before .before .before .serve .ensures .0) (search needs) (search (c .tell-plan .ensures .number-is)) (search (c .tell-plan .ensures .numbers-are)) (search needs) (search needs)
 
 pub togbeyis-offer-spec : {M : Type 1} → statement M
 togbeyis-offer-spec =
     tie.close
-    (tie.spec
-    restore-requires
-    same-length
-    returns
-    offer-requires
-    end-plan-requires
-    same-length-2
-    returns-2)
+    (tie.spec slice-aggregate-serve serve-requires tell-plan-requires same-length returns)

@@ -1,7 +1,7 @@
 -- All eight columns are gathered at the same places, so that each charge goes over whole.
 use mathlib.Core.Path.{refl}
 use Rattle.charges.specs.Arrays.{tickets, lines, orderMinutes, times, activeTimes, dues, starts, rates}
-use Rattle.charges.specs.Places.{places}
+use Rattle.charges.specs.Places.{placesFrom}
 use Rattle.charges.proofs.Gathering.{holds-at}
 use Rattle.charges.proofs.Charges.at_places.Statement.{statement}
 use Rattle.charges.proofs.Charges.at_places.Tie as tie
@@ -40,7 +40,7 @@ returns c =
     let two = three .before .before .before in
     let one = two .before .before .before in
     let s = one .before .before .before in
-    holds-at (s .args .t1) (places (s .args .count) (s .args .places .now)) refl
+    holds-at (s .args .t1) (placesFrom (s .args .count) (s .args .places .now)) refl
     (λ k.
     elim k [
       | tickets ↦ search (one .gathered .ensures)

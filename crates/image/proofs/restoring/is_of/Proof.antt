@@ -1,3 +1,4 @@
+-- Not valid, or compared with its own contents.
 use borrow.Author.Tests.{not-true, not-false}
 use Rattle.station.specs.View.{view}
 use Rattle.image.proofs.Answering.{not-of, of-told}

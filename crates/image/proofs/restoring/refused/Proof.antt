@@ -1,3 +1,4 @@
+-- Beside a refusal stands the fresh station.
 use mathlib.Core.Path.{refl}
 use Rattle.image.proofs.Answering.{open-least}
 use borrow.Author.Needs.{needs}

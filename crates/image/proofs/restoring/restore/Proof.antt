@@ -1,3 +1,4 @@
+-- Refused for the length, a check, block 0 and the rest of the contents; and accepted.
 use mathlib.Core.Path.{refl, ap, sym, _∙_}
 use native.Mathlib.Omega.{arith}
 use Rattle.image.specs.Answers.{isFrom}

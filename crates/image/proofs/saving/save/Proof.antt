@@ -1,3 +1,4 @@
+-- Refused for either length, and written.
 use mathlib.Core.Path.{refl}
 use Rattle.station.specs.View.{view}
 use Rattle.image.proofs.Answering.{saves-refused, saves-done}

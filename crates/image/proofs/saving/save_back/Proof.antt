@@ -1,3 +1,4 @@
+-- The bytes before are copied first, so that the blocks are compared with them.
 use Rattle.station.specs.View.{view}
 use Rattle.image.proofs.Answering.{saves-refused, saves-done}
 use borrow.Author.Needs.{needs}

@@ -1,3 +1,4 @@
+-- The contents laid out with their checks are the image.
 use mathlib.Core.Path.{ap, _∙_}
 use Rattle.blocks.specs.Contents.{laidOut}
 use Rattle.image.proofs.Imaging.{contents-long, laid-image}

@@ -1,3 +1,4 @@
+-- `lines::next::chosen_at` meets its contract: what fits at the start goes by the runs of the two rates.
 use borrow.Author.Needs.{needs}
 use Rattle.lines.proofs.Nexts.{chosen-by}
 use Rattle.lines.proofs.next.chosen_at.Statement.{statement}

@@ -1,3 +1,4 @@
+-- `lines::next::next_start` meets its contract: the smaller one of the starts for the two rates.
 use native.Mathlib.Omega.{arith}
 use borrow.Author.Needs.{needs}
 use Rattle.lines.proofs.Seeking.{seek-for, seek-both}

@@ -1,3 +1,4 @@
+-- `lines::next::start_for` meets its contract: no minute where no charge has the rate, else the earliest start.
 use native.Mathlib.Omega.{arith}
 use Rattle.lines.proofs.next.start_for.Statement.{statement}
 use Rattle.lines.proofs.next.start_for.Tie as tie

@@ -1,4 +1,5 @@
 -- Each way out is the first of causes 3 to 6 that applies.
+use native.Mathlib.Omega.{arith}
 use borrow.Author.Tests.{not-true, not-false}
 use borrow.Author.Needs.{needs}
 use Rattle.profile.proofs.Balances.{limit-shows, unbalanced-shows}
@@ -20,8 +21,10 @@ last-end-requires-2 c κs = search needs
 
 returns-2 : tie.Need-returns-2
 returns-2 c =
-    judges-four _ _ _ (c .before .before .before .before .before .before .pre .1) (c .before .before .before .before .start-below .ensures) (c .before .before .before .if1 .left) (c .before .before .last-end .ensures)
-    (c .before .last-end2 .ensures) (c .if2 .taken)
+    let own = c .before .before .last-end in
+    let new = c .before .last-end2 in
+    judges-four _ _ _ (c .before .before .before .before .before .before .pre .1) (c .before .before .before .before .start-below .ensures) (c .before .before .before .if1 .left) {x = own .result} {y = new .result} (search (own .ensures))
+    (search (new .ensures)) (c .if2 .taken)
 
 profile-before-requires : tie.Need-profile-before-requires
 profile-before-requires c κs = (
@@ -37,8 +40,8 @@ within-limit-requires c κs = c .profile-before .ensures .formed
 returns-3 : tie.Need-returns-3
 returns-3 c =
     judges-five (c .before .before .before .before .before .before .before .before .before .args .limit) _ _ (c .before .before .before .before .before .before .before .before .before .pre .1) (c .before .before .before .before .before .before .before .start-below .ensures) (c .before .before .before .before .before .before .if1 .left) (c .before .before .before .before .before .last-end .ensures)
-    (c .before .before .before .before .last-end2 .ensures) (c .before .before .before .before .before .before .before .before .before .pre .0) (c .before .before .before .if2 .left) (c .before .before .profile-before .ensures)
-    (limit-shows (c .before .within-limit .ensures)) (not-true _ (c .if3 .taken))
+    (c .before .before .before .before .last-end2 .ensures) (c .before .before .before .before .before .before .before .before .before .pre .0) (c .before .before .before .if2 .left) (c .before .before .profile-before .ensures) (omega arith)
+    (limit-shows (c .before .within-limit .ensures)) (omega arith) (not-true _ (c .if3 .taken))
 
 first-unbalanced-requires : tie.Need-first-unbalanced-requires
 first-unbalanced-requires c κs = c .before .before .profile-before .ensures .formed
@@ -49,8 +52,8 @@ enum-told c = search needs
 returns-4 : tie.Need-returns-4
 returns-4 c =
     judges-six _ _ _ (c .before .before .before .before .before .before .before .before .before .before .before .before .pre .1) (c .before .before .before .before .before .before .before .before .before .before .start-below .ensures) (c .before .before .before .before .before .before .before .before .before .if1 .left) (c .before .before .before .before .before .before .before .before .last-end .ensures)
-    (c .before .before .before .before .before .before .before .last-end2 .ensures) (c .before .before .before .before .before .before .before .before .before .before .before .before .pre .0) (c .before .before .before .before .before .before .if2 .left) (c .before .before .before .before .before .profile-before .ensures)
-    (limit-shows (c .before .before .before .before .within-limit .ensures)) (not-false _ (c .before .before .before .if3 .left)) _ (unbalanced-shows (c .before .before .first-unbalanced .ensures))
+    (c .before .before .before .before .before .before .before .last-end2 .ensures) (c .before .before .before .before .before .before .before .before .before .before .before .before .pre .0) (c .before .before .before .before .before .before .if2 .left) (c .before .before .before .before .before .profile-before .ensures) (omega arith)
+    (limit-shows (c .before .before .before .before .within-limit .ensures)) (omega arith) (not-false _ (c .before .before .before .if3 .left)) _ (unbalanced-shows (c .before .before .first-unbalanced .ensures)) (omega arith)
     (c .enum-told .given .1)
 
 enum-told-2 : tie.Need-enum-told-2
@@ -59,8 +62,8 @@ enum-told-2 c = search needs
 returns-5 : tie.Need-returns-5
 returns-5 c =
     judges-none _ _ _ (c .before .before .before .before .before .before .before .before .before .before .before .before .pre .1) (c .before .before .before .before .before .before .before .before .before .before .start-below .ensures) (c .before .before .before .before .before .before .before .before .before .if1 .left) (c .before .before .before .before .before .before .before .before .last-end .ensures)
-    (c .before .before .before .before .before .before .before .last-end2 .ensures) (c .before .before .before .before .before .before .before .before .before .before .before .before .pre .0) (c .before .before .before .before .before .before .if2 .left) (c .before .before .before .before .before .profile-before .ensures)
-    (limit-shows (c .before .before .before .before .within-limit .ensures)) (not-false _ (c .before .before .before .if3 .left)) _ (unbalanced-shows (c .before .before .first-unbalanced .ensures))
+    (c .before .before .before .before .before .before .before .last-end2 .ensures) (c .before .before .before .before .before .before .before .before .before .before .before .before .pre .0) (c .before .before .before .before .before .before .if2 .left) (c .before .before .before .before .before .profile-before .ensures) (omega arith)
+    (limit-shows (c .before .before .before .before .within-limit .ensures)) (omega arith) (not-false _ (c .before .before .before .if3 .left)) _ (unbalanced-shows (c .before .before .first-unbalanced .ensures)) (omega arith)
     (c .enum-told2 .given .1)
 
 pub cause-of-spec : {M : Type 1} → statement M

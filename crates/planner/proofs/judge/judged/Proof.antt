@@ -1,4 +1,5 @@
 -- Kept with the cause, or taken: the answer is that of the rules.
+use native.Mathlib.Omega.{arith}
 use borrow.Author.Needs.{needs}
 use Rattle.planner.proofs.Judging.{judges-kept, judges-taken}
 use Rattle.planner.proofs.judge.judged.Statement.{statement}
@@ -21,13 +22,15 @@ or-late-requires c κs = search needs
 
 returns : tie.Need-returns
 returns c =
-    judges-kept (c .before .before .cause-of .ensures) (c .before .before .before .before .before .restarted .ensures) (c .before .before .before .before .lateness .ensures)
-    (c .before .before .before .lateness2 .ensures) (c .before .or-late .ensures) (c .if1 .taken)
+    let late = c .before .before .before .lateness2 in
+    judges-kept {after = late .result} (c .before .before .cause-of .ensures) (c .before .before .before .before .before .restarted .ensures)
+    (c .before .before .before .before .lateness .ensures) (search (late .ensures)) (c .before .or-late .ensures) (c .if1 .taken) (omega arith)
 
 returns-2 : tie.Need-returns-2
 returns-2 c =
-    judges-taken (c .before .before .cause-of .ensures) (c .before .before .before .before .before .restarted .ensures) (c .before .before .before .before .lateness .ensures)
-    (c .before .before .before .lateness2 .ensures) (c .before .or-late .ensures) (c .if1 .left)
+    let late = c .before .before .before .lateness2 in
+    judges-taken {after = late .result} (c .before .before .cause-of .ensures) (c .before .before .before .before .before .restarted .ensures)
+    (c .before .before .before .before .lateness .ensures) (search (late .ensures)) (c .before .or-late .ensures) (c .if1 .left) (omega arith)
 
 pub judged-spec : {M : Type 1} → statement M
 judged-spec =

@@ -88,7 +88,7 @@ returns c =
     latest-none _ _ order
     (sound-stuck r (queue-latest-start (r .listed) order) (c .before .before .before .before .before .before .before .before .before .before .before .loop .inv .1) (c .before .before .before .before .before .before .before .before .before .before .loop-test .taken) _
     (c .before .before .before .earliest .ensures) (c .before .enum-told .given .1))
-    (c .none .ensures .0)
+    (search (c .none .ensures .0))
     (c .none .ensures .1)
 
 add-requires : tie.Need-add-requires Inv-loop μ-loop
@@ -133,6 +133,7 @@ returns-2 c =
     latest-starts _ _ order
     (placed-end (r .listed) (queue-latest-start (r .listed) order) (c .before .before .loop .inv .1) (omega arith))
     (c .waiting-starts .ensures)
+    (omega arith)
 
 pub latest-spec : {M : Type 1} → statement M
 latest-spec =

@@ -1,3 +1,4 @@
+-- `planner::plan::plan_sound` meets its contract: above the limit, out of balance, or sound in every minute.
 use native.Mathlib.Omega.{arith}
 use borrow.Author.Tests.{not-true, not-false}
 use Rattle.profile.proofs.Balances.{limit-shows, unbalanced-shows}

@@ -1,3 +1,4 @@
+-- `priority::choice::heavier` meets its contract: quotients are compared by products, which fit in 64 bits.
 use borrow.Author.Needs.{needs}
 use Rattle.priority.proofs.Weighing.{product-fits}
 use Rattle.priority.proofs.choice.heavier.Statement.{statement}

@@ -1,3 +1,4 @@
+-- `priority::choice::run_for` meets its contract, for rate 1 and for rate 2.
 use native.Mathlib.Omega.{arith}
 use borrow.Author.Tests.{eq-eqb, ne-eqb}
 use Rattle.priority.proofs.choice.run_for.Statement.{statement}

@@ -1,3 +1,4 @@
+-- `priority::crowd::joined` meets its contract: one more charge, of rate 1 or of rate 2.
 use mathlib.Core.Logic.{⊎-elim}
 use mathlib.Core.Path.{refl}
 use native.Mathlib.Omega.{arith}

@@ -1,3 +1,4 @@
+-- `priority::crowd::narrowed` meets its contract: number and sum are kept, the times are those of `crowd_of` now.
 use native.Mathlib.Omega.{arith}
 use borrow.Author.Needs.{needs}
 use Rattle.priority.proofs.crowd.narrowed.Statement.{statement}

@@ -1,3 +1,4 @@
+-- `priority::crowd::widened` meets its contract: no time yet, a shorter one, a longer one, or one between.
 use native.Mathlib.Omega.{arith}
 use Rattle.priority.proofs.crowd.widened.Statement.{statement}
 use Rattle.priority.proofs.crowd.widened.Tie as tie

@@ -1,3 +1,4 @@
+-- `priority::weight::slack` meets its contract: the due minute less the end, 0 where the end is not before it.
 use native.Mathlib.Omega.{arith}
 use borrow.Author.Needs.{needs}
 use Rattle.priority.proofs.weight.slack.Statement.{statement}

@@ -1,3 +1,4 @@
+-- `priority::weight::urgency` meets its contract: without slack the first weight, else the one that the slack falls to. Products fit in 64 bits.
 use Prim.Native.Nat.{_+_, _-_}
 use native.Mathlib.Omega.{arith}
 use borrow.Author.Needs.{needs}

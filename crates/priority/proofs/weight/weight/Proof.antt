@@ -1,3 +1,4 @@
+-- `priority::weight::weight` meets its contract: 0 behind the table, else its entry.
 use native.Mathlib.Omega.{arith}
 use borrow.Author.Needs.{needs}
 use Rattle.rules.proofs.Weights.{weight-beyond, weight-most}

@@ -20,7 +20,7 @@ returns c =
       fits = omega arith;
       rises = λ i j a b. absurd (omega arith);
     })
-    refl refl (each-line _ refl refl refl)
+    refl (search) (each-line _ refl refl refl)
 
 pub new-spec : {M : Type 1} → statement M
 new-spec = tie.close (tie.spec array-write-at returns)

@@ -1,3 +1,4 @@
+-- Too many held, or the settings by their own test.
 use Rattle.records.proofs.Columning.{many-held, header-is}
 use borrow.Author.Needs.{needs}
 use Rattle.records.proofs.reading.header_right.Statement.{statement}

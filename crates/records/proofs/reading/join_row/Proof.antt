@@ -1,3 +1,4 @@
+-- The loop has joined a byte to each number before it, which fits.
 use mathlib.Core.Path.{refl, ap, _∙_}
 use Prim.Native.Nat.{_-_}
 use lib.ListN.{getD}

@@ -1,3 +1,4 @@
+-- The header and the columns are the station that the contents are of.
 use native.Mathlib.Omega.{arith}
 use Rattle.records.proofs.Columning.{held-few, header-ranged, product-told, read-from}
 use borrow.Author.Needs.{needs}

@@ -1,3 +1,4 @@
+-- Each column is read from its bytes.
 use Rattle.records.proofs.Columning.{holds-from}
 use borrow.Author.Needs.{needs}
 use Rattle.records.proofs.reading.read_charges.Statement.{statement}

@@ -1,6 +1,8 @@
+-- The loop goes from the highest byte down.
 use mathlib.Core.Path.{refl}
 use Prim.Native.Nat.{ℕ, _+_, _-_, _≤_, _<_}
 use lib.ListN.{getD}
+use Rattle.rules.specs.Calls.{places}
 use Rattle.charges.specs.Arrays.{Filled}
 use Rattle.charges.proofs.Storing.{zeros}
 use Rattle.records.specs.Contents.{recordIn}
@@ -17,7 +19,7 @@ abbrev μ-loop : tie.MeasureT-loop
 μ-loop contents held from width column₀ j₀ column j = j
 
 loop-holds : tie.Need-loop-holds Inv-loop μ-loop
-loop-holds c = (filled-by-none _, λ q h. rw (zeros 180 q) (joined-none _ _ _), omega arith)
+loop-holds c = (filled-by-none _, λ q h. rw (zeros places q) (joined-none _ _ _), omega arith)
 
 sub-j : tie.Need-sub-j Inv-loop μ-loop
 sub-j c = omega arith

@@ -1,3 +1,4 @@
+-- The loop has added the tail to the times before it.
 use mathlib.Core.Path.{refl}
 use Prim.Native.Nat.{_+_, _≤_, _-_}
 use lib.ListN.{getD}

@@ -1,3 +1,4 @@
+-- The header and each column are the contents of the station.
 use mathlib.Core.Path.{refl}
 use Rattle.station.specs.View.{view}
 use Rattle.records.specs.Contents.{contentByte, contentsOf}

@@ -1,3 +1,4 @@
+-- The loop has put the rows of the bytes before it.
 use mathlib.Core.Path.{_≡_}
 use Prim.Native.Nat.{ℕ, _+_, _-_, _≤_, _<_}
 use lib.ListN.{length}

@@ -1,4 +1,4 @@
--- `search::candidate::test_start` meets its contract. The invariant: every minute before t passes, and t lies in step i.
+-- `search::candidate::test_start` meets its contract. The invariant: every minute before t passes, and t lies in step i. The measure is what is left of the minutes.
 use Prim.Native.Nat.{_+_, _-_}
 use mathlib.Core.Path.{refl}
 use native.Mathlib.Omega.{arith}
@@ -6,7 +6,7 @@ use borrow.Author.Needs.{needs}
 use borrow.Author.Tests.{not-true, not-false}
 use Rattle.profile.specs.Shows.{profileOf}
 use Rattle.profile.proofs.Lines.{line-one, line-two, line-three}
-use Rattle.search.proofs.Candidates.{Testing, test-begin, test-inside, test-small, test-passes, test-stops, test-on}
+use Rattle.search.proofs.Candidates.{Testing, test-begin, test-inside, test-moves, test-small, test-passes, test-stops, test-on}
 use Rattle.search.proofs.candidate.test_start.Statement.{statement}
 use Rattle.search.proofs.candidate.test_start.Tie as tie
 
@@ -14,7 +14,7 @@ abbrev Inv-loop : tie.InvT-loop
 Inv-loop at counts n limits draw start step a b c until i₀ t₀ i t = Testing (profileOf n at counts) limits draw start (start + draw .time) i t
 
 abbrev μ-loop : tie.MeasureT-loop
-μ-loop at counts n limits draw start step a b c until i₀ t₀ i t = n - i
+μ-loop at counts n limits draw start step a b c until i₀ t₀ i t = until - t
 
 share-of-requires : tie.Need-share-of-requires Inv-loop μ-loop
 share-of-requires c κs = search needs
@@ -59,7 +59,7 @@ add-looked : tie.Need-add-looked Inv-loop μ-loop
 add-looked c = omega (arith, test-inside (c .before .before .before .before .before .before .before .before .before .before .before .pre) refl (c .before .before .before .before .before .before .loop .inv) (omega (arith, c .before .before .before .before .before .loop-test .taken)), c .before .before .before .before .before .before .before .before .before .before .before .pre .ends-fit)
 
 returns : tie.Need-returns Inv-loop μ-loop
-returns c = test-stops (c .before .before .before .before .before .before .before .before .before .before .before .pre) refl (c .before .before .before .before .before .before .loop .inv) (omega (arith, c .before .before .before .before .before .loop-test .taken)) (omega (arith, c .before .before .before .before .count-of .ensures, c .before .before .before .before .before .before .before .before .before .before .share-of .ensures .0)) (omega (arith, c .before .before .before .count-of2 .ensures, c .before .before .before .before .before .before .before .before .before .share-of2 .ensures .0)) (omega (arith, c .before .before .count-of3 .ensures, c .before .before .before .before .before .before .before .before .share-of3 .ensures .0)) (c .before .sound .ensures) (not-true _ (c .if1 .taken)) refl (omega arith)
+returns c = test-stops (c .before .before .before .before .before .before .before .before .before .before .before .pre) refl (c .before .before .before .before .before .before .loop .inv) (omega (arith, c .before .before .before .before .before .loop-test .taken)) (omega (arith, c .before .before .before .before .count-of .ensures, c .before .before .before .before .before .before .before .before .before .before .share-of .ensures .0)) (omega (arith, c .before .before .before .count-of2 .ensures, c .before .before .before .before .before .before .before .before .before .share-of2 .ensures .0)) (omega (arith, c .before .before .count-of3 .ensures, c .before .before .before .before .before .before .before .before .share-of3 .ensures .0)) (c .before .sound .ensures) (not-true _ (c .if1 .taken)) (search) (omega arith)
 
 end-of-requires : tie.Need-end-of-requires Inv-loop μ-loop
 end-of-requires c κs = let h = test-inside (c .before .before .before .before .before .before .before .before .before .before .before .pre) refl (c .before .before .before .before .before .before .loop .inv) (omega (arith, c .before .before .before .before .before .loop-test .taken)) in (h .0, h .1)
@@ -68,10 +68,10 @@ add-i : tie.Need-add-i Inv-loop μ-loop
 add-i c = omega (arith, test-inside (c .before .before .before .before .before .before .before .before .before .before .before .before .pre) refl (c .before .before .before .before .before .before .before .loop .inv) (omega (arith, c .before .before .before .before .before .before .loop-test .taken)))
 
 loop-less : tie.Need-loop-less Inv-loop μ-loop
-loop-less c = omega (arith, test-inside (c .before .before .before .before .before .before .before .before .before .before .before .before .pre) refl (c .before .before .before .before .before .before .before .loop .inv) (omega (arith, c .before .before .before .before .before .before .loop-test .taken)))
+loop-less c = omega (arith, test-moves (c .before .before .before .before .before .before .before .before .before .before .before .before .pre) refl (c .before .before .before .before .before .before .before .loop .inv) (omega (arith, c .before .before .before .before .before .before .loop-test .taken)) (c .end-of .ensures))
 
 loop-again : tie.Need-loop-again Inv-loop μ-loop
-loop-again c = test-on (c .before .before .before .before .before .before .before .before .before .before .before .before .pre) refl (c .before .before .before .before .before .before .before .loop .inv) (omega (arith, c .before .before .before .before .before .before .loop-test .taken)) (omega (arith, c .before .before .before .before .before .count-of .ensures, c .before .before .before .before .before .before .before .before .before .before .before .share-of .ensures .0)) (omega (arith, c .before .before .before .before .count-of2 .ensures, c .before .before .before .before .before .before .before .before .before .before .share-of2 .ensures .0)) (omega (arith, c .before .before .before .count-of3 .ensures, c .before .before .before .before .before .before .before .before .before .share-of3 .ensures .0)) (c .before .before .sound .ensures) (not-false _ (c .before .if1 .left)) (c .end-of .ensures) (omega arith)
+loop-again c = test-on (c .before .before .before .before .before .before .before .before .before .before .before .before .pre) refl (c .before .before .before .before .before .before .before .loop .inv) (omega (arith, c .before .before .before .before .before .before .loop-test .taken)) (omega (arith, c .before .before .before .before .before .count-of .ensures, c .before .before .before .before .before .before .before .before .before .before .before .share-of .ensures .0)) (omega (arith, c .before .before .before .before .count-of2 .ensures, c .before .before .before .before .before .before .before .before .before .before .share-of2 .ensures .0)) (omega (arith, c .before .before .before .count-of3 .ensures, c .before .before .before .before .before .before .before .before .before .share-of3 .ensures .0)) (c .before .before .sound .ensures) (not-false _ (c .before .if1 .left)) (c .end-of .ensures) (omega arith) (omega arith)
 
 returns-2 : tie.Need-returns-2 Inv-loop μ-loop
 returns-2 c = test-passes (c .before .before .before .before .before .before .pre) refl (c .before .loop .inv) (omega (arith, c .loop-test .left)) (omega arith)

@@ -26,11 +26,11 @@ add-p c = search needs
 sub-p : tie.Need-sub-p Inv-loop μ-loop
 sub-p c = search needs
 
-mul-smaller : tie.Need-mul-smaller Inv-loop μ-loop
-mul-smaller c = search needs
+mul-held : tie.Need-mul-held Inv-loop μ-loop
+mul-held c = search needs
 
-element-copy-out-smaller : tie.Need-element-copy-out-smaller Inv-loop μ-loop
-element-copy-out-smaller c = search needs
+element-copy-out-held : tie.Need-element-copy-out-held Inv-loop μ-loop
+element-copy-out-held c = search needs
 
 smaller-requires : tie.Need-smaller-requires Inv-loop μ-loop
 smaller-requires c κs = search needs
@@ -48,7 +48,7 @@ loop-less : tie.Need-loop-less Inv-loop μ-loop
 loop-less c = search needs
 
 loop-again : tie.Need-loop-again Inv-loop μ-loop
-loop-again c = lowering-more (c .before .before .before .loop .inv) (c .before .before .before .before .pre .1) (omega arith) refl (c .smaller .ensures)
+loop-again c = lowering-more (c .before .before .before .loop .inv) (c .before .before .before .before .pre .1) (omega arith) refl (omega (arith, c .smaller .ensures))
 
 returns : tie.Need-returns Inv-loop μ-loop
 returns c = lowering-done (c .before .loop .inv) (c .before .before .pre .1) (c .before .before .pre .0) (omega arith)
@@ -63,8 +63,8 @@ lower-spec =
     mul-p
     add-p
     sub-p
-    mul-smaller
-    element-copy-out-smaller
+    mul-held
+    element-copy-out-held
     smaller-requires
     mul-caps
     element-write-caps

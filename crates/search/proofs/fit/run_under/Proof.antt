@@ -46,7 +46,7 @@ returns c =
     let a = s .args in
     let p = profileOf (a .n) (a .at .now) (a .counts .now) in
     run-fails p (capsIn (a .caps .now)) (a .line) (a .rate) (a .most) (omega arith) {m = c .before .larger .result}
-    (walk-fails (c .before .before .under .result) (s .pre .formed .rises) (step-room p (capsIn (a .caps .now)) (a .line) (a .rate) (c .before .before .before .count-of .ensures) (c .before .before .under .ensures))
+    (walk-fails (c .before .before .under .result) (s .pre .formed .rises) (step-room p (capsIn (a .caps .now)) (a .line) (a .rate) (l .loop .i) (c .before .before .under .ensures) (omega (arith, c .before .before .before .count-of .ensures)))
     (l .loop .inv) (c .before .before .before .before .before .loop-test .taken) (c .before .before .before .before .end-of .ensures) (omega (arith, c .before .larger .ensures)) (omega (arith, s .pre .ends-fit)) (omega (arith, c .if1 .taken)))
     (omega arith)
 
@@ -66,7 +66,7 @@ loop-again c =
     let s = l .before .before in
     let a = s .args in
     let p = profileOf (a .n) (a .at .now) (a .counts .now) in
-    walk-on {m = c .before .larger .result} (c .before .before .under .result) (s .pre .formed .rises) (step-room p (capsIn (a .caps .now)) (a .line) (a .rate) (c .before .before .before .count-of .ensures) (c .before .before .under .ensures))
+    walk-on {m = c .before .larger .result} (c .before .before .under .result) (s .pre .formed .rises) (step-room p (capsIn (a .caps .now)) (a .line) (a .rate) (l .loop .i) (c .before .before .under .ensures) (omega (arith, c .before .before .before .count-of .ensures)))
     (l .loop .inv) (c .before .before .before .before .before .loop-test .taken) (c .before .before .before .before .end-of .ensures) (omega (arith, c .before .larger .ensures)) (omega (arith, c .if1 .left)) (omega arith)
 
 returns-2 : tie.Need-returns-2 Inv-loop μ-loop

@@ -19,13 +19,17 @@ smaller-requires-2 : tie.Need-smaller-requires-2
 smaller-requires-2 c κs = search needs
 
 returns : tie.Need-returns
-returns c = sound-not (limits _ _) _ _ _ _ (omega arith) (c .if1 .taken)
+returns c =
+    let a = c .before .before .before .before .before .args in
+    sound-not (limits (a .limit) (a .bound)) _ _ _ (c .before .before .before .larger2 .result) (omega arith) (omega (arith, c .if1 .taken))
 
 sub-result : tie.Need-sub-result
 sub-result c = search needs
 
 returns-2 : tie.Need-returns-2
-returns-2 c = sound-is (limits _ _) _ _ _ _ (omega arith) _ (omega arith) (c .if1 .left)
+returns-2 c =
+    let a = c .before .before .before .before .before .args in
+    sound-is (limits (a .limit) (a .bound)) _ _ _ _ (omega arith) _ (omega arith) (omega (arith, c .if1 .left))
 
 pub sound-spec : {M : Type 1} → statement M
 sound-spec =

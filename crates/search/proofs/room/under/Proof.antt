@@ -1,9 +1,9 @@
 -- `search::room::under` meets its contract.
 use borrow.Author.Needs.{needs}
 use Prim.Native.Nat.{_+_}
-use mathlib.Core.Path.{sym}
+use mathlib.Core.Path.{sym, refl}
 use native.Mathlib.Omega.{arith}
-use Rattle.search.proofs.Lowerings.{past-end}
+use Rattle.search.proofs.Lowerings.{past-end, place-read}
 use Rattle.search.proofs.room.under.Statement.{statement}
 use Rattle.search.proofs.room.under.Tie as tie
 
@@ -26,7 +26,9 @@ element-copy-out-result : tie.Need-element-copy-out-result
 element-copy-out-result c = search needs
 
 returns : tie.Need-returns
-returns c = search needs
+returns c =
+    let a = c .before .before .args in
+    place-read (a .caps .now) (a .line) (a .count + a .rate) refl (omega arith)
 
 returns-2 : tie.Need-returns-2
 returns-2 c = sym (past-end (c .before .args .caps .now) (c .before .args .line) (c .before .args .count + c .before .args .rate) (c .before .pre .0) (c .before .pre .1) (omega arith))

@@ -31,6 +31,7 @@ search-requires c κs =
     (within-rests can (s .pre .2) (s .pre .3) (c .before .before .before .rooms-within .ensures))
     (omega (arith, b))
     (omega (arith, b, c .before .before .unsound-minutes .ensures .high, first-last can))
+    (omega arith)
 
 returns : tie.Need-returns
 returns c =

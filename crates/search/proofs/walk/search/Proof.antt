@@ -33,7 +33,7 @@ enum-told c = search needs
 returns : tie.Need-returns Inv-loop μ-loop
 returns c =
     let passed = told-nothing _ _ _ _ _ _ (c .before .before .first-failing .ensures) (c .enum-told .given .1) in
-    (seek-done (c .before .before .before .loop .inv) (λ t a b. passed t a (omega arith)), c .before .before .before .loop .inv .high)
+    seek-done (c .before .before .before .loop .inv) (omega arith) (λ t a b. passed t a (omega arith))
 
 add-i : tie.Need-add-i Inv-loop μ-loop
 add-i c = omega (arith, seek-below (c .before .before .before .before .before .before .pre) (c .before .before .before .before .loop .inv) (told-at _ _ _ _ _ _ _ _ (c .before .before .before .first-failing .ensures) (c .before .f .given .1)), c .before .before .before .before .before .before .pre .fits)

@@ -42,7 +42,7 @@ loop-again c =
     let a = l .before .args in (
       omega arith,
       simp length-set (l .loop .inv .1),
-      rw (l .loop .inv .2) (carried-more (a .buffer .now) (a .from) (a .to) (l .loop .i) (l .before .pre .0) (l .before .pre .1) (c .before .loop-test .taken)),
+      rw (l .loop .inv .2) (carried-more (a .buffer .now) (a .from) (a .to) (l .loop .i) (l .before .pre .0) (l .before .pre .1) (c .before .loop-test .taken) (omega arith)),
     )
 
 same-length : tie.Need-same-length Inv-loop μ-loop

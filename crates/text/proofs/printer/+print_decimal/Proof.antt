@@ -117,7 +117,7 @@ print-decimal-returns-2 : (t : ℕ) → print-decimal-lts.Need-returns-2 (
 ) (print-decimal-at t) print-decimal.Post
 print-decimal-returns-2 t c =
     let s = c .before .before .before .before .before .before in
-    printed-digits (s .args .n) (s .args .buffer .now) (s .args .at) (c .before .before .print-decimal .last .1 .0) (c .before .before .print-decimal .result) (c .before .before .before .before .if1 .left) (s .fits .n .fits) (last-within t c) (c .before .before .print-decimal .ensures)
+    printed-digits (s .args .n) (s .args .buffer .now) (s .args .at) (c .before .before .print-decimal .last .1 .0) (c .before .before .print-decimal .result) (c .before .before .before .before .if1 .left) (s .fits .n .fits) (last-within t c) (c .before .before .print-decimal .ensures) (omega arith)
 
 pub +print-decimal-spec : {M : Type 1} → statement M
 +print-decimal-spec = close μ-print-decimal λ t. print-decimal-lts.spec (

@@ -1,10 +1,10 @@
 -- `text::print_list` meets its contract: number by number, the list so far is printed.
-use mathlib.Core.Path.{_≡_, refl, _∙_}
+use mathlib.Core.Path.{_≡_, refl, sym, _∙_}
 use Prim.Native.Nat.{_+_, _-_, _*_, _≤_}
 use native.Mathlib.Omega.{arith}
 use lib.ListN.{length, take}
 use Rattle.text.specs.Printed.{Printed, listed}
-use Rattle.text.proofs.Printing.{printed-none, printed-then, listed-more}
+use Rattle.text.proofs.Printing.{printed-none, printed-as, printed-then, listed-more}
 use Rattle.text.proofs.printer.print_list.Statement.{statement}
 use Rattle.text.proofs.printer.print_list.Tie as tie
 
@@ -46,7 +46,7 @@ loop-again c =
       omega arith,
       p .kept .1 .1 .0 ∙ l .loop .inv .1,
       omega (arith, p .ensures .1, l .loop .inv .2),
-      rw (listed-more (a .list .now) (l .loop .i) (omega arith)) (printed-then (l .loop .inv .3) (p .ensures .0)),
+      printed-as (printed-then (l .loop .inv .3) (p .ensures .0)) (search (sym (listed-more (a .list .now) (l .loop .i) (omega arith)))),
     )
 
 same-length : tie.Need-same-length Inv-loop μ-loop

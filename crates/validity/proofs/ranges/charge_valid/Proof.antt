@@ -1,3 +1,4 @@
+-- Its fields, its rate and its times, the first that is not right decides.
 use mathlib.Core.Path.{sym, _∙_}
 use borrow.Author.Tests.{not-true, not-false}
 use Rattle.validity.specs.Settled.{chargeValid}

@@ -1,3 +1,4 @@
+-- Below, or by the upper end.
 use borrow.Author.Tests.{le-leb, lt-leb}
 use Rattle.layout.specs.Validity.{between}
 use Rattle.validity.proofs.ranges.is_between.Statement.{statement}

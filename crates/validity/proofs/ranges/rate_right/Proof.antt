@@ -1,3 +1,4 @@
+-- Within N, and within D.
 use borrow.Author.Tests.{le-leb, lt-leb}
 use Rattle.layout.specs.Validity.{rateRight}
 use Rattle.validity.proofs.ranges.rate_right.Statement.{statement}

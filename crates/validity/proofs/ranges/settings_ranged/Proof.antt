@@ -1,3 +1,4 @@
+-- Number by number, the first out of range decides.
 use mathlib.Core.Path.{sym, _∙_}
 use borrow.Author.Tests.{not-true, not-false, le-leb, lt-leb}
 use Rattle.layout.specs.Validity.{settingsRanged}

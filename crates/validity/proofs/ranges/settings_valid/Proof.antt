@@ -1,3 +1,4 @@
+-- In range, and a D that is not 0; the product of c and N fits.
 use mathlib.Core.Path.{ap, sym, _∙_}
 use lib.Dec.{leb}
 use borrow.Author.Tests.{not-true, not-false}
@@ -23,7 +24,7 @@ nearest-hundreds-requires c κs = search needs
 
 returns-2 : tie.Need-returns-2
 unfolding settingsValid
-returns-2 c = simp (sym (c .before .before .settings-ranged .ensures) ∙ not-false _ (c .before .if1 .left)) (ap (leb 1) (c .nearest-hundreds .ensures))
+returns-2 c = simp (sym (c .before .before .settings-ranged .ensures) ∙ not-false _ (c .before .if1 .left)) (search (ap (leb 1) (c .nearest-hundreds .ensures)))
 
 pub settings-valid-spec : {M : Type 1} → statement M
 settings-valid-spec =

@@ -1,3 +1,4 @@
+-- The order minute, the start, the end and the ceiling, in 64 bits.
 use native.Mathlib.Omega.{arith}
 use Rattle.validity.proofs.Ranging.{ordered-late, started-early, is-finished, times-told}
 use borrow.Author.Needs.{needs}

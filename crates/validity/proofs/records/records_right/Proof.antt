@@ -1,3 +1,4 @@
+-- The loop has found every record before it right.
 use mathlib.Core.Path.{_≡_, sym, _∙_, ap}
 use mathlib.Core.Bool.{true}
 use Prim.Native.Nat.{_≤_, _-_}
@@ -90,8 +91,8 @@ returns-2 c =
     let s = l .before .before .args .s in
     sym
     (every-not (recordRight (view s)) (s .charges .held) (l .loop .q) (t .before .before .before .loop-test .taken)
-    (record-is s (l .loop .q) _ _ (t .before .before .before .loop-test .taken) (t .ticket-rises .ensures)
-    (not-false _ (c .before .before .before .before .before .before .before .before .before .if1 .left)) (c .before .charge-valid .ensures)
+    (record-is s (l .loop .q) _ (c .before .charge-valid .result) (t .before .before .before .loop-test .taken) (t .ticket-rises .ensures)
+    (not-false _ (c .before .before .before .before .before .before .before .before .before .if1 .left)) (search (c .before .charge-valid .ensures))
     ∙ not-true _ (c .if2 .taken)))
 
 add-q : tie.Need-add-q Inv-loop μ-loop
@@ -107,8 +108,8 @@ loop-again c =
     let s = l .before .before .args .s in (
       omega arith,
       every-more (recordRight (view s)) (l .loop .q) (l .loop .inv .1)
-          (record-is s (l .loop .q) _ _ (t .before .before .before .loop-test .taken) (t .ticket-rises .ensures)
-          (not-false _ (c .before .before .before .before .before .before .before .before .before .if1 .left)) (c .before .charge-valid .ensures)
+          (record-is s (l .loop .q) _ (c .before .charge-valid .result) (t .before .before .before .loop-test .taken) (t .ticket-rises .ensures)
+          (not-false _ (c .before .before .before .before .before .before .before .before .before .if1 .left)) (search (c .before .charge-valid .ensures))
           ∙ not-false _ (c .if2 .left)),
     )
 

@@ -1,3 +1,4 @@
+-- Behind the last charge stands the next ticket.
 use borrow.Author.Tests.{lt-ltb, le-ltb}
 use borrow.Author.Needs.{needs}
 use Rattle.validity.proofs.records.ticket_or_next.Statement.{statement}

@@ -1,3 +1,4 @@
+-- From 1 on, and below the one behind it.
 use Rattle.validity.proofs.Settling.{rises-low, rises-is}
 use borrow.Author.Needs.{needs}
 use Rattle.validity.proofs.records.ticket_rises.Statement.{statement}

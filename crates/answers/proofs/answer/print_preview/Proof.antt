@@ -1,0 +1,53 @@
+-- `answers::print_preview` meets its contract, case by case.
+use Rattle.answers.specs.Answers.{answerText}
+use Rattle.text.proofs.Printing.{printed-as}
+use borrow.Author.Needs.{needs}
+use Rattle.answers.proofs.answer.print_preview.Statement.{statement}
+use Rattle.answers.proofs.answer.print_preview.Tie as tie
+
+enum-known-answer : tie.Need-enum-known-answer
+enum-known-answer c = search needs
+
+slice-aggregate-print-one : tie.Need-slice-aggregate-print-one
+slice-aggregate-print-one c = search needs
+
+cast-print-one : tie.Need-cast-print-one
+cast-print-one c = search needs
+
+print-one-requires : tie.Need-print-one-requires
+print-one-requires c κs = search needs
+
+enum-known-answer-2 : tie.Need-enum-known-answer-2
+enum-known-answer-2 c = search needs
+
+print-refused-requires : tie.Need-print-refused-requires
+print-refused-requires c κs = search needs
+
+same-length : tie.Need-same-length
+same-length c = search needs
+
+returns : tie.Need-returns
+unfolding answerText
+returns c asked list = rw (c .before .before .before .before .before .before .answer .given .1) (printed-as (c .before .before .print-one .ensures) (search))
+
+same-length-2 : tie.Need-same-length-2
+same-length-2 c = search needs
+
+returns-2 : tie.Need-returns-2
+unfolding answerText
+returns-2 c asked list = rw (c .before .before .before .before .before .answer2 .given .1) (printed-as (c .before .before .print-refused .ensures asked list) (search))
+
+pub print-preview-spec : {M : Type 1} → statement M
+print-preview-spec =
+    tie.close
+    (tie.spec
+    enum-known-answer
+    slice-aggregate-print-one
+    cast-print-one
+    print-one-requires
+    enum-known-answer-2
+    print-refused-requires
+    same-length
+    returns
+    same-length-2
+    returns-2)
