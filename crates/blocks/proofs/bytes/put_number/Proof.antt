@@ -42,7 +42,10 @@ same-length : tie.Need-same-length
 same-length c = search needs
 
 returns : tie.Need-returns
-returns c = record { result = cc }
+returns c =
+    record {
+      result = rw (c .before .before .before .byte-of .ensures, c .before .before .byte-of2 .ensures, c .before .byte-of3 .ensures, c .byte-of4 .ensures) (search);
+    }
 
 pub put-number-spec : {M : Type 1} → statement M
 put-number-spec =
