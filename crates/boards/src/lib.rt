@@ -6,14 +6,15 @@ ghost use mathlib.Core.Bool.{cond, _&&_};
 ghost use Prim.Native.Nat.{_≤_};
 ghost use lib.Dec.{leb, ltb, eqb};
 ghost use lib.ListN.{getD};
-ghost use Rattle.rules.specs.Calls.{places, risesFrom, notHeld};
+ghost use Rattle.rules.specs.Basics.{firstOf};
+ghost use Rattle.rules.specs.Calls.{State, places, refusals, board as boardCall, risesFrom, notHeld};
 ghost use Rattle.boards.specs.Board.{CanBoard, Boarded};
 
 // "4,294,967,295 for one not held"
 const NOT_HELD: u32 = 4294967295;
 
 // Whether each number is above the one before it.
-pub fn rises(list: &[u32]) -> bool
+fn rises(list: &[u32]) -> bool
     ensures { λ r. ⌜ r ≡ risesFrom 0 (now (list .entry)) ⌝ }
 {
     let n = list.len();
@@ -23,6 +24,22 @@ pub fn rises(list: &[u32]) -> bool
         }
     }
     true
+}
+
+// The number of the first refusal of a board, 0 where none applies, whatever the station holds.
+pub fn board_refusal(asked: &[u32], answers: &[u32]) -> u32
+    ensures { λ r. ⌜ ((s : State) → r ≡ firstOf (refusals s (boardCall (now (asked .entry)) (now (answers .entry))))) ⌝ }
+{
+    if !rises(asked) {
+        return 23;
+    }
+    if PLACES < asked.len() {
+        return 23;
+    }
+    if answers.len() < asked.len() {
+        return 24;
+    }
+    0
 }
 
 // Whether a charge is held at the place, with a ticket that is not above this one.

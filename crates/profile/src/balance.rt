@@ -1,4 +1,4 @@
-// Limit and balance, step by step, and the lines with the largest and the smallest count.
+// Limit and balance, step by step; the rounding that makes the bound; and the lines with the largest and the smallest count.
 use crate::COLUMNS;
 use crate::STEPS;
 use crate::When;
@@ -8,10 +8,26 @@ use crate::counts::smaller;
 use crate::steps::place;
 ghost use mathlib.Core.Path.{_≡_};
 ghost use Prim.Native.Nat.{_-_, _<_, _≤_, max, min};
+ghost use Rattle.rules.specs.Calls.{nearestHundreds};
 ghost use Rattle.rules.specs.Replan.{largestLine, smallestLine};
 ghost use Rattle.rules.specs.Load.{IsLine};
 ghost use Rattle.profile.specs.Shows.{ofLines, profileOf, levelOf, firstMinute, Formed};
 ghost use Rattle.profile.specs.Balance.{FirstUnbalanced, LimitKept};
+
+// product / 100 "rounded to the nearest whole number, an exact half to the even one".
+pub fn nearest_hundreds(product: u32) -> u32
+    ensures { λ r. ⌜ r ≡ nearestHundreds product ⌝ }
+{
+    let whole = product / 100;
+    let rest = product % 100;
+    if 50 < rest {
+        return whole + 1;
+    }
+    if rest == 50 {
+        return whole + whole % 2;
+    }
+    whole
+}
 
 // By how much two counts differ.
 pub fn difference(a: u32, b: u32) -> u32

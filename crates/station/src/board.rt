@@ -1,10 +1,7 @@
 // A board: the starts of the tickets that are asked for.
 use crate::Station;
-use boards::rises;
-use charges::PLACES;
-ghost use mathlib.Core.Path.{_≡_};
-ghost use Rattle.rules.specs.Basics.{firstOf};
-ghost use Rattle.rules.specs.Calls.{State, refusals, board as boardCall, step};
+use boards::board_refusal;
+ghost use Rattle.rules.specs.Calls.{board as boardCall, step};
 ghost use Rattle.station.specs.View.{view, Valid};
 ghost use Rattle.station.specs.Answers.{Gives, boardAnswer};
 
@@ -16,22 +13,6 @@ pub enum BoardAnswer {
 pub struct Boarding {
     pub answer: BoardAnswer,
     pub station: Station,
-}
-
-// The number of the first refusal of a board, 0 where none applies, whatever the station holds.
-fn board_refusal(asked: &[u32], answers: &[u32]) -> u32
-    ensures { λ r. ⌜ ((s : State) → r ≡ firstOf (refusals s (boardCall (now (asked .entry)) (now (answers .entry))))) ⌝ }
-{
-    if !rises(asked) {
-        return 23;
-    }
-    if PLACES < asked.len() {
-        return 23;
-    }
-    if answers.len() < asked.len() {
-        return 24;
-    }
-    0
 }
 
 impl Station {

@@ -1,9 +1,10 @@
 // An opening: a fresh station for its settings.
 use crate::Station;
+use profile::balance::nearest_hundreds;
 ghost use mathlib.Core.Path.{_≡_};
 ghost use mathlib.Core.List.{[]};
 ghost use Rattle.rules.specs.Basics.{firstOf};
-ghost use Rattle.rules.specs.Calls.{nearestHundreds, fresh as freshState, openRefusals, opening};
+ghost use Rattle.rules.specs.Calls.{fresh as freshState, openRefusals, opening};
 ghost use Rattle.charges.specs.Arrays.{Columns};
 ghost use Rattle.station.specs.View.{view};
 ghost use Rattle.station.specs.Answers.{Gives, settingsOf, openAnswer};
@@ -23,21 +24,6 @@ pub enum OpenAnswer {
 pub struct Opening {
     pub answer: OpenAnswer,
     pub station: Station,
-}
-
-// product / 100 "rounded to the nearest whole number, an exact half to the even one".
-pub fn nearest_hundreds(product: u32) -> u32
-    ensures { λ r. ⌜ r ≡ nearestHundreds product ⌝ }
-{
-    let whole = product / 100;
-    let rest = product % 100;
-    if 50 < rest {
-        return whole + 1;
-    }
-    if rest == 50 {
-        return whole + whole % 2;
-    }
-    whole
 }
 
 // The number of the first refusal of an opening, 0 where none applies.

@@ -1,15 +1,14 @@
 // An order, which is previewed and committed: the smallest start with which the held plan and the new charge are sound together.
 use crate::Station;
 use charges::PLACES;
+use charges::columns::put;
 use orders::start::earliest_start;
 use search::candidate::Draw;
 use search::candidate::Limits;
 ghost use mathlib.Core.Path.{_≡_};
 ghost use mathlib.Core.List.{[]};
-ghost use Prim.Native.Nat.{_<_};
-ghost use lib.ListN.{length, set};
 ghost use Rattle.rules.specs.Basics.{firstOf};
-ghost use Rattle.rules.specs.Calls.{places, orderRefusals, preview as previewCall, commit as commitCall, step};
+ghost use Rattle.rules.specs.Calls.{orderRefusals, preview as previewCall, commit as commitCall, step};
 ghost use Rattle.orders.specs.Windows.{drawing};
 ghost use Rattle.station.specs.View.{view, Valid};
 ghost use Rattle.station.specs.Answers.{Gives, previewAnswer, commitAnswer};
@@ -78,14 +77,6 @@ fn start_for<'a>(
         sought.limits,
         draw,
     ))
-}
-
-// A number at a place of a list.
-fn put(list: &mut [u32; PLACES], place: usize, number: u32)
-    requires { ⌜ (length (now list) ≡ places) × (place < places) ⌝ }
-    ensures { λ r. ⌜ now (list .exit) ≡ set (now (list .entry)) place number ⌝ }
-{
-    list[place] = number;
 }
 
 impl Station {

@@ -1,5 +1,5 @@
 // Tests of plain numbers: the settings of a station, the fields and times of a charge.
-use station::open::nearest_hundreds;
+use profile::balance::nearest_hundreds;
 ghost use mathlib.Core.Path.{_≡_};
 ghost use Prim.Native.Nat.{_+_, _≤_};
 ghost use Rattle.layout.specs.Validity.{between, settingsRanged, fieldsRanged, rateRight, timesRight};

@@ -2,8 +2,8 @@
 use native.Mathlib.Omega.{arith}
 use Rattle.rules.proofs.Rounding.{nearest-only}
 use borrow.Author.Needs.{needs}
-use Rattle.station.proofs.open.nearest_hundreds.Statement.{statement}
-use Rattle.station.proofs.open.nearest_hundreds.Tie as tie
+use Rattle.profile.proofs.balance.nearest_hundreds.Statement.{statement}
+use Rattle.profile.proofs.balance.nearest_hundreds.Tie as tie
 
 add-result : tie.Need-add-result
 add-result c = search needs

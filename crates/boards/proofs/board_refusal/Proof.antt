@@ -2,8 +2,8 @@
 use mathlib.Core.Path.{sym, _∙_}
 use borrow.Author.Tests.{lt-ltb, le-ltb, not-true, not-false}
 use borrow.Author.Needs.{needs}
-use Rattle.station.proofs.board.board_refusal.Statement.{statement}
-use Rattle.station.proofs.board.board_refusal.Tie as tie
+use Rattle.boards.proofs.board_refusal.Statement.{statement}
+use Rattle.boards.proofs.board_refusal.Tie as tie
 
 rises-requires : tie.Need-rises-requires
 rises-requires c κs = search needs
