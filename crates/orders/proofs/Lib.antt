@@ -3,3 +3,4 @@ pub mod Extending
 pub mod Windows
 pub mod Seeking
 pub mod Drawings
+pub mod Showing

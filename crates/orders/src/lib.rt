@@ -1,3 +1,4 @@
-// The search for the start of an order, window by window.
+// What an order is shown, and the search for its start, window by window.
+pub mod sought;
 pub mod start;
 pub mod window;

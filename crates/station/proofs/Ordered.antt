@@ -9,7 +9,7 @@ use Rattle.rules.specs.Basics.{Found, at, nothing, firstOf}
 use Rattle.rules.specs.Load.{IsRate}
 use Rattle.rules.specs.Charge.{Charge}
 use Rattle.rules.specs.Search.{earliest}
-use Rattle.rules.specs.Calls.{State, Answer, refused, previewed, committed, answering, preview, commit, limitsOf, drawFor, startFor, orderRefusals, previewedAt, previewing, committing, step}
+use Rattle.rules.specs.Calls.{State, Answer, refused, committed, answering, preview, commit, limitsOf, drawFor, startFor, orderRefusals, previewedAt, previewing, committing, step}
 use Rattle.rules.proofs.Tables.{NoneHolds}
 use Rattle.rules.proofs.Granted.{order-granted, refusals-none}
 use Rattle.rules.proofs.Shown.{preview-shown, commit-refused, commit-taken}
@@ -17,15 +17,16 @@ use Rattle.rules.proofs.Lists.{length-tabulate}
 use Rattle.charges.specs.declared.Charges.{Charges}
 use Rattle.charges.specs.Arrays.{charge, chargeAt, chargesOf, Columns, Holds}
 use Rattle.charges.proofs.Storing.{holds-put}
+use Rattle.orders.specs.declared.sought.Sought.{Sought}
+use Rattle.orders.specs.declared.sought.PreviewAnswer.{PreviewAnswer}
+use Rattle.orders.specs.declared.sought.PreviewAnswer.the-variants.{Previewed, Refused}
 use Rattle.orders.specs.Windows.{drawing, CanOrder}
+use Rattle.orders.specs.Shown.{drawSought, startSought, CanSeek, shown}
 use Rattle.orders.proofs.Drawings.{drawingOf, drawing-loads, listed-can-order}
 use Rattle.station.specs.declared.Station.{Station}
-use Rattle.station.specs.declared.order.Sought.{Sought}
-use Rattle.station.specs.declared.order.PreviewAnswer.{PreviewAnswer}
-use Rattle.station.specs.declared.order.PreviewAnswer.the-variants.{Previewed, Refused}
 use Rattle.station.specs.View.{view, Valid}
 use Rattle.station.specs.Answers.{giving, previewAnswer}
-use Rattle.station.specs.Shown.{soughtOf, drawSought, startSought, CanSeek, shown}
+use Rattle.station.specs.Shown.{soughtOf}
 use Rattle.station.proofs.Listing.{valid-listed}
 
 -- what none of refusals 4 to 18 turns away, read off the arrays
@@ -60,13 +61,6 @@ shown-answering : (s : State) (k : ℕ) (f : Found) → shown k f ≡ answering 
 shown-answering s zero (at start) = refl
 shown-answering s zero nothing = refl
 shown-answering s (suc k) f = refl
-
-pub shown-first : (k : ℕ) (f : Found) → 0 < k → refused k ≡ shown k f
-shown-first zero f h = absurd (omega arith)
-shown-first (suc k) f h = refl
-
-pub shown-found : (k start : ℕ) (f : Found) → k ≡ 0 → f ≡ at start → previewed start ≡ shown k f
-shown-found k start f z e = rw (z, e)
 
 -- a refusal that is shown is the order's first
 pub shown-refused : (number k : ℕ) (f : Found) → refused number ≡ shown k f → number ≡ k

@@ -3,15 +3,14 @@ use Prim.Native.Nat.{ℕ}
 use mathlib.Core.Path.{_≡_}
 use mathlib.Core.List.{List}
 use Rattle.rules.specs.Calls as rules
-use Rattle.rules.specs.Calls.{State, settings, Answer, refused, opened, previewed, committed, moved, planned, waiting, charging, looked, withdrawn, Result, tested}
+use Rattle.rules.specs.Calls.{State, settings, Answer, refused, opened, committed, moved, planned, waiting, charging, looked, withdrawn, Result, tested}
 use Rattle.rules.specs.Replan.{Proposal}
 use Rattle.charges.specs.Arrays.{Columns}
+pub use Rattle.orders.specs.Shown.{previewAnswer}
 use Rattle.station.specs.declared.Station.{Station}
 use Rattle.station.specs.declared.open.Settings.{Settings}
 use Rattle.station.specs.declared.open.OpenAnswer.{OpenAnswer}
 use Rattle.station.specs.declared.open.OpenAnswer.the-variants.{Opened, Refused as OpenRefused}
-use Rattle.station.specs.declared.order.PreviewAnswer.{PreviewAnswer}
-use Rattle.station.specs.declared.order.PreviewAnswer.the-variants.{Previewed, Refused as PreviewRefused}
 use Rattle.station.specs.declared.order.CommitAnswer.{CommitAnswer}
 use Rattle.station.specs.declared.order.CommitAnswer.the-variants.{Committed, Refused as CommitRefused}
 use Rattle.station.specs.declared.clock.MoveAnswer.{MoveAnswer}
@@ -47,10 +46,6 @@ settingsOf x = settings (x .limit) (x .percent) (x .tail)
 abbrev pub openAnswer : OpenAnswer → Answer
 openAnswer (Opened bound) = opened bound
 openAnswer (OpenRefused number) = refused number
-
-abbrev pub previewAnswer : PreviewAnswer → Answer
-previewAnswer (Previewed start) = previewed start
-previewAnswer (PreviewRefused number) = refused number
 
 abbrev pub commitAnswer : CommitAnswer → Answer
 commitAnswer (Committed ticket start) = committed ticket start

@@ -1,9 +1,9 @@
 -- The search is made only where no refusal applies, since what it asks is known only there.
 use mathlib.Core.Path.{_≡_}
 use native.Mathlib.Omega.{arith}
-use Rattle.station.proofs.Ordered.{shown-first, shown-found}
-use Rattle.station.proofs.order.start_for.Statement.{statement}
-use Rattle.station.proofs.order.start_for.Tie as tie
+use Rattle.orders.proofs.Showing.{shown-first, shown-found}
+use Rattle.orders.proofs.sought.start_for.Statement.{statement}
+use Rattle.orders.proofs.sought.start_for.Tie as tie
 
 returns : tie.Need-returns
 returns c = shown-first (c .before .before .args .sought .refusal) _ (c .if1 .taken)
