@@ -1,44 +1,31 @@
 // Any call of a station that stands, given as a value, with the lists lent beside it.
+pub mod alone;
+pub mod several;
+
+use ordering::Order;
+use ordering::commit::CommitAnswer;
+use orders::sought::PreviewAnswer;
+use planning::PlanAnswer;
+use site::board::BoardAnswer;
+use site::clock::MoveAnswer;
+use site::enquiry::EnquiryAnswer;
+use site::withdraw::WithdrawalAnswer;
+use station::One;
 use station::Station;
-use station::board::BoardAnswer;
-use station::clock::MoveAnswer;
-use station::enquiry::EnquiryAnswer;
-use station::order::CommitAnswer;
-use station::order::PreviewAnswer;
-use station::plan::PlanAnswer;
-use station::withdraw::WithdrawalAnswer;
+ghost use mathlib.Core.Path.{_≡_};
 ghost use Rattle.station.specs.View.{view, Valid};
-ghost use Rattle.calls.specs.Applied.{Applies};
+ghost use Rattle.calls.specs.Applied.{keepsOf, Applies};
 
 pub enum Call {
-    Preview {
-        line: u32,
-        time: u32,
-        due: u32,
-        rate: u32,
-    },
-    Commit {
-        line: u32,
-        time: u32,
-        due: u32,
-        rate: u32,
-        shown: u32,
-    },
-    Move {
-        target: u32,
-    },
-    Offer,
-    ReplanLatest,
-    ReplanLines {
-        allowance: u32,
-    },
-    Enquire {
-        ticket: u32,
-    },
+    Preview { order: Order },
+    Commit { order: Order, shown: u32 },
+    Move { target: u32 },
+    Offer { feeder: u32 },
+    ReplanLatest { feeder: u32 },
+    ReplanLines { feeder: u32, allowance: u32 },
+    Enquire { ticket: u32 },
     Board,
-    Withdraw {
-        ticket: u32,
-    },
+    Withdraw { ticket: u32 },
 }
 
 pub enum Answer {
@@ -56,104 +43,41 @@ pub struct Applied {
     pub station: Station,
 }
 
-// One call. An offer reads its starts from `numbers`, and a board its tickets; a clock move writes its report to `list`, and a
-// board its answers. No other call touches either.
+// The answer of a call, and what it leaves of a feeder.
+pub struct Made {
+    pub answer: Answer,
+    pub left: One,
+}
+
+// Whether a call only asks, and keeps every station as it is.
+pub fn keeps(call: Call) -> bool
+    ensures { λ r. ⌜ r ≡ keepsOf call ⌝ }
+{
+    match call {
+        Call::Preview { order } => true,
+        Call::Commit { order, shown } => false,
+        Call::Move { target } => false,
+        Call::Offer { feeder } => false,
+        Call::ReplanLatest { feeder } => false,
+        Call::ReplanLines { feeder, allowance } => false,
+        Call::Enquire { ticket } => true,
+        Call::Board => true,
+        Call::Withdraw { ticket } => false,
+    }
+}
+
+// One call of any station, and the station after it. An offer reads its starts from `numbers`, and a board its tickets; a clock move
+// writes its report to `list`, and a board its answers. No other call touches either.
 pub fn apply(station: Station, call: Call, numbers: &[u32], list: &mut [u32]) -> Applied
     requires { ⌜ Valid station ⌝ }
     ensures { λ r. ⌜ Applies (view station) call (now (numbers .entry)) (now (list .entry)) (now (list .exit)) (r .answer) (r .station) ⌝ }
 {
-    match call {
-        Call::Preview {
-            line,
-            time,
-            due,
-            rate,
-        } => {
-            let done = station.preview(line, time, due, rate);
-            let answer = done.answer;
-            let after = done.station;
-            Applied {
-                answer: Answer::Preview(answer),
-                station: after,
-            }
-        }
-        Call::Commit {
-            line,
-            time,
-            due,
-            rate,
-            shown,
-        } => {
-            let done = station.commit(line, time, due, rate, shown);
-            let answer = done.answer;
-            let after = done.station;
-            Applied {
-                answer: Answer::Commit(answer),
-                station: after,
-            }
-        }
-        Call::Move { target } => {
-            let done = station.move_clock(target, list);
-            let answer = done.answer;
-            let after = done.station;
-            Applied {
-                answer: Answer::Move(answer),
-                station: after,
-            }
-        }
-        Call::Offer => {
-            let done = station.offer(numbers);
-            let answer = done.answer;
-            let after = done.station;
-            Applied {
-                answer: Answer::Plan(answer),
-                station: after,
-            }
-        }
-        Call::ReplanLatest => {
-            let done = station.replan_latest();
-            let answer = done.answer;
-            let after = done.station;
-            Applied {
-                answer: Answer::Plan(answer),
-                station: after,
-            }
-        }
-        Call::ReplanLines { allowance } => {
-            let done = station.replan_lines(allowance);
-            let answer = done.answer;
-            let after = done.station;
-            Applied {
-                answer: Answer::Plan(answer),
-                station: after,
-            }
-        }
-        Call::Enquire { ticket } => {
-            let done = station.enquire(ticket);
-            let answer = done.answer;
-            let after = done.station;
-            Applied {
-                answer: Answer::Enquiry(answer),
-                station: after,
-            }
-        }
-        Call::Board => {
-            let done = station.board(numbers, list);
-            let answer = done.answer;
-            let after = done.station;
-            Applied {
-                answer: Answer::Board(answer),
-                station: after,
-            }
-        }
-        Call::Withdraw { ticket } => {
-            let done = station.withdraw(ticket);
-            let answer = done.answer;
-            let after = done.station;
-            Applied {
-                answer: Answer::Withdrawal(answer),
-                station: after,
-            }
-        }
+    let made = several::make(station, call, numbers, list);
+    let answer = made.answer;
+    let left = made.left;
+    let after = station.after(left);
+    Applied {
+        answer,
+        station: after,
     }
 }

@@ -3,7 +3,7 @@ use Prim.Native.Nat.{ℕ}
 use mathlib.Core.Path.{_≡_}
 use mathlib.Core.Bool.{Bool, _&&_}
 use mathlib.Core.List.{List}
-use Rattle.rules.specs.Calls.{State}
+use Rattle.rules.specs.Site.{State}
 use Rattle.station.specs.View.{view, Valid}
 use Rattle.layout.specs.Validity.{isValid}
 use Rattle.layout.specs.Reading.{RestoreResult, restoring}

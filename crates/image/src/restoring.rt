@@ -6,11 +6,12 @@ use records::reading::header_right;
 use records::reading::read;
 use records::writing::contents_of;
 use station::Station;
+use station::open::Asked;
 use station::open::Settings;
 use validity::is_valid;
 ghost use mathlib.Core.Path.{_≡_};
 ghost use lib.ListN.{length};
-ghost use Rattle.rules.specs.Calls.{settings, fresh};
+ghost use Rattle.rules.specs.Calls.{fresh, least};
 ghost use Rattle.station.specs.View.{view, Valid};
 ghost use Rattle.validity.specs.Settled.{Settled};
 ghost use Rattle.image.specs.Answers.{isFrom, Restores};
@@ -33,14 +34,22 @@ fn is_of(contents: &[u8], station: Station) -> bool
     same_part(contents, &again, 0, CONTENTS)
 }
 
-// "Beside a refused restore stands the fresh station of 1, 100 and r = 0."
+// "Beside a refused restore stands the fresh station of 1, 100 and r = 0": "one feeder and W 720". The other settings are not read.
 fn refused(answer: u32) -> Restored
-    ensures { λ r. ⌜ (r .answer ≡ answer) × (view (r .station) ≡ fresh (settings 1 100 0)) × Valid (r .station) ⌝ }
+    ensures { λ r. ⌜ (r .answer ≡ answer) × (view (r .station) ≡ fresh least) × Valid (r .station) ⌝ }
 {
-    let least = Settings {
+    let settings = Settings {
         limit: 1,
         percent: 100,
         tail: 0,
+    };
+    let least = Asked {
+        count: 1,
+        site: 720,
+        one: settings,
+        two: settings,
+        three: settings,
+        four: settings,
     };
     let opening = Station::open(least);
     let station = opening.station;

@@ -7,7 +7,9 @@ use station::Station;
 ghost use mathlib.Core.Path.{_≡_};
 ghost use lib.ListN.{length};
 ghost use Rattle.layout.specs.Image.{imageOf};
+ghost use Rattle.layout.specs.Saving.{saveRefusal};
 ghost use Rattle.station.specs.View.{view, Valid};
+ghost use Rattle.validity.specs.Settled.{OneFeeder};
 ghost use Rattle.image.specs.Answers.{Saves};
 
 // 0 and how many blocks differ from the previous image, or the refusal.
@@ -18,27 +20,38 @@ pub struct Saved {
 
 // The image, written whole.
 fn write(station: Station, image: &mut [u8])
-    requires { ⌜ Valid station × (length (now image) ≡ 4608) ⌝ }
+    requires { ⌜ OneFeeder station × (length (now image) ≡ 4608) ⌝ }
     ensures { λ r. ⌜ now (image .exit) ≡ imageOf (view station) ⌝ }
 {
     let contents = contents_of(station);
     put_blocks(&contents, image);
 }
 
-// How many blocks differ from the previous image; or the refusal 20, and then nothing is written.
+// The refusal of saving, 0 where none applies: 20 for either size, then 22 for several feeders.
+fn save_refusal(station: Station, previous: &[u8], image: &[u8]) -> u32
+    ensures { λ r. ⌜ r ≡ saveRefusal (view station) (now (previous .entry)) (now (image .entry)) ⌝ }
+{
+    if previous.len() != 4608 {
+        return 20;
+    }
+    if image.len() != 4608 {
+        return 20;
+    }
+    if station.count != 1 {
+        return 22;
+    }
+    0
+}
+
+// How many blocks differ from the previous image; or the refusal, and then nothing is written.
 pub fn save(station: Station, previous: &[u8], image: &mut [u8]) -> Saved
     requires { ⌜ Valid station ⌝ }
     ensures { λ r. ⌜ Saves (view station) (now (previous .entry)) (now (image .entry)) (now (image .exit)) r ⌝ }
 {
-    if previous.len() != 4608 {
+    let refusal = save_refusal(station, previous, image);
+    if refusal != 0 {
         return Saved {
-            answer: 20,
-            blocks: 0,
-        };
-    }
-    if image.len() != 4608 {
-        return Saved {
-            answer: 20,
+            answer: refusal,
             blocks: 0,
         };
     }
@@ -52,9 +65,10 @@ pub fn save_back(station: Station, image: &mut [u8]) -> Saved
     requires { ⌜ Valid station ⌝ }
     ensures { λ r. ⌜ Saves (view station) (now (image .entry)) (now (image .entry)) (now (image .exit)) r ⌝ }
 {
-    if image.len() != 4608 {
+    let refusal = save_refusal(station, image, image);
+    if refusal != 0 {
         return Saved {
-            answer: 20,
+            answer: refusal,
             blocks: 0,
         };
     }

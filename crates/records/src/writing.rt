@@ -8,13 +8,14 @@ use station::Station;
 ghost use mathlib.Core.Path.{_≡_};
 ghost use Prim.Native.Nat.{_+_, _<_, _≤_};
 ghost use lib.ListN.{length};
-ghost use Rattle.rules.specs.Calls.{places};
-ghost use Rattle.charges.specs.Arrays.{Columns};
+ghost use Rattle.rules.specs.Site.{places};
 ghost use Rattle.station.specs.View.{view};
+ghost use Rattle.validity.specs.Settled.{OneFeeder};
 ghost use Rattle.records.specs.Contents.{contentsOf};
 ghost use Rattle.records.specs.Rows.{HeaderPut, RowPut, ColumnPut};
 
-const HEADER: usize = 6;
+// N, c, r, clock, next ticket, number held and W.
+const HEADER: usize = 7;
 
 // The numbers of block 0.
 fn put_header<'a>(header: &'a [u32; HEADER], contents: &mut [u8])
@@ -47,19 +48,22 @@ fn put_column<'a>(column: &'a [u32; PLACES], held: usize, from: usize, contents:
     }
 }
 
+// An image holds one feeder: the first.
 pub fn contents_of(station: Station) -> [u8; CONTENTS]
-    requires { ⌜ Columns (station .charges) ⌝ }
+    requires { ⌜ OneFeeder station ⌝ }
     ensures { λ r. ⌜ r ≡ contentsOf (view station) ⌝ }
 {
-    let charges = station.charges;
+    let feeder = station.feeders[0];
+    let charges = feeder.charges;
     let held = charges.held;
     let header = [
-        station.limit,
-        station.percent,
-        station.tail,
+        feeder.limit,
+        feeder.percent,
+        feeder.tail,
         station.clock,
         station.next,
         held as u32,
+        station.site,
     ];
     let mut contents = [0u8; CONTENTS];
     put_header(&header, &mut contents);

@@ -4,15 +4,19 @@ use Prim.Native.Nat.{ℕ, zero, suc, _<_}
 use native.Mathlib.Omega.{arith}
 use mathlib.Core.Bool.{cond}
 use mathlib.Core.List.{List, [], _∷_}
-use Rattle.rules.specs.Calls.{State, Answer, Result, answering, Call, lent, step, written}
+use lib.ListN.{length}
+use Rattle.rules.specs.Site.{State}
+use Rattle.rules.specs.Calls.{Answer, Result, answering, Call, lent, step, written}
 use Rattle.layout.specs.Image.{imageOf}
 use Rattle.layout.specs.Reading.{RestoreResult, restoring}
 use Rattle.layout.specs.Blocks.{differing}
 use Rattle.layout.specs.Saving.{SaveResult, saving}
 use Rattle.layout.proofs.Refusing.{saving-written, accepted}
+use Rattle.layout.proofs.RoundTrip.{restoring-one}
+use Rattle.layout.proofs.Calling.{feeders-stay}
 use Rattle.station.specs.declared.Station.{Station}
 use Rattle.station.specs.View.{view, Valid}
-use Rattle.station.specs.Answers.{giving, Gives}
+use Rattle.station.specs.Given.{Gives}
 use Rattle.calls.specs.declared.Call.{Call as Given}
 use Rattle.calls.specs.declared.Call.the-variants.{Preview, Commit, Move, Offer, ReplanLatest, ReplanLines, Enquire, Board, Withdraw}
 use Rattle.calls.specs.Applied.{callOf, Lends, none, reads, writes, both, lends, lentOf, listAfter, ListStays}
@@ -31,12 +35,12 @@ module _ (call : Given) (numbers : List ℕ) {before after : List ℕ} (e : afte
   list-kept = rw e (go call)
     where
       go : (x : Given) → listAfter x numbers before ≡ lent (callOf x numbers before)
-      go (Preview line time due rate) = refl
-      go (Commit line time due rate shown) = refl
+      go (Preview order) = refl
+      go (Commit order shown) = refl
       go (Move target) = refl
-      go Offer = refl
-      go ReplanLatest = refl
-      go (ReplanLines allowance) = refl
+      go (Offer feeder) = refl
+      go (ReplanLatest feeder) = refl
+      go (ReplanLines feeder allowance) = refl
       go (Enquire ticket) = refl
       go Board = refl
       go (Withdraw ticket) = refl
@@ -59,12 +63,13 @@ alone-served {image} {after} {list} {c} {n} h e = subst (λ (xs : List ℕ). Ser
 
 -- A save
 
-module _ {s : State} {image after : List ℕ} {r : Saved} (w : Whole image) (h : Saves s image image after r) where
+module _ {s : State} {image after : List ℕ} {r : Saved} (one : length (s .feeders) ≡ 1) (w : Whole image)
+    (h : Saves s image image after r) where
   pub saved-whole : after ≡ imageOf s
-  saved-whole = ap (λ (x : SaveResult). x .image) (h .result ∙ saving-written s image image w w)
+  saved-whole = ap (λ (x : SaveResult). x .image) (h .result ∙ saving-written s image image one w w)
 
   pub saved-blocks : r .blocks ≡ differing image (imageOf s)
-  saved-blocks = ap (λ (x : SaveResult). x .blocks) (h .result ∙ saving-written s image image w w)
+  saved-blocks = ap (λ (x : SaveResult). x .blocks) (h .result ∙ saving-written s image image one w w)
 
 -- A call
 
@@ -110,10 +115,21 @@ module _ {image : List ℕ} {restored : Restored} (r : Restores image restored) 
             );
       }
 
+  -- the station after a call has one feeder, as every station that is restored
+  pub one-after :
+      (c : Call) {a : Answer} {next : Station} {list : List ℕ}
+      → Gives (step (view (restored .station)) c) a next list
+      → length (view next .feeders) ≡ 1
+  one-after c g =
+      ap (λ (x : Result). length (x .state .feeders)) (g .result)
+      ∙ feeders-stay (view (restored .station)) c
+      ∙ ap (λ (s : State). length (s .feeders)) state-is
+      ∙ restoring-one image
+
   module _ (c : Call) {a : Answer} {next : Station} {list : List ℕ} {n : Numbers} (z : restored .answer ≡ 0)
       (g : Gives (step (view (restored .station)) c) a next list) (t : Tells a n) where
     -- the step, where the restore is not refused
-    called-is : (numbers : List ℕ) → left numbers image (giving a next list) ≡ called numbers image c
+    called-is : (numbers : List ℕ) → left numbers image (record { answer = a; state = view next; list = list }) ≡ called numbers image c
     unfolding called
     called-is numbers =
         ap (left numbers image) (g .result ∙ ap (λ (x : State). step x c) state-is)

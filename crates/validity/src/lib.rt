@@ -1,9 +1,12 @@
-// Whether a station is one whose image restore accepts: its settings, its charges, its plan.
+// Whether a station of one feeder is one whose image restore accepts: its settings, its charges, its plan.
 pub mod ranges;
 pub mod records;
 
 use crate::records::records_right;
+use planner::Beside;
 use planner::plan::plan_sound;
+use profile::FEEDER_STEPS;
+use search::limits::Limits;
 use station::Station;
 ghost use mathlib.Core.Path.{_≡_};
 ghost use Rattle.layout.specs.Validity.{isValid};
@@ -18,6 +21,23 @@ pub fn is_valid(s: Station) -> bool
     if !records_right(s) {
         return false;
     }
-    let held = s.charges;
-    plan_sound(held, s.clock, s.limit, s.bound)
+    let feeder = s.feeders[0];
+    let held = feeder.charges;
+    let limits = Limits {
+        limit: feeder.limit,
+        bound: feeder.bound,
+        site: s.site,
+    };
+    // There is no other feeder that could draw.
+    let beside = Beside {
+        clock: s.clock,
+        limits,
+        held: 0,
+    };
+    let zero = [0; 1];
+    let none = &zero[..];
+    let rest = [none, none, none, none];
+    let mut at = [0u32; FEEDER_STEPS];
+    let mut counts = [0u32; 4 * FEEDER_STEPS];
+    plan_sound(&mut at, &mut counts, beside, rest, held)
 }

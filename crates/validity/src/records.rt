@@ -4,11 +4,11 @@ use charges::PLACES;
 use station::Station;
 ghost use mathlib.Core.Path.{_≡_};
 ghost use Prim.Native.Nat.{_<_, _≤_};
-ghost use Rattle.rules.specs.Calls.{places};
+ghost use Rattle.rules.specs.Site.{places};
 ghost use Rattle.layout.specs.Lists.{every};
 ghost use Rattle.layout.specs.Validity.{recordRight};
-ghost use Rattle.station.specs.View.{view};
-ghost use Rattle.validity.specs.Settled.{Settled, ticketOrNext, ticketRises};
+ghost use Rattle.station.specs.View.{feederAt};
+ghost use Rattle.validity.specs.Settled.{single, Settled, ticketOrNext, ticketRises};
 
 // The ticket of place q, or the next one behind the last.
 fn ticket_or_next<'a>(tickets: &'a [u32; PLACES], held: usize, next: u32, q: usize) -> u32
@@ -37,9 +37,10 @@ fn ticket_rises<'a>(tickets: &'a [u32; PLACES], held: usize, next: u32, q: usize
 // Whether each record is right: its ticket, its fields and its times.
 pub fn records_right(s: Station) -> bool
     requires { ⌜ Settled s ⌝ }
-    ensures { λ r. ⌜ r ≡ every (recordRight (view s)) (s .charges .held) ⌝ }
+    ensures { λ r. ⌜ r ≡ every (recordRight (single s)) (feederAt s 0 .charges .held) ⌝ }
 {
-    let charges = s.charges;
+    let feeder = s.feeders[0];
+    let charges = feeder.charges;
     let n = charges.held;
     for q in 0..n {
         if !ticket_rises(&charges.tickets, n, s.next, q) {
@@ -53,9 +54,10 @@ pub fn records_right(s: Station) -> bool
         let start = charges.starts[q];
         let rate = charges.rates[q];
         if !charge_valid(
-            s.limit,
-            s.bound,
-            s.tail,
+            feeder.limit,
+            feeder.bound,
+            s.site,
+            feeder.tail,
             s.clock,
             s.next,
             line,

@@ -18,7 +18,10 @@ fn print_wall(image: &[u8], out: &mut [u8]) -> usize
         return print_no_station(out, 0);
     }
     let station = restored.station;
-    print_pages(station.clock, station.charges, out)
+    // A station that was restored has one feeder.
+    let feeder = station.feeders[0];
+    let charges = feeder.charges;
+    print_pages(station.clock, charges, out)
 }
 
 // Reads once, and answers whether something came.

@@ -1,7 +1,7 @@
 -- Refused by the restore, refused by the call, where the image stays, and saved.
 use native.Mathlib.Omega.{arith}
 use Rattle.calls.specs.Applied.{callOf}
-use Rattle.service.proofs.Serving.{list-kept, list-stays, saved-whole, saved-blocks, whole, restore-refused, call-refused, call-saved}
+use Rattle.service.proofs.Serving.{list-kept, list-stays, saved-whole, saved-blocks, whole, restore-refused, one-after, call-refused, call-saved}
 use borrow.Author.Needs.{needs}
 use Rattle.service.proofs.serve.Statement.{statement}
 use Rattle.service.proofs.serve.Tie as tie
@@ -55,8 +55,10 @@ returns-3 c =
     let r = b .before .before .before .before .restore .ensures in
     let a = b .before .before .before .before .before .before .before .before .before .args in
     let w = whole r (omega (arith, b .before .before .before .if1 .left)) in
+    let k = callOf (a .call) (a .numbers .now) (a .list .now) in
+    let one = one-after r k (b .apply .ensures .gives) in
     let s = c .before .before .save-back .ensures in
-    (call-saved r (callOf (a .call) (a .numbers .now) (a .list .now)) (omega (arith, b .before .before .before .if1 .left)) (b .apply .ensures .gives) (i .before .before .of-answer .ensures) (omega (arith, i .if2 .left)) (search (saved-blocks w s)) (search (saved-whole w s)) (search needs), search (b .apply .ensures .stays))
+    (call-saved r k (omega (arith, b .before .before .before .if1 .left)) (b .apply .ensures .gives) (i .before .before .of-answer .ensures) (omega (arith, i .if2 .left)) (search (saved-blocks one w s)) (search (saved-whole one w s)) (search needs), search (b .apply .ensures .stays))
 
 pub serve-spec : {M : Type 1} → statement M
 serve-spec =

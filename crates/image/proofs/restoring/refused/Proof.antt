@@ -9,7 +9,7 @@ open-requires : tie.Need-open-requires
 open-requires c κs = search needs
 
 returns : tie.Need-returns
-returns c = (refl, open-least _ (c .before .open .result .station) (c .before .open .ensures .result), c .before .open .ensures .valid)
+returns c = (refl, open-least _ _ (c .before .open .result .station) (search needs) (c .before .open .ensures), c .before .open .ensures .valid)
 
 pub refused-spec : {M : Type 1} → statement M
 refused-spec = tie.close (tie.spec open-requires returns)

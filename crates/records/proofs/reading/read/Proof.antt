@@ -1,6 +1,7 @@
 -- The header and the columns are the station that the contents are of.
 use native.Mathlib.Omega.{arith}
-use Rattle.records.proofs.Columning.{held-few, header-ranged, product-told, read-from}
+use Rattle.records.proofs.Columning.{held-few, header-ranged, product-told}
+use Rattle.records.proofs.StationRead.{read-from}
 use borrow.Author.Needs.{needs}
 use Rattle.records.proofs.reading.read.Statement.{statement}
 use Rattle.records.proofs.reading.read.Tie as tie
@@ -37,16 +38,22 @@ read-charges-requires c κs =
 nearest-hundreds-requires : tie.Need-nearest-hundreds-requires
 nearest-hundreds-requires c κs = search needs
 
+none-requires : tie.Need-none-requires
+none-requires c κs = search needs
+
 number-at-requires-5 : tie.Need-number-at-requires-5
 number-at-requires-5 c κs = search needs
 
 number-at-requires-6 : tie.Need-number-at-requires-6
 number-at-requires-6 c κs = search needs
 
+number-at-requires-7 : tie.Need-number-at-requires-7
+number-at-requires-7 c κs = search needs
+
 returns : tie.Need-returns
 returns c =
-    let b = c .before .before .before .before .before .before .before .before .before in
-    read-from (b .args .contents .now) (b .pre .1) _ _ _ _ _ _ _ _ (c .before .before .before .before .before .before .before .number-at .ensures) (c .before .before .before .before .before .before .number-at2 .ensures) (c .before .before .before .before .before .number-at3 .ensures) (c .before .number-at5 .ensures) (c .number-at6 .ensures) (c .before .before .before .before .number-at4 .ensures) (c .before .before .nearest-hundreds .ensures) (c .before .before .before .read-charges .ensures)
+    let b = c .before .before .before .before .before .before .before .before .before .before .before in
+    read-from (b .args .contents .now) (b .pre .1) _ _ _ _ _ _ _ _ _ _ (c .before .before .before .before .before .before .before .before .before .number-at .ensures) (c .before .before .before .before .before .before .before .before .number-at2 .ensures) (c .before .before .before .before .before .before .before .number-at3 .ensures) (c .before .number-at6 .ensures) (c .number-at7 .ensures) (c .before .before .before .before .before .before .number-at4 .ensures) (c .before .before .number-at5 .ensures) (c .before .before .before .before .nearest-hundreds .ensures) (c .before .before .before .before .before .read-charges .ensures) (c .before .before .before .none .ensures)
 
 pub read-spec : {M : Type 1} → statement M
 read-spec =
@@ -60,6 +67,8 @@ read-spec =
     mul-product
     read-charges-requires
     nearest-hundreds-requires
+    none-requires
     number-at-requires-5
     number-at-requires-6
+    number-at-requires-7
     returns)
