@@ -15,7 +15,7 @@ use Rattle.layout.specs.Blocks.{differing}
 use Rattle.layout.specs.Saving.{SaveResult, saveRefusal, saving}
 use Rattle.layout.proofs.Refusing.{saving-written, saving-refused}
 use Rattle.station.specs.declared.Station.{Station}
-use Rattle.station.specs.View.{view}
+use Rattle.station.specs.View.{view, stationOf}
 use Rattle.station.specs.declared.open.OpenAnswer.{OpenAnswer}
 use Rattle.station.specs.Opened.{openAnswer, Opens as OpensStation}
 use Rattle.image.specs.declared.restoring.Restored.{Restored}
@@ -126,7 +126,7 @@ module _ {image : List ℕ} {restored : Restored} (r : Restores image restored) 
       record { result = rw (n, b, i, ← refusal-is r, refused, refused) refl }
 
   module _ {s : State} {list after : List ℕ} {saved : Saved} (accepted : restored .answer ≡ 0) (w : Saves s list list after saved)
-      (e : s ≡ view (restored .station)) where
+      (e : s ≡ view (stationOf (restored .one))) where
     -- what is copied, whatever the restore and the save answered
     is-copied : (blocks : ℕ) → copiedOr blocks list 0 (copying (saved .answer) (saved .blocks) after) ≡ copied blocks image list
     unfolding copied

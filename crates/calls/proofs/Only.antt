@@ -13,7 +13,7 @@ use Rattle.station.specs.declared.Station.{Station}
 use Rattle.station.specs.declared.One.{One}
 use Rattle.station.specs.View.{unused, feederAt, view, Formed, Valid, SameHead, stationOf, Alone}
 use Rattle.station.specs.Given.{Keeps, Leaves, LeavesAlone}
-use Rattle.station.proofs.Ones.{alone-left}
+use Rattle.station.proofs.Ones.{only-formed, alone-left}
 use types.Run.{OneOf, miss}
 use denote.Enum.Declared.{tagOf}
 use Rattle.calls.specs.declared.Call.{Call}
@@ -28,28 +28,6 @@ pub kept-applies :
     Keeps (step (view s) (callOf call numbers before)) s (answerOf a) (listAfter call numbers after) → ListStays (lends call) before after →
     Applies (view s) call numbers before after a s
 kept-applies call v k stays = record { gives = record { result = k .result; valid = v }; stays = stays }
-
--- behind the only feeder there is none
-others-unused : (o : One) (i : ℕ) → 1 ≤ i → i < 4 → feederAt (stationOf o) i ≡ unused
-others-unused o zero h l = absurd (omega (arith, h))
-others-unused o (suc zero) h l = refl
-others-unused o (suc (suc zero)) h l = refl
-others-unused o (suc (suc (suc zero))) h l = refl
-others-unused o (suc (suc (suc (suc i)))) h l = absurd (omega (arith, l))
-
-only-formed : (o : One) → Columns (o .feeder .charges) → Formed (stationOf o)
-only-formed o c =
-    record {
-      four = refl;
-      some = omega arith;
-      few = omega arith;
-      columns = λ i h. first i h;
-      rest = others-unused o;
-    }
-  where
-    first : (i : ℕ) → i < 1 → Columns (feederAt (stationOf o) i .charges)
-    first zero h = c
-    first (suc i) h = absurd (omega (arith, h))
 
 module _ {o l : One} (call : Call) {numbers before after : List ℕ} {a : Answer} (only : Alone o) where
   -- the result by the feeder that is left

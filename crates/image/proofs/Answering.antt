@@ -8,14 +8,12 @@ use lib.Dec.{eqb, leb}
 use lib.ListN.{length, getD}
 use borrow.Author.Tests.{leb-true, le-leb}
 use Rattle.rules.specs.Site.{State}
-use Rattle.rules.specs.Calls.{Result, boundOf, fresh, least, opening}
+use Rattle.rules.specs.Calls.{boundOf, fresh, least}
 use Rattle.rules.proofs.Ranges.{and-right, fails}
 use Rattle.rules.proofs.Lists.{length-tabulate}
-use Rattle.station.specs.declared.Station.{Station}
-use Rattle.station.specs.View.{view, Valid}
-use Rattle.station.specs.declared.open.Asked.{Asked}
-use Rattle.station.specs.declared.open.OpenAnswer.{OpenAnswer}
-use Rattle.station.specs.Opened.{askedOf, leastAsked, Opens}
+use Rattle.station.specs.declared.One.{One}
+use Rattle.station.specs.View.{view, stationOf, Alone}
+use Rattle.station.proofs.Ones.{only-formed}
 use Rattle.layout.specs.Image.{only}
 use Rattle.layout.specs.Validity.{settingsRanged, boundRight, isValid}
 use Rattle.layout.specs.Lists.{every}
@@ -92,39 +90,40 @@ module _ (xs cs : List ℕ) (long : length xs ≡ 4608) (small : (k : ℕ) → g
   pub contents-right : isFrom cs (stateFrom cs) ≡ true → restoreRefusal xs ≡ 0
   contents-right e = not-refused xs long checks (of-taken ∙ e)
 
-opened-least : (a : OpenAnswer) (s : Station) → Opens (opening (askedOf leastAsked)) a s → view s ≡ fresh least
-unfolding opening
-opened-least a s o = ap (λ (r : Result). r .state) (o .result)
-
-pub open-least :
-    (asked : Asked) (a : OpenAnswer) (s : Station) → asked ≡ leastAsked → Opens (opening (askedOf asked)) a s → view s ≡ fresh least
-open-least asked a s e o = opened-least a s (subst (λ (x : Asked). Opens (opening (askedOf x)) a s) e o)
-
 module _ (xs : List ℕ) where
   pub restores-refused :
       (n k : ℕ) (r : Restored)
       → eqb n 0 ≡ false
-      → (r .answer ≡ k) × (view (r .station) ≡ fresh least) × Valid (r .station)
+      → (r .answer ≡ k) × (view (stationOf (r .one)) ≡ fresh least) × Alone (r .one)
       → k ≡ n
       → restoreRefusal xs ≡ n
       → Restores xs r
-  restores-refused n k r z p d e = record { result = rw (p .0, d, p .1, e, z); valid = p .2 }
+  restores-refused n k r z p d e = record { result = rw (p .0, d, p .1, e, z); alone = p .2 }
 
   pub restores-accepted :
-      (s : Station) (cs : List ℕ)
+      (o : One) (cs : List ℕ)
       → length xs ≡ 4608
       → cs ≡ contentsIn xs
-      → ReadFrom cs s
+      → ReadFrom cs o
       → restoreRefusal xs ≡ 0
-      → Restores xs (record { answer = 0; station = s })
-  restores-accepted s cs l c p e =
+      → Restores xs (record { answer = 0; one = o })
+  restores-accepted o cs l c p e =
       record {
         result = whole;
-        valid = record { formed = p .settled .one-feeder .formed; state = rw (ap (λ z. z .state) whole) (restoring-valid xs) };
+        alone =
+            record {
+              valid =
+                  record {
+                    formed = only-formed o (p .settled .columns);
+                    state = rw (ap (λ z. z .state) whole) (restoring-valid xs);
+                  };
+              single = p .single;
+              first = p .first;
+            };
       }
     where
-      state-is : view s ≡ stateIn xs
+      state-is : view (stationOf o) ≡ stateIn xs
       state-is = p .state ∙ ap stateFrom c ∙ state-taken xs l
 
-      whole : restored (record { answer = 0; station = s }) ≡ restoring xs
+      whole : restored (record { answer = 0; one = o }) ≡ restoring xs
       whole = rw (e, state-is)

@@ -18,7 +18,6 @@ use Rattle.rules.proofs.Lists.{tabulate-same}
 use Rattle.charges.specs.declared.Charges.{Charges}
 use Rattle.charges.specs.Arrays.{Column, tickets, lines, orderMinutes, times, activeTimes, dues, starts, rates, columnOf, chargeAt, chargesOf, Filled, Columns}
 use Rattle.charges.proofs.Storing.{zeros, filled-none, filled-set}
-use Rattle.station.specs.declared.Station.{Station}
 use Rattle.layout.specs.Reading.{headerAt}
 use Rattle.validity.specs.Settled.{settingsValid}
 use Rattle.validity.proofs.Ranging.{Ranged, ranged, product-fits, valid-ranged}

@@ -9,8 +9,8 @@ use borrow.Author.Tests.{lt-ltb, le-ltb}
 use Rattle.rules.specs.Site.{State}
 use Rattle.rules.proofs.Ranges.{below-or-not}
 use Rattle.charges.specs.Arrays.{chargeAt, Columns}
-use Rattle.station.specs.declared.Station.{Station}
-use Rattle.validity.specs.Settled.{ownOf, heldBy, single}
+use Rattle.station.specs.declared.One.{One}
+use Rattle.validity.specs.Settled.{heldBy, single}
 use Rattle.layout.specs.Bytes.{byteOf, packedFrom, packed}
 use Rattle.layout.specs.Arrangement.{perBlock, numberOf}
 use Rattle.layout.specs.Image.{only, headerOf, fieldsOf, recordByte, numbered, content}
@@ -80,32 +80,32 @@ module _ (s : State) where
       first-content s i h
       ∙ rw (le-ltb i 4 (omega arith), le-ltb i 8 (omega arith), le-ltb i 12 (omega arith), le-ltb i 16 (omega arith), le-ltb i 20 (omega arith), le-ltb i 24 (omega arith), le-ltb i 28 l)
 
--- the numbers of a station of one feeder, with so many charges
-abbrev pub numbersOf : Station → ℕ → List ℕ
-numbersOf s n = ownOf s .limit ∷ ownOf s .percent ∷ ownOf s .tail ∷ s .clock ∷ s .next ∷ n ∷ s .site ∷ []
+-- the numbers of a feeder and its station, with so many charges
+abbrev pub numbersOf : One → ℕ → List ℕ
+numbersOf o n = o .feeder .limit ∷ o .feeder .percent ∷ o .feeder .tail ∷ o .clock ∷ o .next ∷ n ∷ o .site ∷ []
 
 pub header-of :
-    (s : Station) (w j : ℕ) → w < 7 → j < 4 → byteOf j (getD (numbersOf s (heldBy s .held)) w 0) ≡ contentByte (single s) (4 * w + j)
-header-of s w j h l =
-    ap (λ n. byteOf j (getD (numbersOf s n) w 0)) (sym (held-count s)) ∙ header-content (single s) w j h l
+    (o : One) (w j : ℕ) → w < 7 → j < 4 → byteOf j (getD (numbersOf o (heldBy o .held)) w 0) ≡ contentByte (single o) (4 * w + j)
+header-of o w j h l =
+    ap (λ n. byteOf j (getD (numbersOf o n) w 0)) (sym (held-count o)) ∙ header-content (single o) w j h l
 
 -- Records
 
-module _ (s : Station) (k : Columns (heldBy s)) where
-  -- byte `byte` of a column's numbers as byte j of the records
+module _ (o : One) (k : Columns (heldBy o)) where
+  -- byte `byte` of a column'o numbers as byte j of the records
   abbrev pub SameByte : List ℕ → ℕ → ℕ → Type 0
-  SameByte column j byte = (q : ℕ) → byteOf byte (getD column q 0) ≡ packed (fieldsOf (chargeAt (heldBy s) q)) j
+  SameByte column j byte = (q : ℕ) → byteOf byte (getD column q 0) ≡ packed (fieldsOf (chargeAt (heldBy o) q)) j
 
   pub row-of :
-      (column : List ℕ) (j byte : ℕ) → j < 20 → SameByte column j byte → RowOf (contentByte (single s)) column (heldBy s .held) j byte
+      (column : List ℕ) (j byte : ℕ) → j < 20 → SameByte column j byte → RowOf (contentByte (single o)) column (heldBy o .held) j byte
   row-of column j byte h e =
       record {
         each = λ q l.
             e q
-            ∙ ap (λ c. packed (fieldsOf c) j) (sym (held-at s q l))
-            ∙ sym (record-held (single s) q j (omega (arith, held-count s)))
-            ∙ sym (record-content (single s) q j (omega (arith, k .few)) h);
-        none = λ q l m. record-content (single s) q j m h ∙ record-none (single s) q j (omega (arith, held-count s));
+            ∙ ap (λ c. packed (fieldsOf c) j) (sym (held-at o q l))
+            ∙ sym (record-held (single o) q j (omega (arith, held-count o)))
+            ∙ sym (record-content (single o) q j (omega (arith, k .few)) h);
+        none = λ q l m. record-content (single o) q j m h ∙ record-none (single o) q j (omega (arith, held-count o));
       }
 
   -- the four bytes of a field from byte `from` on
@@ -118,7 +118,7 @@ module _ (s : Station) (k : Columns (heldBy s)) where
       → SameByte column (from + 3) 3
       → (byte : ℕ)
       → byte < 4
-      → RowOf (contentByte (single s)) column (heldBy s .held) (from + byte) byte
+      → RowOf (contentByte (single o)) column (heldBy o .held) (from + byte) byte
   column-of column from h a b c d zero l = let z : from + 0 ≡ from = omega arith in rw z (row-of column from 0 (omega arith) a)
   column-of column from h a b c d (suc zero) l = row-of column (from + 1) 1 (omega arith) b
   column-of column from h a b c d (suc (suc zero)) l = row-of column (from + 2) 2 (omega arith) c

@@ -1,6 +1,6 @@
--- The station of one feeder that is read from contents.
+-- The only feeder of the station that is read from contents.
 use mathlib.Core.Path.{_≡_, refl, ap, sym, _∙_}
-use Prim.Native.Nat.{ℕ, zero, suc, _+_, _*_, _≤_, _<_}
+use Prim.Native.Nat.{ℕ, _+_, _*_}
 use mathlib.Core.Bool.{true}
 use mathlib.Core.List.{List, [], _∷_}
 use native.Mathlib.Omega.{arith}
@@ -10,13 +10,10 @@ use Rattle.rules.specs.Site.{State}
 use Rattle.rules.specs.Calls.{boundOf, nearestHundreds}
 use Rattle.rules.proofs.Lists.{tabulate-same}
 use Rattle.charges.specs.declared.Charges.{Charges}
-use Rattle.charges.specs.Arrays.{chargeAt, chargesOf, Columns, Holds}
+use Rattle.charges.specs.Arrays.{chargeAt, chargesOf}
 use Rattle.station.specs.declared.Feeder.{Feeder}
-use Rattle.station.specs.declared.Station.{Station}
-use Rattle.station.specs.View.{unused, feederAt, Formed}
-use Rattle.station.proofs.FreshFeeders.{none-held}
+use Rattle.station.specs.declared.One.{One}
 use Rattle.layout.specs.Reading.{headerAt}
-use Rattle.validity.proofs.Settling.{one-feeder}
 use Rattle.records.specs.Contents.{chargeFrom, stateFrom, headerRight}
 use Rattle.records.specs.Columns.{HoldsFrom, ReadFrom}
 use Rattle.records.proofs.Columning.{settings-right}
@@ -24,29 +21,8 @@ use Rattle.records.proofs.Columning.{settings-right}
 abbrev pub feederWith : ℕ → ℕ → ℕ → ℕ → Charges → Feeder
 feederWith limit percent bound tail c = record { limit = limit; percent = percent; bound = bound; tail = tail; charges = c }
 
--- a feeder, and three that are not there
-abbrev pub stationWith : Feeder → Feeder → ℕ → ℕ → ℕ → Station
-stationWith own none site clock next =
-    record { count = 1; site = site; clock = clock; next = next; feeders = own ∷ none ∷ none ∷ none ∷ [] }
-
-formed-with :
-    (own none : Feeder) (site clock next : ℕ) → Columns (own .charges) → none ≡ unused → Formed (stationWith own none site clock next)
-formed-with own none site clock next k e =
-    record { four = refl; some = omega arith; few = omega arith; columns = first; rest = other }
-  where
-    s : Station
-    s = stationWith own none site clock next
-
-    first : (i : ℕ) → i < 1 → Columns (feederAt s i .charges)
-    first zero l = k
-    first (suc i) l = absurd (omega arith)
-
-    other : (i : ℕ) → 1 ≤ i → i < 4 → feederAt s i ≡ unused
-    other zero l h = absurd (omega arith)
-    other (suc zero) l h = e
-    other (suc (suc zero)) l h = e
-    other (suc (suc (suc zero))) l h = e
-    other (suc (suc (suc (suc i)))) l h = absurd (omega arith)
+abbrev pub onlyWith : Feeder → ℕ → ℕ → ℕ → One
+onlyWith feeder site clock next = record { count = 1; site = site; clock = clock; next = next; place = 0; feeder = feeder }
 
 module _ (xs : List ℕ) (right : headerRight xs ≡ true) where
   charges-in :
@@ -56,7 +32,7 @@ module _ (xs : List ℕ) (right : headerRight xs ≡ true) where
       (tabulate-same (chargeAt c) (chargeFrom xs (headerAt xs 8)) (headerAt xs 20) 0 (λ q p l. h .each q (omega arith)))
 
   pub read-from :
-      (limit percent bound tail site clock next held : ℕ) (c d : Charges)
+      (limit percent bound tail site clock next held : ℕ) (c : Charges)
       → limit ≡ headerAt xs 0
       → percent ≡ headerAt xs 4
       → tail ≡ headerAt xs 8
@@ -66,23 +42,20 @@ module _ (xs : List ℕ) (right : headerRight xs ≡ true) where
       → site ≡ headerAt xs 24
       → bound ≡ nearestHundreds (percent * limit)
       → HoldsFrom xs held tail c
-      → Holds [] d
-      → ReadFrom xs (stationWith (feederWith limit percent bound tail c) (feederWith 0 0 0 0 d) site clock next)
+      → ReadFrom xs (onlyWith (feederWith limit percent bound tail c) site clock next)
   unfolding stateFrom
-  read-from limit percent bound tail site clock next held c d a b t e f g w i h n =
+  read-from limit percent bound tail site clock next held c a b t e f g w i h =
       record {
         state = rw (i, a, b, t, e, f, w) (ap stateWith (charges-in c (rw (g, t) at h)));
         settled =
             record {
-              one-feeder =
-                  one-feeder (stationWith (feederWith limit percent bound tail c) (feederWith 0 0 0 0 d) site clock next)
-                  (formed-with (feederWith limit percent bound tail c) (feederWith 0 0 0 0 d) site clock next (h .columns)
-                  (ap (feederWith 0 0 0 0) (none-held d n)))
-                  refl;
+              columns = h .columns;
               settings = rw (a, b, t, e, f, w) (settings-right xs right);
               bound-is = i;
               active = λ q l. active-in q (h .each q (omega (arith, h .held-is)));
             };
+        single = refl;
+        first = refl;
       }
     where
       stateWith : List Charge → State

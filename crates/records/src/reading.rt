@@ -6,7 +6,7 @@ use charges::Charges;
 use charges::PLACES;
 use profile::balance::nearest_hundreds;
 use station::Feeder;
-use station::Station;
+use station::One;
 use validity::ranges::settings_valid;
 ghost use mathlib.Core.Path.{_≡_};
 ghost use mathlib.Core.Bool.{true};
@@ -98,8 +98,8 @@ fn read_charges(contents: &[u8], held: usize, tail: u32) -> Charges
     }
 }
 
-// The station that the contents would be of, which has one feeder.
-pub fn read(contents: &[u8]) -> Station
+// The only feeder of the station that the contents would be of. No whole station is made of it, since that has the places of four.
+pub fn read(contents: &[u8]) -> One
     requires { ⌜ (length (now contents) ≡ 4572) × (headerRight (now contents) ≡ true) ⌝ }
     ensures { λ r. ⌜ ReadFrom (now (contents .entry)) r ⌝ }
 {
@@ -109,25 +109,19 @@ pub fn read(contents: &[u8]) -> Station
     let held = number_at(contents, 20) as usize;
     let product = percent * limit;
     let charges = read_charges(contents, held, tail);
-    let own = Feeder {
+    let feeder = Feeder {
         limit,
         percent,
         bound: nearest_hundreds(product),
         tail,
         charges,
     };
-    let unused = Feeder {
-        limit: 0,
-        percent: 0,
-        bound: 0,
-        tail: 0,
-        charges: Charges::none(),
-    };
-    Station {
+    One {
         count: 1,
         site: number_at(contents, 24),
         clock: number_at(contents, 12),
         next: number_at(contents, 16),
-        feeders: [own, unused, unused, unused],
+        place: 0,
+        feeder,
     }
 }

@@ -4,13 +4,13 @@ use blocks::bytes::byte_of;
 use blocks::bytes::put_number;
 use blocks::contents::CONTENTS;
 use charges::PLACES;
-use station::Station;
+use station::One;
 ghost use mathlib.Core.Path.{_≡_};
 ghost use Prim.Native.Nat.{_+_, _<_, _≤_};
 ghost use lib.ListN.{length};
 ghost use Rattle.rules.specs.Site.{places};
-ghost use Rattle.station.specs.View.{view};
-ghost use Rattle.validity.specs.Settled.{OneFeeder};
+ghost use Rattle.charges.specs.Arrays.{Columns};
+ghost use Rattle.station.specs.View.{view, stationOf};
 ghost use Rattle.records.specs.Contents.{contentsOf};
 ghost use Rattle.records.specs.Rows.{HeaderPut, RowPut, ColumnPut};
 
@@ -48,22 +48,22 @@ fn put_column<'a>(column: &'a [u32; PLACES], held: usize, from: usize, contents:
     }
 }
 
-// An image holds one feeder: the first.
-pub fn contents_of(station: Station) -> [u8; CONTENTS]
-    requires { ⌜ OneFeeder station ⌝ }
-    ensures { λ r. ⌜ r ≡ contentsOf (view station) ⌝ }
+// The contents of the station of which this is the only feeder.
+pub fn contents_of(one: One) -> [u8; CONTENTS]
+    requires { ⌜ Columns (one .feeder .charges) ⌝ }
+    ensures { λ r. ⌜ r ≡ contentsOf (view (stationOf one)) ⌝ }
 {
-    let feeder = station.feeders[0];
+    let feeder = one.feeder;
     let charges = feeder.charges;
     let held = charges.held;
     let header = [
         feeder.limit,
         feeder.percent,
         feeder.tail,
-        station.clock,
-        station.next,
+        one.clock,
+        one.next,
         held as u32,
-        station.site,
+        one.site,
     ];
     let mut contents = [0u8; CONTENTS];
     put_header(&header, &mut contents);

@@ -104,9 +104,9 @@ pub call-replied :
     × (after ++ drop lent list ≡ sets list 0 (writtenBy (view s) (callOf c (drop from numbers) (lentList places))))
 call-replied {s} {next} c numbers list {after} from places {lent} {asked} {a} v room front inside e is few keeps same p = (
   call-says c v applies (length numbers) places asked lent (after ++ drop lent list) e (omega (arith, read)) (omega (arith, same, read))
-  (take-at after (drop lent list) lent long)
-  (omega (arith, long, length-append after (drop lent list)))
-  (omega (arith, size)),
+      (take-at after (drop lent list) lent long)
+      (omega (arith, long, length-append after (drop lent list)))
+      (omega (arith, size)),
   list-left c (length numbers) places lent list e long (omega (arith, few, room)) applies,
 )
   where

@@ -54,14 +54,7 @@ pub fn way_of(count: usize, request: Request) -> Way
 }
 
 // A call that keeps the station, with the numbers from `from` on, and so many places of the list lent for writing.
-fn ask(
-    one: One,
-    call: Call,
-    numbers: &[u32],
-    from: usize,
-    places: u32,
-    list: &mut [u32],
-) -> Said
+fn ask(one: One, call: Call, numbers: &[u32], from: usize, places: u32, list: &mut [u32]) -> Said
     requires { ⌜ (Alone one × (keepsOf call ≡ true)) × ((4096 ≤ length (now list)) × ((take (length (lentList places)) (now list) ≡ lentList places) × ((from ≤ length (now numbers)) × Lent (lends call) (length (now numbers)) places))) ⌝ }
     ensures { λ r. ⌜ Says (called (view (stationOf one)) (callOf call (drop from (now (numbers .entry))) (lentList places))) (record { station = stationOf one; said = r }) (now (list .exit)) ⌝ }
     ensures { λ r. ⌜ now (list .exit) ≡ sets (now (list .entry)) 0 (writtenBy (view (stationOf one)) (callOf call (drop from (now (numbers .entry))) (lentList places))) ⌝ }

@@ -12,10 +12,8 @@ use Rattle.layout.specs.Reading.{RestoreResult, restoring}
 use Rattle.layout.specs.Blocks.{differing}
 use Rattle.layout.specs.Saving.{SaveResult, saving}
 use Rattle.layout.proofs.Refusing.{saving-written, accepted}
-use Rattle.layout.proofs.RoundTrip.{restoring-one}
-use Rattle.layout.proofs.Calling.{feeders-stay}
 use Rattle.station.specs.declared.Station.{Station}
-use Rattle.station.specs.View.{view, Valid}
+use Rattle.station.specs.View.{view, stationOf}
 use Rattle.station.specs.Given.{Gives}
 use Rattle.calls.specs.declared.Call.{Call as Given}
 use Rattle.calls.specs.declared.Call.the-variants.{Preview, Commit, Move, Offer, ReplanLatest, ReplanLines, Enquire, Board, Withdraw}
@@ -85,7 +83,7 @@ module _ {image : List ℕ} {restored : Restored} (r : Restores image restored) 
   pub refusal-is : restored .answer ≡ restoring image .refusal
   refusal-is = ap (λ (x : RestoreResult). x .refusal) (r .result)
 
-  pub state-is : view (restored .station) ≡ restoring image .state
+  pub state-is : view (stationOf (restored .one)) ≡ restoring image .state
   state-is = ap (λ (x : RestoreResult). x .state) (r .result)
 
   pub whole : restored .answer ≡ 0 → Whole image
@@ -115,19 +113,8 @@ module _ {image : List ℕ} {restored : Restored} (r : Restores image restored) 
             );
       }
 
-  -- the station after a call has one feeder, as every station that is restored
-  pub one-after :
-      (c : Call) {a : Answer} {next : Station} {list : List ℕ}
-      → Gives (step (view (restored .station)) c) a next list
-      → length (view next .feeders) ≡ 1
-  one-after c g =
-      ap (λ (x : Result). length (x .state .feeders)) (g .result)
-      ∙ feeders-stay (view (restored .station)) c
-      ∙ ap (λ (s : State). length (s .feeders)) state-is
-      ∙ restoring-one image
-
   module _ (c : Call) {a : Answer} {next : Station} {list : List ℕ} {n : Numbers} (z : restored .answer ≡ 0)
-      (g : Gives (step (view (restored .station)) c) a next list) (t : Tells a n) where
+      (g : Gives (step (view (stationOf (restored .one))) c) a next list) (t : Tells a n) where
     -- the step, where the restore is not refused
     called-is : (numbers : List ℕ) → left numbers image (record { answer = a; state = view next; list = list }) ≡ called numbers image c
     unfolding called
@@ -137,8 +124,8 @@ module _ {image : List ℕ} {restored : Restored} (r : Restores image restored) 
 
     told-is : told a ≡ toldOf c n
     told-is =
-        let same : a ≡ step (view (restored .station)) c .answer = ap (λ (x : Result). x .answer) (g .result) in
-        ap told same ∙ told-by (view (restored .station)) c n (r .valid .state) (subst (λ (x : Answer). Tells x n) same t)
+        let same : a ≡ step (view (stationOf (restored .one))) c .answer = ap (λ (x : Result). x .answer) (g .result) in
+        ap told same ∙ told-by (view (stationOf (restored .one))) c n (r .alone .valid .state) (subst (λ (x : Answer). Tells x n) same t)
 
     -- what is left, once it is known which way the call went
     left-as : (x : Told) (numbers : List ℕ) → toldOf c n ≡ x

@@ -8,8 +8,8 @@ use Rattle.requests.specs.Requests.{Asked}
 use Rattle.station.specs.declared.Feeder.{Feeder}
 use Rattle.station.specs.declared.Station.{Station}
 use Rattle.station.specs.declared.One.{One}
-use Rattle.station.specs.View.{unused, feederAt, view, Formed, Valid, oneAt, stationOf, Alone}
-use Rattle.station.proofs.Ones.{single, alone-at}
+use Rattle.station.specs.View.{unused, feederAt, view, Formed, Valid, oneAt, stationOf}
+use Rattle.station.proofs.Ones.{single, taken-whole}
 use Rattle.reply.specs.Reply.{reply, Says}
 use Rattle.reply.specs.declared.Said.{Said}
 
@@ -20,10 +20,7 @@ putBack s l =
 
 module _ {s : Station} {o : One} (v : Valid s) (n : s .count ≡ 1) (e : o ≡ oneAt s 0) where
   whole : stationOf o ≡ s
-  whole = ap stationOf e ∙ sym (single s (v .formed) n)
-
-  pub taken-out : Alone o
-  taken-out = subst Alone (sym e) (alone-at s v n)
+  whole = taken-whole v n e
 
   pub says-kept :
       (asked : Asked) {said : Said} {list : List ℕ} → Says (reply (view (stationOf o)) asked) (record { station = stationOf o; said = said }) list →

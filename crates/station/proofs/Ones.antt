@@ -1,12 +1,13 @@
 -- One feeder of a station: it stays where nothing changes, and where it is the only one it is the whole station.
 use mathlib.Core.Path.{_≡_, refl, sym, _∙_, ap, subst}
-use Prim.Native.Nat.{ℕ, _<_}
+use Prim.Native.Nat.{ℕ, zero, suc, _≤_, _<_}
 use mathlib.Core.List.{List, [], _∷_}
 use native.Mathlib.Omega.{arith}
 use lib.ListN.{length, getD}
 use borrow.Author.Tests.{le-ltb}
 use Rattle.rules.specs.Site.{State}
 use Rattle.rules.specs.Calls.{Answer, Result}
+use Rattle.charges.specs.Arrays.{Columns}
 use Rattle.station.specs.declared.Feeder.{Feeder}
 use Rattle.station.specs.declared.Station.{Station}
 use Rattle.station.specs.declared.One.{One}
@@ -44,8 +45,40 @@ single s w e =
     (four (s .feeders) (w .four)
     ∙ rw (w .rest 1 (omega (arith, e)) (omega arith), w .rest 2 (omega (arith, e)) (omega arith), w .rest 3 (omega (arith, e)) (omega arith)))
 
-pub alone-at : (s : Station) → Valid s → s .count ≡ 1 → Alone (oneAt s 0)
-alone-at s v e = record { valid = subst Valid (single s (v .formed) e) v; single = e; first = refl }
+-- behind the only feeder there is none
+others-unused : (o : One) (i : ℕ) → 1 ≤ i → i < 4 → feederAt (stationOf o) i ≡ unused
+others-unused o zero h l = absurd (omega (arith, h))
+others-unused o (suc zero) h l = refl
+others-unused o (suc (suc zero)) h l = refl
+others-unused o (suc (suc (suc zero))) h l = refl
+others-unused o (suc (suc (suc (suc i)))) h l = absurd (omega (arith, l))
+
+pub only-formed : (o : One) → Columns (o .feeder .charges) → Formed (stationOf o)
+only-formed o c =
+    record {
+      four = refl;
+      some = omega arith;
+      few = omega arith;
+      columns = λ i h. first i h;
+      rest = others-unused o;
+    }
+  where
+    first : (i : ℕ) → i < 1 → Columns (feederAt (stationOf o) i .charges)
+    first zero h = c
+    first (suc i) h = absurd (omega (arith, h))
+
+-- taken out of it, it is the whole of it
+module _ {s : Station} {o : One} (v : Valid s) (n : s .count ≡ 1) (e : o ≡ oneAt s 0) where
+  pub taken-whole : stationOf o ≡ s
+  taken-whole = ap stationOf e ∙ sym (single s (v .formed) n)
+
+  pub taken-alone : Alone o
+  taken-alone =
+      record {
+        valid = subst Valid (sym taken-whole) v;
+        single = ap (λ (x : One). x .count) e ∙ n;
+        first = ap (λ (x : One). x .place) e;
+      }
 
 pub alone-of : {o : One} → Alone o → Of (stationOf o) o
 alone-of {o} a =

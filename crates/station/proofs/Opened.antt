@@ -10,12 +10,13 @@ use Rattle.rules.specs.Calls as rules
 use Rattle.rules.specs.Calls.{Result, Answer, refused, opened, answering, fresh, least, openRefusals, opening}
 use Rattle.rules.specs.Valid.{ValidState}
 use Rattle.rules.proofs.Validity.{opening-valid}
+use Rattle.station.specs.declared.Feeder.{Feeder}
 use Rattle.station.specs.declared.Station.{Station}
 use Rattle.station.specs.declared.open.Asked.{Asked}
 use Rattle.station.specs.declared.open.OpenAnswer.{OpenAnswer}
 use Rattle.station.specs.declared.open.OpenAnswer.the-variants.{Refused}
-use Rattle.station.specs.View.{view, Formed}
-use Rattle.station.specs.Opened.{askedOf, freshOf, leastAsked, boundsOf, openAnswer, FreshLeast, Opens}
+use Rattle.station.specs.View.{view, Formed, stationOf}
+use Rattle.station.specs.Opened.{askedOf, freshOf, leastAsked, freshAt, boundsOf, openAnswer, FreshLeast, OnlyLeast, Opens}
 use Rattle.station.proofs.FreshFeeders.{opens, view-fresh, formed-fresh, bounds-fresh}
 
 abbrev resultOf : Answer → State → Result
@@ -52,6 +53,16 @@ least-fresh e same =
             state = subst ValidState (sym (ap view f)) (opening-valid least);
           };
     }
+
+-- its only feeder
+pub least-only :
+    {asked : Asked} {g : Feeder} → asked ≡ leastAsked → g ≡ freshAt asked 0
+    → OnlyLeast (record { count = 1; site = asked .site; clock = 0; next = 1; place = 0; feeder = g })
+least-only {asked} {g} e f =
+    rw e (record { state-is = least .state-is; alone = record { valid = least .valid; single = refl; first = refl } })
+  where
+    least : FreshLeast (stationOf (record { count = 1; site = 720; clock = 0; next = 1; place = 0; feeder = g }))
+    least = least-fresh refl (ap (λ (x : Feeder). stationOf (record { count = 1; site = 720; clock = 0; next = 1; place = 0; feeder = x })) (f ∙ ap (λ (a : Asked). freshAt a 0) e))
 
 pub open-refused :
     (a : rules.Asked) (k : ℕ) {s q : Station}

@@ -10,11 +10,12 @@ use Rattle.rules.specs.Calls as rules
 use Rattle.rules.specs.Calls.{settings, boundOf, Answer, refused, opened, Result}
 use Rattle.station.specs.declared.Feeder.{Feeder}
 use Rattle.station.specs.declared.Station.{Station}
+use Rattle.station.specs.declared.One.{One}
 use Rattle.station.specs.declared.open.Settings.{Settings}
 use Rattle.station.specs.declared.open.Asked.{Asked}
 use Rattle.station.specs.declared.open.OpenAnswer.{OpenAnswer}
 use Rattle.station.specs.declared.open.OpenAnswer.the-variants.{Opened, Refused}
-use Rattle.station.specs.View.{noCharges, unused, feederAt, view, Valid}
+use Rattle.station.specs.View.{noCharges, unused, feederAt, view, Valid, stationOf, Alone}
 
 abbrev pub settingsOf : Settings → rules.Settings
 settingsOf x = settings (x .limit) (x .percent) (x .tail)
@@ -89,6 +90,11 @@ openAnswer (Refused number) = refused number
 pub record FreshLeast (s : Station) : Type 0 where
   pub state-is : view s ≡ rules.fresh rules.least
   pub valid : Valid s
+
+-- the only feeder of such a station
+pub record OnlyLeast (o : One) : Type 0 where
+  pub state-is : view (stationOf o) ≡ rules.fresh rules.least
+  pub alone : Alone o
 
 -- An opening gives exactly this result, and a station that is valid.
 pub record Opens (r : Result) (answer : OpenAnswer) (s : Station) : Type 0 where

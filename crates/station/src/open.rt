@@ -1,5 +1,6 @@
 // An opening: a fresh station for its settings.
 use crate::Feeder;
+use crate::One;
 use crate::Station;
 use charges::Charges;
 use profile::balance::nearest_hundreds;
@@ -8,7 +9,7 @@ ghost use lib.ListN.{length, take};
 ghost use mathlib.Core.List.{[], _∷_};
 ghost use Rattle.rules.specs.Basics.{firstOf};
 ghost use Rattle.rules.specs.Calls.{settingsRead, opened, openRefusals, opening};
-ghost use Rattle.station.specs.Opened.{settingsOf, askedOf, settingsAt, earlierOf, feederRefusals, freshAt, freshOf, leastAsked, openAnswer, boundsOf, FreshLeast, Opens};
+ghost use Rattle.station.specs.Opened.{settingsOf, askedOf, settingsAt, earlierOf, feederRefusals, freshAt, freshOf, leastAsked, openAnswer, boundsOf, FreshLeast, OnlyLeast, Opens};
 
 // What an opening is given for a feeder: the limit N, the percentage c and r.
 pub struct Settings {
@@ -251,6 +252,24 @@ impl Station {
         Opening {
             answer: station.bounds(),
             station,
+        }
+    }
+}
+
+impl One {
+    // The only feeder of the least station, where nobody needs the places of four: beside a refused restore.
+    pub fn least() -> One
+        ensures { λ r. ⌜ OnlyLeast r ⌝ }
+    {
+        let asked = least_asked();
+        let feeder = fresh_at(asked, 0);
+        One {
+            count: 1,
+            site: asked.site,
+            clock: 0,
+            next: 1,
+            place: 0,
+            feeder,
         }
     }
 }

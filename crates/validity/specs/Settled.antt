@@ -1,4 +1,4 @@
--- What is known of a station of one feeder before its charges are tested, and the tests of plain numbers.
+-- What is known of the only feeder of a station before its charges are tested, and the tests of plain numbers.
 use Prim.Native.Nat.{ℕ, _+_, _<_}
 use mathlib.Core.Path.{_≡_}
 use mathlib.Core.Bool.{Bool, true, cond, _&&_}
@@ -9,9 +9,8 @@ use Rattle.rules.specs.Site.{State}
 use Rattle.rules.specs.Calls.{boundOf}
 use Rattle.charges.specs.declared.Charges.{Charges}
 use Rattle.charges.specs.Arrays.{chargeAt, Columns}
-use Rattle.station.specs.declared.Feeder.{Feeder}
-use Rattle.station.specs.declared.Station.{Station}
-use Rattle.station.specs.View.{feederView, feederAt, Formed}
+use Rattle.station.specs.declared.One.{One}
+use Rattle.station.specs.View.{feederView}
 use Rattle.layout.specs.Validity.{settingsRanged, fieldsRanged, rateRight, timesRight}
 
 -- "fields are in range and meet neither refusal 3"
@@ -33,27 +32,18 @@ unfoldable pub ticketRises : List ℕ → ℕ → ℕ → ℕ → Bool
 ticketRises tickets held next q =
     leb 1 (ticketOrNext tickets held next q) && ltb (ticketOrNext tickets held next q) (ticketOrNext tickets held next (q + 1))
 
--- its feeder
-abbrev pub ownOf : Station → Feeder
-ownOf s = feederAt s 0
+-- One feeder, which is the only one of its station
 
-abbrev pub heldBy : Station → Charges
-heldBy s = ownOf s .charges
+abbrev pub heldBy : One → Charges
+heldBy o = o .feeder .charges
 
--- the site of this feeder alone, which is the view of a station that has one
-abbrev pub single : Station → State
-single s = record { feeders = feederView (ownOf s) ∷ []; site = s .site; clock = s .clock; next = s .next }
+-- the site of this feeder alone, which is the view of its station
+abbrev pub single : One → State
+single o = record { feeders = feederView (o .feeder) ∷ []; site = o .site; clock = o .clock; next = o .next }
 
--- a station that has one feeder
-pub record OneFeeder (s : Station) : Type 0 where
-  pub formed : Formed s
-  pub one : s .count ≡ 1
-  pub columns : Columns (heldBy s)
-
--- a station of one feeder whose settings passed their test; D and the minutes in which a charge is active, which no image holds, are
--- worked out
-pub record Settled (s : Station) : Type 0 where
-  pub one-feeder : OneFeeder s
-  pub settings : settingsValid (ownOf s .limit) (ownOf s .percent) (ownOf s .tail) (s .clock) (s .next) (s .site) ≡ true
-  pub bound-is : ownOf s .bound ≡ boundOf (ownOf s .limit) (ownOf s .percent)
-  pub active : (q : ℕ) → q < heldBy s .held → chargeAt (heldBy s) q .activeTime ≡ chargeAt (heldBy s) q .time + ownOf s .tail
+-- a feeder whose settings passed their test; D and the minutes in which a charge is active, which no image holds, are worked out
+pub record Settled (o : One) : Type 0 where
+  pub columns : Columns (heldBy o)
+  pub settings : settingsValid (o .feeder .limit) (o .feeder .percent) (o .feeder .tail) (o .clock) (o .next) (o .site) ≡ true
+  pub bound-is : o .feeder .bound ≡ boundOf (o .feeder .limit) (o .feeder .percent)
+  pub active : (q : ℕ) → q < heldBy o .held → chargeAt (heldBy o) q .activeTime ≡ chargeAt (heldBy o) q .time + o .feeder .tail

@@ -1,4 +1,4 @@
-// Whether a station of one feeder is one whose image restore accepts: its settings, its charges, its plan.
+// Whether the only feeder of a station is one whose image restore accepts: its settings, its charges, its plan.
 pub mod ranges;
 pub mod records;
 
@@ -7,30 +7,30 @@ use planner::Beside;
 use planner::plan::plan_sound;
 use profile::FEEDER_STEPS;
 use search::limits::Limits;
-use station::Station;
+use station::One;
 ghost use mathlib.Core.Path.{_≡_};
 ghost use Rattle.layout.specs.Validity.{isValid};
-ghost use Rattle.station.specs.View.{view};
+ghost use Rattle.station.specs.View.{view, stationOf};
 ghost use Rattle.validity.specs.Settled.{Settled};
 
-// The rest of the test for a station whose settings passed theirs.
-pub fn is_valid(s: Station) -> bool
-    requires { ⌜ Settled s ⌝ }
-    ensures { λ r. ⌜ r ≡ isValid (view s) ⌝ }
+// The rest of the test for a feeder whose settings passed theirs.
+pub fn is_valid(one: One) -> bool
+    requires { ⌜ Settled one ⌝ }
+    ensures { λ r. ⌜ r ≡ isValid (view (stationOf one)) ⌝ }
 {
-    if !records_right(s) {
+    if !records_right(one) {
         return false;
     }
-    let feeder = s.feeders[0];
+    let feeder = one.feeder;
     let held = feeder.charges;
     let limits = Limits {
         limit: feeder.limit,
         bound: feeder.bound,
-        site: s.site,
+        site: one.site,
     };
     // There is no other feeder that could draw.
     let beside = Beside {
-        clock: s.clock,
+        clock: one.clock,
         limits,
         held: 0,
     };

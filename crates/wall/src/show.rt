@@ -17,11 +17,10 @@ fn print_wall(image: &[u8], out: &mut [u8]) -> usize
     if refusal != 0 {
         return print_no_station(out, 0);
     }
-    let station = restored.station;
-    // A station that was restored has one feeder.
-    let feeder = station.feeders[0];
+    let one = restored.one;
+    let feeder = one.feeder;
     let charges = feeder.charges;
-    print_pages(station.clock, charges, out)
+    print_pages(one.clock, charges, out)
 }
 
 // Reads once, and answers whether something came.

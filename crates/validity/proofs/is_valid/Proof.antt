@@ -13,9 +13,6 @@ records-right-requires c κs = search needs
 returns : tie.Need-returns
 returns c = valid-fails _ (c .before .before .pre) _ (c .before .records-right .ensures) (not-true _ (c .if1 .taken))
 
-element-copy-out-feeder : tie.Need-element-copy-out-feeder
-element-copy-out-feeder c = search needs
-
 slice-aggregate-none : tie.Need-slice-aggregate-none
 slice-aggregate-none c = search needs
 
@@ -43,7 +40,6 @@ is-valid-spec =
     (tie.spec
     records-right-requires
     returns
-    element-copy-out-feeder
     slice-aggregate-none
     slice-aggregate-plan-sound
     slice-aggregate-plan-sound-2

@@ -1,4 +1,4 @@
--- The header and the columns are the station that the contents are of.
+-- The header and the columns are the feeder that the contents are of.
 use native.Mathlib.Omega.{arith}
 use Rattle.records.proofs.Columning.{held-few, header-ranged, product-told}
 use Rattle.records.proofs.StationRead.{read-from}
@@ -38,9 +38,6 @@ read-charges-requires c κs =
 nearest-hundreds-requires : tie.Need-nearest-hundreds-requires
 nearest-hundreds-requires c κs = search needs
 
-none-requires : tie.Need-none-requires
-none-requires c κs = search needs
-
 number-at-requires-5 : tie.Need-number-at-requires-5
 number-at-requires-5 c κs = search needs
 
@@ -52,8 +49,15 @@ number-at-requires-7 c κs = search needs
 
 returns : tie.Need-returns
 returns c =
-    let b = c .before .before .before .before .before .before .before .before .before .before .before in
-    read-from (b .args .contents .now) (b .pre .1) _ _ _ _ _ _ _ _ _ _ (c .before .before .before .before .before .before .before .before .before .number-at .ensures) (c .before .before .before .before .before .before .before .before .number-at2 .ensures) (c .before .before .before .before .before .before .before .number-at3 .ensures) (c .before .number-at6 .ensures) (c .number-at7 .ensures) (c .before .before .before .before .before .before .number-at4 .ensures) (c .before .before .number-at5 .ensures) (c .before .before .before .before .nearest-hundreds .ensures) (c .before .before .before .before .before .read-charges .ensures) (c .before .before .before .none .ensures)
+    let h = c .before .before .before .before in
+    let b = h .before .before .before .before .before .before in
+    let limit = h .before .before .before .before .number-at .ensures in
+    let percent = h .before .before .before .number-at2 .ensures in
+    let tail = h .before .before .number-at3 .ensures in
+    let held = h .before .number-at4 .ensures in
+    let site = c .before .before .number-at5 .ensures in
+    read-from (b .args .contents .now) (b .pre .1) _ _ _ _ _ _ _ _ _ limit percent tail (c .before .number-at6 .ensures) (c .number-at7 .ensures)
+    held site (c .before .before .before .nearest-hundreds .ensures) (h .read-charges .ensures)
 
 pub read-spec : {M : Type 1} → statement M
 read-spec =
@@ -67,7 +71,6 @@ read-spec =
     mul-product
     read-charges-requires
     nearest-hundreds-requires
-    none-requires
     number-at-requires-5
     number-at-requires-6
     number-at-requires-7

@@ -11,7 +11,8 @@ use Rattle.reply.specs.Ways.{WayOf}
 use Rattle.reply.specs.declared.alone.Way.{Way}
 use Rattle.reply.proofs.Replies.{can-reply, replied}
 use Rattle.session.specs.Turns.{Answers}
-use Rattle.session.proofs.OnlyFeeder.{taken-out, says-kept, says-changed}
+use Rattle.station.proofs.Ones.{taken-alone}
+use Rattle.session.proofs.OnlyFeeder.{says-kept, says-changed}
 use Rattle.session.proofs.Serving.{answers-none, answers-more, stops-done, stops-full}
 use borrow.Author.Needs.{needs}
 use Rattle.session.proofs.turn.answer_requests.Statement.{statement}
@@ -114,7 +115,7 @@ reply-kept-requires c κs =
     let l = c .before .before .before .before .before .before .before .before .before .before .before .before .before .before .before .before .before .loop .inv in
     let room = c .before .before .before .before .before .before .before .before .before .before .before .before .before .before .before .before .before .before .before .before .before .before .pre .1 in
     let k = subst (WayOf (c .before .before .before .before .before .before .before .before .before .before .before .before .before .before .before .before .before .loop .next .count) (c .before .before .before .before .before .before .before .before .before .before .read .result)) (c .before .before .before .enum-told .given .1) (c .before .before .before .before .before .way-of .ensures) in
-    ((taken-out (l .0 .valid) (k .0) (c .before .before .one .ensures), k .1), (can-reply (c .before .before .before .before .before .before .before .before .before .before .before .before .before .before .before .before .before .loop .list) (l .0 .valid) (omega (arith, c .before .before .before .before .before .before .before .before .before .before .read .kept .1 .0, l .1, room .numbers-fit)) (omega (arith, l .2, room .list-fits)) (c .before .before .before .before .before .before .before .before .before .before .read .ensures .0) (c .before .before .before .before .before .before .before .before .before .before .read .ensures .1)) .1)
+    ((taken-alone (l .0 .valid) (k .0) (c .before .before .one .ensures), k .1), (can-reply (c .before .before .before .before .before .before .before .before .before .before .before .before .before .before .before .before .before .loop .list) (l .0 .valid) (omega (arith, c .before .before .before .before .before .before .before .before .before .before .read .kept .1 .0, l .1, room .numbers-fit)) (omega (arith, l .2, room .list-fits)) (c .before .before .before .before .before .before .before .before .before .before .read .ensures .0) (c .before .before .before .before .before .before .before .before .before .before .read .ensures .1)) .1)
 
 enum-told-2 : tie.Need-enum-told-2 Inv-loop μ-loop
 enum-told-2 c =
@@ -130,7 +131,7 @@ reply-changed-requires c κs =
     let l = c .before .before .before .before .before .before .before .before .before .before .before .before .before .before .before .before .before .loop .inv in
     let room = c .before .before .before .before .before .before .before .before .before .before .before .before .before .before .before .before .before .before .before .before .before .before .pre .1 in
     let k = subst (WayOf (c .before .before .before .before .before .before .before .before .before .before .before .before .before .before .before .before .before .loop .next .count) (c .before .before .before .before .before .before .before .before .before .before .read .result)) (c .before .before .before .enum-told2 .given .1) (c .before .before .before .before .before .way-of .ensures) in
-    ((taken-out (l .0 .valid) (k .0) (c .before .before .one2 .ensures), k .1), (can-reply (c .before .before .before .before .before .before .before .before .before .before .before .before .before .before .before .before .before .loop .list) (l .0 .valid) (omega (arith, c .before .before .before .before .before .before .before .before .before .before .read .kept .1 .0, l .1, room .numbers-fit)) (omega (arith, l .2, room .list-fits)) (c .before .before .before .before .before .before .before .before .before .before .read .ensures .0) (c .before .before .before .before .before .before .before .before .before .before .read .ensures .1)) .1)
+    ((taken-alone (l .0 .valid) (k .0) (c .before .before .one2 .ensures), k .1), (can-reply (c .before .before .before .before .before .before .before .before .before .before .before .before .before .before .before .before .before .loop .list) (l .0 .valid) (omega (arith, c .before .before .before .before .before .before .before .before .before .before .read .kept .1 .0, l .1, room .numbers-fit)) (omega (arith, l .2, room .list-fits)) (c .before .before .before .before .before .before .before .before .before .before .read .ensures .0) (c .before .before .before .before .before .before .before .before .before .before .read .ensures .1)) .1)
 
 element-set-from-feeder : tie.Need-element-set-from-feeder Inv-loop μ-loop
 element-set-from-feeder c =

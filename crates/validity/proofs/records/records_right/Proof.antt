@@ -18,21 +18,18 @@ Inv-loop s feeder held n q₀ q = (q ≤ n) × (every (recordRight (single s)) q
 abbrev μ-loop : tie.MeasureT-loop
 μ-loop s feeder held n q₀ q = n - q
 
-element-copy-out-feeder : tie.Need-element-copy-out-feeder Inv-loop μ-loop
-element-copy-out-feeder c = omega (arith, c .pre .one-feeder .formed .four)
-
 loop-holds : tie.Need-loop-holds Inv-loop μ-loop
 loop-holds c = (omega arith, every-none _)
 
 ticket-rises-requires : tie.Need-ticket-rises-requires Inv-loop μ-loop
 ticket-rises-requires c κs =
     let l = c .before .before .before in
-    (l .before .before .before .pre .one-feeder .columns .few, c .before .before .loop-test .taken)
+    (l .before .before .before .pre .columns .few, c .before .before .loop-test .taken)
 
 returns : tie.Need-returns Inv-loop μ-loop
 returns c =
     let l = c .before .before .before .before .before in
-    let s = l .before .before .before .args .t1 in
+    let s = l .before .before .before .args .one in
     sym
     (every-not (recordRight (single s)) (heldBy s .held) (l .loop .q) (c .before .before .before .before .loop-test .taken)
     (ticket-fails s (l .loop .q) _ (c .before .before .before .before .loop-test .taken) (c .before .ticket-rises .ensures) (not-true _ (c .if1 .taken))))
@@ -83,7 +80,7 @@ charge-valid-requires : tie.Need-charge-valid-requires Inv-loop μ-loop
 charge-valid-requires c κs =
     let l = c .before .before .before .before .before .before .before .before .before .before .before .before in
     let b = l .before .before .before in (
-      settled-ranged (b .args .t1) (b .pre) .next-low,
+      settled-ranged (b .args .one) (b .pre) .next-low,
       b .pre .active (l .loop .q) (c .before .before .before .before .before .before .before .before .before .before .before .loop-test .taken),
     )
 
@@ -91,7 +88,7 @@ returns-2 : tie.Need-returns-2 Inv-loop μ-loop
 returns-2 c =
     let t = c .before .before .before .before .before .before .before .before .before .before in
     let l = t .before .before .before .before in
-    let s = l .before .before .before .args .t1 in
+    let s = l .before .before .before .args .one in
     sym
     (every-not (recordRight (single s)) (heldBy s .held) (l .loop .q) (t .before .before .before .loop-test .taken)
     (record-is s (l .loop .q) _ (c .before .charge-valid .result) (t .before .before .before .loop-test .taken) (t .ticket-rises .ensures)
@@ -108,7 +105,7 @@ loop-again : tie.Need-loop-again Inv-loop μ-loop
 loop-again c =
     let t = c .before .before .before .before .before .before .before .before .before .before in
     let l = t .before .before .before .before in
-    let s = l .before .before .before .args .t1 in (
+    let s = l .before .before .before .args .one in (
       omega arith,
       every-more (recordRight (single s)) (l .loop .q) (l .loop .inv .1)
           (record-is s (l .loop .q) _ (c .before .charge-valid .result) (t .before .before .before .loop-test .taken) (t .ticket-rises .ensures)
@@ -119,7 +116,7 @@ loop-again c =
 returns-3 : tie.Need-returns-3 Inv-loop μ-loop
 returns-3 c =
     let l = c .before in
-    let s = l .before .before .before .args .t1 in
+    let s = l .before .before .before .args .one in
     let e : l .loop .q ≡ heldBy s .held = omega arith in
     sym (ap (every (recordRight (single s))) (sym e) ∙ l .loop .inv .1)
 
@@ -129,7 +126,6 @@ records-right-spec =
     (tie.spec
     Inv-loop
     μ-loop
-    element-copy-out-feeder
     loop-holds
     ticket-rises-requires
     returns

@@ -19,9 +19,6 @@ same-length c = search needs
 returns : tie.Need-returns
 returns c = printed-as (c .before .before .print-no-station .ensures) (refused-shown (c .before .before .before .before .before .restore .ensures) (λ e. omega (arith, c .before .before .before .before .if1 .taken)))
 
-element-copy-out-feeder : tie.Need-element-copy-out-feeder
-element-copy-out-feeder c = search needs
-
 print-pages-requires : tie.Need-print-pages-requires
 print-pages-requires c κs =
     let r = c .before .before .before .before .before .restore .ensures in
@@ -43,7 +40,6 @@ print-wall-spec =
     print-no-station-requires
     same-length
     returns
-    element-copy-out-feeder
     print-pages-requires
     same-length-2
     returns-2)
