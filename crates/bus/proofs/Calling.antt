@@ -2,31 +2,24 @@
 use mathlib.Core.Path.{_≡_, refl, sym, ap, subst, _∙_}
 use Prim.Native.Nat.{ℕ, _<_}
 use native.Mathlib.Omega.{arith}
-use mathlib.Core.Bool.{Bool, true, false, cond, _&&_}
+use mathlib.Core.Bool.{Bool, true, false}
 use mathlib.Core.List.{List, [], _∷_}
 use lib.Dec.{eqb}
 use borrow.Author.Tests.{ne-eqb, eq-eqb}
-use Rattle.rules.specs.Basics.{firstOf}
-use Rattle.rules.specs.Site.{State, Feeder}
-use Rattle.rules.specs.Calls.{Asked, Answer, refused, opened, Result, fresh, least, openRefusals, answering, opening, Call, replanLatest, enquire, written}
-use Rattle.layout.specs.Image.{imageOf}
-use Rattle.layout.specs.Reading.{sized, restoring}
-use Rattle.layout.specs.Blocks.{differing}
+use Rattle.rules.specs.Site.{State}
+use Rattle.rules.specs.Calls.{refused, opening, Call, replanLatest, enquire, written}
+use Rattle.layout.specs.Reading.{restoring}
 use Rattle.layout.specs.Saving.{SaveResult, saveRefusal, saving}
-use Rattle.layout.proofs.Refusing.{saving-written, saving-refused}
-use Rattle.station.specs.declared.Station.{Station}
 use Rattle.station.specs.View.{view, stationOf}
-use Rattle.station.specs.declared.open.OpenAnswer.{OpenAnswer}
-use Rattle.station.specs.Opened.{openAnswer, Opens as OpensStation}
 use Rattle.image.specs.declared.restoring.Restored.{Restored}
 use Rattle.image.specs.declared.saving.Saved.{Saved}
 use Rattle.image.specs.Answers.{Restores, Saves}
 use Rattle.service.specs.declared.numbers.Numbers.{Numbers}
-use Rattle.service.specs.Left.{Told, told, counted, toldOver, leaving, left, Leaves, Whole}
+use Rattle.service.specs.Left.{Told, told, counted, Leaves}
 use Rattle.service.specs.Named.{numbersOf, toldOf, Serves}
 use Rattle.service.proofs.Telling.{told-refused, told-granted}
-use Rattle.service.proofs.Serving.{refused-left, refusal-is, state-is}
-use Rattle.bus.specs.Images.{openedOver, copying, copiedOr, copied, Opens, Copies}
+use Rattle.service.proofs.Serving.{refusal-is, state-is}
+use Rattle.bus.specs.Images.{copying, copiedOr, copied, Copies}
 use Rattle.bus.specs.Plans.{TellsPlan}
 
 -- a save that is refused leaves the list

@@ -22,7 +22,7 @@ use Rattle.layout.proofs.Calling.{feeders-stay}
 use Rattle.layout.proofs.Refusing.{saving-written, saving-several}
 use Rattle.layout.proofs.RoundTrip.{restored-saved}
 use Rattle.layout.proofs.Comparing.{none-differs}
-use Rattle.service.specs.Left.{told, counted, toldOver, leaving, Left, left, called, Whole}
+use Rattle.service.specs.Left.{told, counted, toldOver, Left, left, called, Whole}
 use Rattle.bus.specs.Images.{openedOver}
 use Rattle.bus.specs.Chains.{Made, calls, opens, leftBy, chained, openedOne, openingOver, resultOf, resultsOf, behind, leftOf, leftOfEach}
 

@@ -28,7 +28,7 @@ use Rattle.station.proofs.Views.{view-length, view-feeder}
 use Rattle.ordering.specs.declared.Order.{Order}
 use Rattle.ordering.specs.Ordered.{previewOf, refusalBy, soughtBy}
 use Rattle.ordering.proofs.Rows.{refusalsOf, named, There, is-named, rows}
-use Rattle.ordering.proofs.Held.{seen-end, seen-plannable}
+use Rattle.station.proofs.Seen.{seen-end, seen-plannable}
 
 -- all that the feeder of an order sees
 abbrev pub seenBy : Station → Order → List Load

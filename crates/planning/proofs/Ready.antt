@@ -1,26 +1,17 @@
 -- What the planners ask, of a feeder of a valid station, and what a plan of it stands beside.
-use mathlib.Core.Path.{_≡_, refl, ap, sym, subst, _∙_}
-use Prim.Native.Nat.{ℕ, _+_, _≤_, _<_}
-use mathlib.Core.List.{List, map}
+use mathlib.Core.Path.{_≡_, ap, sym, subst, _∙_}
+use Prim.Native.Nat.{ℕ, _<_}
 use native.Mathlib.Omega.{arith}
-use denote.Ref.{RefT}
-use Rattle.rules.specs.Load.{elsewhere}
-use Rattle.rules.specs.Charge.{loadsOf}
 use Rattle.rules.specs.Site as rules
-use Rattle.rules.specs.Site.{othersOf}
 use Rattle.rules.proofs.Rounding.{bound-at-most}
-use Rattle.charges.specs.declared.drawn.Drawn.{Drawn}
-use Rattle.charges.specs.Drawn.{drawnOf, lentAt, restOf, Draws, Reaches}
 use Rattle.search.specs.declared.limits.Limits.{Limits}
-use Rattle.planner.specs.Ready.{Around, aroundOf, Ready}
+use Rattle.planner.specs.Ready.{Around, Ready}
 use Rattle.station.specs.declared.Station.{Station}
 use Rattle.station.specs.declared.One.{One}
-use Rattle.station.specs.View.{feederAt, view, Valid, limitsFor, Of, stationOf, Alone}
+use Rattle.station.specs.View.{feederAt, Valid, limitsFor, Of}
 use Rattle.station.specs.Beside.{BesideOf}
 use Rattle.station.proofs.Views.{view-number}
 use Rattle.station.proofs.Held.{valid-listed, valid-others, held-settings, held-charge}
-use Rattle.station.proofs.Ones.{alone-of}
-use Rattle.station.proofs.Rests.{beside-of}
 use Rattle.planning.specs.Answers.{besideFor, CanPlan}
 
 module _ (s : Station) (v : Valid s) (p : ℕ) (h : p < s .count) (b : Around) (of : BesideOf s p b) where
@@ -64,42 +55,3 @@ pub beside-is :
     (o : One) {y : Limits} {clock held n : ℕ} → clock ≡ o .clock → y ≡ limitsFor o → held ≡ n →
     record { clock = clock; limits = y; held = held } ≡ besideFor o n
 beside-is o c y h = rw (c, y, h)
-
--- the only feeder: no other draws, whatever is lent
-pub alone-beside :
-    {o : One} → Alone o → (columns : List (RefT (List ℕ))) → BesideOf (stationOf o) (o .place) (aroundOf (besideFor o 0) columns)
-alone-beside {o} a columns =
-    beside-of (alone-of a) refl refl (rw (a .first) refl)
-    (record { lines = omega arith; activeTimes = omega arith; starts = omega arith; rates = omega arith })
-    (omega arith)
-
--- one of several: the columns of what the others draw are lent
-pub several-beside :
-    {s : Station} {o : One} {d : Drawn} (columns : List (RefT (List ℕ)))
-    → Of s o
-    → Draws (map elsewhere (loadsOf (othersOf (view s) (o .place + 1)))) d
-    → d .held ≤ 540
-    → lentAt columns 0 ≡ d .lines
-    → lentAt columns 1 ≡ d .«active_times»
-    → lentAt columns 2 ≡ d .starts
-    → lentAt columns 3 ≡ d .rates
-    → BesideOf s (o .place) (aroundOf (besideFor o (d .held)) columns)
-several-beside {s} {o} {d} columns f v few lines times starts rates =
-    beside-of f refl refl (ap drawnOf same ∙ v .loads) (subst Reaches (sym same) reaches) few
-  where
-    same : restOf (d .held) columns ≡ d
-    same =
-        ap (λ (x : List ℕ). record { held = d .held; lines = x; «active_times» = lentAt columns 1; starts = lentAt columns 2; rates = lentAt columns 3 }) lines
-        ∙ ap (λ (x : List ℕ). record { held = d .held; lines = d .lines; «active_times» = x; starts = lentAt columns 2; rates = lentAt columns 3 }) times
-        ∙ ap (λ (x : List ℕ). record { held = d .held; lines = d .lines; «active_times» = d .«active_times»; starts = x; rates = lentAt columns 3 }) starts
-        ∙ ap (λ (x : List ℕ). record { held = d .held; lines = d .lines; «active_times» = d .«active_times»; starts = d .starts; rates = x }) rates
-
-    reaches : Reaches d
-    reaches =
-        let k = v .columns in
-        record {
-          lines = omega (arith, k .few, k .lines);
-          activeTimes = omega (arith, k .few, k .activeTimes);
-          starts = omega (arith, k .few, k .starts);
-          rates = omega (arith, k .few, k .rates);
-        }

@@ -1,6 +1,6 @@
 -- Columns read place by place, and the station that they make.
 use mathlib.Core.Logic.{_⊎_, inl, inr}
-use mathlib.Core.Path.{_≡_, refl, ap, sym, _∙_}
+use mathlib.Core.Path.{_≡_, refl, _∙_}
 use Prim.Native.Nat.{ℕ, _+_, _*_, _≤_, _<_}
 use mathlib.Core.Bool.{Bool, true, false}
 use mathlib.Core.List.{List}
@@ -9,20 +9,16 @@ use lib.Dec.{leb}
 use lib.ListN.{getD, set, replicate, length-set, length-replicate}
 use lib.Seq.{getD-set-same, getD-set-other}
 use borrow.Author.Tests.{leb-true, le-leb, lt-leb}
-use Rattle.rules.specs.Charge.{Charge}
-use Rattle.rules.specs.Basics.{tabulate}
-use Rattle.rules.specs.Site.{places, State}
-use Rattle.rules.specs.Calls.{boundOf, nearestHundreds}
+use Rattle.rules.specs.Site.{places}
 use Rattle.rules.proofs.Ranges.{and-left, and-right, below-or-not}
-use Rattle.rules.proofs.Lists.{tabulate-same}
 use Rattle.charges.specs.declared.Charges.{Charges}
-use Rattle.charges.specs.Arrays.{Column, tickets, lines, orderMinutes, times, activeTimes, dues, starts, rates, columnOf, chargeAt, chargesOf, Filled, Columns}
+use Rattle.charges.specs.Arrays.{Column, tickets, lines, orderMinutes, times, activeTimes, dues, starts, rates, columnOf, Filled, Columns}
 use Rattle.charges.proofs.Storing.{zeros, filled-none, filled-set}
 use Rattle.layout.specs.Reading.{headerAt}
 use Rattle.validity.specs.Settled.{settingsValid}
 use Rattle.validity.proofs.Ranging.{Ranged, ranged, product-fits, valid-ranged}
-use Rattle.records.specs.Contents.{recordIn, fieldIn, chargeFrom, stateFrom, settingsIn, headerRight}
-use Rattle.records.specs.Columns.{ColumnTo, HoldsFrom, ReadFrom}
+use Rattle.records.specs.Contents.{recordIn, fieldIn, settingsIn, headerRight}
+use Rattle.records.specs.Columns.{ColumnTo, HoldsFrom}
 
 pub column-none : (f : ℕ → ℕ) → ColumnTo f 0 (replicate places 0)
 column-none f = record { filled = filled-none; each = λ i h. absurd (omega arith) }

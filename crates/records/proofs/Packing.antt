@@ -1,19 +1,17 @@
 -- The contents of a station: block 0 from its numbers, and the rows of the records from their columns.
-use mathlib.Core.Logic.{_⊎_, inl, inr}
-use mathlib.Core.Path.{_≡_, refl, ap, sym, _∙_}
+use mathlib.Core.Path.{_≡_, ap, sym, _∙_}
 use Prim.Native.Nat.{ℕ, zero, suc, _+_, _-_, _*_, _/_, _%_, _≤_, _<_}
 use mathlib.Core.List.{List, [], _∷_}
 use native.Mathlib.Omega.{arith}
 use lib.ListN.{length, getD}
 use borrow.Author.Tests.{lt-ltb, le-ltb}
 use Rattle.rules.specs.Site.{State}
-use Rattle.rules.proofs.Ranges.{below-or-not}
 use Rattle.charges.specs.Arrays.{chargeAt, Columns}
 use Rattle.station.specs.declared.One.{One}
 use Rattle.validity.specs.Settled.{heldBy, single}
 use Rattle.layout.specs.Bytes.{byteOf, packedFrom, packed}
 use Rattle.layout.specs.Arrangement.{perBlock, numberOf}
-use Rattle.layout.specs.Image.{only, headerOf, fieldsOf, recordByte, numbered, content}
+use Rattle.layout.specs.Image.{only, headerOf, fieldsOf, recordByte, numbered}
 use Rattle.layout.proofs.Contents.{record-held, record-none, numbered-in, numbered-out, content-header, content-records}
 use Rattle.layout.proofs.Laying.{record-back, byte-back}
 use Rattle.validity.proofs.Settling.{held-count, held-at}

@@ -3,14 +3,14 @@ use mathlib.Core.Path.{_≡_, refl, sym, ap, subst, _∙_}
 use Prim.Native.Nat.{ℕ, zero, suc, _<_}
 use native.Mathlib.Omega.{arith}
 use mathlib.Core.Bool.{cond}
-use mathlib.Core.List.{List, [], _∷_}
+use mathlib.Core.List.{List, []}
 use lib.ListN.{length}
 use Rattle.rules.specs.Site.{State}
 use Rattle.rules.specs.Calls.{Answer, Result, answering, Call, lent, step, written}
 use Rattle.layout.specs.Image.{imageOf}
 use Rattle.layout.specs.Reading.{RestoreResult, restoring}
 use Rattle.layout.specs.Blocks.{differing}
-use Rattle.layout.specs.Saving.{SaveResult, saving}
+use Rattle.layout.specs.Saving.{SaveResult}
 use Rattle.layout.proofs.Refusing.{saving-written, accepted}
 use Rattle.station.specs.declared.Station.{Station}
 use Rattle.station.specs.View.{view, stationOf}

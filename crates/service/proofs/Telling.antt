@@ -4,11 +4,10 @@ use mathlib.Core.Path.{_≡_, refl, sym, ap, _∙_}
 use Prim.Native.Nat.{ℕ, zero, suc, _<_}
 use native.Mathlib.Omega.{arith}
 use mathlib.Core.Bool.{Bool, cond}
-use mathlib.Core.List.{List, [], _∷_}
 use borrow.Author.Tests.{ne-eqb}
 use Rattle.rules.specs.Basics.{firstOf}
 use Rattle.rules.specs.Site.{State}
-use Rattle.rules.specs.Calls.{Answer, refused, Result, answering, Call, preview, commit, move, offer, replanLatest, replanLines, enquire, board, withdraw, lent, refusals, granted, step}
+use Rattle.rules.specs.Calls.{Answer, refused, answering, Call, preview, commit, move, offer, replanLatest, replanLines, enquire, board, withdraw, lent, refusals, granted, step}
 use Rattle.rules.specs.Valid.{ValidState}
 use Rattle.rules.proofs.Granted.{refusals-none}
 use Rattle.guarantee.specs.DemandOne.{AnswerTo}

@@ -1,14 +1,13 @@
 -- A request that was answered with the only feeder of a station, taken out of it and put back.
-use mathlib.Core.Path.{_≡_, refl, sym, ap, subst, _∙_}
-use Prim.Native.Nat.{ℕ, _<_}
-use mathlib.Core.List.{List, [], _∷_}
-use native.Mathlib.Omega.{arith}
+use mathlib.Core.Path.{_≡_, sym, ap, subst, _∙_}
+use Prim.Native.Nat.{ℕ}
+use mathlib.Core.List.{List}
 use lib.ListN.{set}
 use Rattle.requests.specs.Requests.{Asked}
 use Rattle.station.specs.declared.Feeder.{Feeder}
 use Rattle.station.specs.declared.Station.{Station}
 use Rattle.station.specs.declared.One.{One}
-use Rattle.station.specs.View.{unused, feederAt, view, Formed, Valid, oneAt, stationOf}
+use Rattle.station.specs.View.{view, Valid, oneAt, stationOf}
 use Rattle.station.proofs.Ones.{single, taken-whole}
 use Rattle.reply.specs.Reply.{reply, Says}
 use Rattle.reply.specs.declared.Said.{Said}

@@ -9,7 +9,7 @@ use native.Mathlib.Nat.{mul-le-mul}
 use lib.Dec.{ltb, eqb}
 use borrow.Author.Tests.{lt-ltb, le-ltb, eq-eqb, ne-eqb}
 use Rattle.rules.specs.Basics.{tabulate, firstOf, some}
-use Rattle.rules.specs.Calls.{Settings, settings, boundOf}
+use Rattle.rules.specs.Calls.{Settings, boundOf}
 use Rattle.rules.proofs.Lists.{some-append, tabulate-next}
 use Rattle.station.specs.Opened.{feederRefusals, earlierOf}
 

@@ -1,31 +1,25 @@
 -- The feeders of a valid station hold numbers in range, in ticket order; what a plan of one stands beside goes into a profile.
 use mathlib.Core.Logic.{_⊎_, inl, inr}
-use mathlib.Core.Path.{_≡_, refl, sym, ap, subst, _∙_}
+use mathlib.Core.Path.{_≡_, sym, subst}
 use Prim.Native.Nat.{ℕ, zero, suc, _+_, _≤_, _<_}
-use mathlib.Core.Bool.{Bool, true, false, cond}
-use mathlib.Core.List.{List, [], _∷_, _++_, map}
 use native.Mathlib.Omega.{arith}
-use lib.Dec.{eqb}
-use lib.ListN.{length, getD}
 use Rattle.rules.specs.Basics.{Each, tabulate}
-use Rattle.rules.specs.Load.{Load, IsRate, lastUntil, elsewhere}
-use Rattle.rules.specs.Charge.{Charge, activeUntil, loadOf, loadsOf}
+use Rattle.rules.specs.Charge.{Charge, activeUntil}
 use Rattle.rules.specs.Site as rules
-use Rattle.rules.specs.Site.{noFeeder, chargesOn, othersFrom, othersOf, siteCharges, limitsOf}
+use Rattle.rules.specs.Site.{chargesOn}
 use Rattle.rules.specs.Valid.{ValidCharge, ValidPlan, ValidSettings, Rising}
 use Rattle.rules.proofs.Ranges.{below-or-not}
-use Rattle.rules.proofs.Lists.{tabulate-each, each-append, each-map}
+use Rattle.rules.proofs.Lists.{tabulate-each, each-map}
 use Rattle.rules.proofs.Tickets.{rising-from}
 use Rattle.rules.proofs.Ends.{each-until}
-use Rattle.rules.proofs.Sites.{until-append, until-joins, lastUntil-append, last-seen, others-own, by-place, tails-high}
 use Rattle.charges.specs.Arrays.{chargeAt, chargesOf}
 use Rattle.charges.specs.Held.{Small, Listed}
 use Rattle.planner.specs.Ready.{Around, Plannable, Others}
-use Rattle.planner.proofs.Showing.{plannable}
 use Rattle.station.specs.declared.Station.{Station}
 use Rattle.station.specs.View.{feederView, feederAt, view, Valid}
 use Rattle.station.specs.Beside.{BesideOf}
 use Rattle.station.proofs.Views.{view-number, is-feeder}
+use Rattle.station.proofs.Seen.{own-end, elsewhere-end, others-plannable}
 
 -- tickets that rise along a list rise from place to place
 rising-places :
@@ -49,32 +43,7 @@ rising-places f low (suc k) a r i j h l m =
         (rising-from (suc (f a .ticket)) (tabulate f k (suc a)) (r .1))
         j (omega arith) (omega arith))
 
--- what holds of each charge of each feeder holds of the others'
-each-others :
-    (P : Charge → Type 0) (f i : ℕ) (gs : List rules.Feeder)
-    → ((j : ℕ) → j < length gs → Each P (getD gs j noFeeder .charges))
-    → Each P (othersFrom f i gs)
-each-others P f i [] h = tt
-each-others P f i (g ∷ gs) h = go (eqb i f) (h 0 (omega arith)) (each-others P f (suc i) gs (λ j l. h (suc j) (omega arith)))
-  where
-    go : (b : Bool) → Each P (g .charges) → Each P (othersFrom f (suc i) gs) → Each P (cond b (othersFrom f (suc i) gs) (g .charges ++ othersFrom f (suc i) gs))
-    go true own rest = rest
-    go false own rest = each-append P (g .charges) (othersFrom f (suc i) gs) own rest
-
--- as the others see it, it goes into a profile too
-elsewhere-plannable : (xs : List Load) → Each Plannable xs → Each Plannable (map elsewhere xs)
-elsewhere-plannable [] e = tt
-elsewhere-plannable (x ∷ xs) e = (
-  record { drawable = record { is-rate = e .0 .drawable .is-rate; ends-fit = e .0 .drawable .ends-fit }; below = e .0 .below },
-  elsewhere-plannable xs (e .1),
-)
-
 module _ (s : Station) (v : Valid s) where
-  -- "No held time reaches 100,000,000."
-  site-end : lastUntil (loadsOf (siteCharges (view s))) ≤ 99000000
-  site-end =
-      omega (arith, v .state .ends-high, v .state .clock-high, v .state .next-high, tails-high (view s) (v .state))
-
   module _ (i : ℕ) (h : i < s .count) where
     held-plan : ValidPlan (s .site) (s .clock) (s .next) (feederView (feederAt s i))
     held-plan =
@@ -83,20 +52,10 @@ module _ (s : Station) (v : Valid s) where
     pub held-settings : ValidSettings (feederView (feederAt s i))
     held-settings = subst (λ (g : rules.Feeder). ValidSettings g) (view-number s i h) (v .state .settings (i + 1) (is-feeder s i h))
 
-    abbrev others : List Charge
-    others = othersOf (view s) (i + 1)
-
-    abbrev own : List Charge
-    own = chargesOn (view s) (i + 1)
-
-    both-end : lastUntil (loadsOf (others ++ own)) ≤ 99000000
-    both-end =
-        omega (arith, site-end, others-own (λ cs. lastUntil (loadsOf cs)) until-joins (view s) (i + 1) (is-feeder s i h))
-
     own-ends : Each (λ c. activeUntil c ≤ 99000000) (chargesOf (feederAt s i .charges))
     own-ends =
         subst (λ (g : rules.Feeder). Each (λ c. activeUntil c ≤ 99000000) (g .charges)) (view-number s i h)
-        (each-until 99000000 own (omega (arith, both-end, until-append others own)))
+        (each-until 99000000 (chargesOn (view s) (i + 1)) (own-end (view s) (v .state) (i + 1) (is-feeder s i h)))
 
     pub held-charge :
         (k : ℕ) → k < feederAt s i .charges .held →
@@ -136,25 +95,10 @@ module _ (s : Station) (v : Valid s) where
         each-map (ValidCharge (feederView (feederAt s i)) (s .site) (s .clock) (s .next)) (λ c. s .clock < activeUntil c) (λ c f. f .unfinished)
         (chargesOf (feederAt s i .charges)) (held-plan .each)
 
-    others-rated : Each (λ c. IsRate (c .rate)) others
-    others-rated =
-        each-others (λ c. IsRate (c .rate)) (i + 1) 1 (view s .feeders)
-        (by-place (view s) (λ g. Each (λ c. IsRate (c .rate)) (g .charges))
-        (λ f p.
-        each-map (ValidCharge (rules.feederOf (view s) f) (s .site) (s .clock) (s .next)) (λ c. IsRate (c .rate)) (λ c w. w .rate)
-        (chargesOn (view s) f) (v .state .plan f p .each)))
-
-    others-end : lastUntil (map elsewhere (loadsOf others)) ≤ 99000000
-    others-end =
-        omega (arith, both-end, last-seen others own, lastUntil-append (map elsewhere (loadsOf others)) (loadsOf own))
-
-    others-ends : Each (λ c. activeUntil c ≤ 100001445) others
-    others-ends = each-until 100001445 others (omega (arith, both-end, until-append others own))
-
     pub valid-others : {b : Around} → BesideOf s i b → Others b
     valid-others {b} d =
         record {
           columns = d .reaches;
-          plannable = subst (Each Plannable) (sym (d .draws)) (elsewhere-plannable (loadsOf others) (plannable others others-rated others-ends));
-          end-most = rw (d .draws) (omega (arith, others-end));
+          plannable = subst (Each Plannable) (sym (d .draws)) (others-plannable (view s) (v .state) (i + 1) (is-feeder s i h));
+          end-most = rw (d .draws) (omega (arith, elsewhere-end (view s) (v .state) (i + 1) (is-feeder s i h)));
         }

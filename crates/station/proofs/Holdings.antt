@@ -1,5 +1,4 @@
 -- Feeders that hold no charge with a ticket, one after another.
-use mathlib.Core.Path.{_≡_, ap}
 use Prim.Native.Nat.{ℕ, _+_, _<_}
 use mathlib.Core.Logic.{⊎-elim}
 use native.Mathlib.Omega.{arith}

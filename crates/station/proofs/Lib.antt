@@ -6,6 +6,7 @@ pub mod FeederRefusals
 pub mod OpenRefusals
 pub mod FreshFeeders
 pub mod Opened
+pub mod Seen
 pub mod Held
 pub mod Refusing
 pub mod Ones

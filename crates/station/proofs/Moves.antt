@@ -1,21 +1,19 @@
 -- A clock that is moved: the finished charges dropped feeder by feeder.
-use mathlib.Core.Path.{_≡_, refl, sym, _∙_, ap, subst}
-use Prim.Native.Nat.{ℕ, zero, suc, _+_, _-_, _≤_, _<_}
-use mathlib.Core.Bool.{cond}
-use mathlib.Core.List.{List, map}
+use mathlib.Core.Path.{_≡_, refl, _∙_, ap}
+use Prim.Native.Nat.{ℕ, _+_, _-_, _≤_, _<_}
+use mathlib.Core.List.{List}
 use mathlib.Core.Logic.{⊎-elim}
 use native.Mathlib.Omega.{arith}
-use lib.Dec.{ltb}
-use lib.ListN.{length, getD, set}
+use lib.ListN.{set}
 use lib.Seq.{set-getD}
 use borrow.Author.Tests.{lt-ltb, le-ltb}
 use Rattle.rules.specs.Charge.{Charge, unfinishedCharges}
 use Rattle.rules.specs.Site as rules
 use Rattle.rules.specs.Site.{State, noFeeder, withCharges, holding}
 use Rattle.rules.specs.Calls.{movedTo}
-use Rattle.rules.proofs.Lists.{tabulate-same, map-tabulate, length-tabulate}
+use Rattle.rules.proofs.Lists.{tabulate-same, map-tabulate}
 use Rattle.profile.proofs.Levels.{same-or-not}
-use Rattle.charges.specs.Arrays.{chargesOf, Columns, Holds}
+use Rattle.charges.specs.Arrays.{Columns}
 use Rattle.station.specs.declared.Feeder.{Feeder}
 use Rattle.station.specs.declared.Station.{Station}
 use Rattle.station.specs.declared.One.{One}

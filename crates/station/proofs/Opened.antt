@@ -56,10 +56,10 @@ least-fresh e same =
 
 -- its only feeder
 pub least-only :
-    {asked : Asked} {g : Feeder} → asked ≡ leastAsked → g ≡ freshAt asked 0
-    → OnlyLeast (record { count = 1; site = asked .site; clock = 0; next = 1; place = 0; feeder = g })
-least-only {asked} {g} e f =
-    rw e (record { state-is = least .state-is; alone = record { valid = least .valid; single = refl; first = refl } })
+    {asked : Asked} {g : Feeder} {count site next : ℕ} → asked ≡ leastAsked → g ≡ freshAt asked 0 → count ≡ asked .count → site ≡ asked .site
+    → next ≡ 1 → OnlyLeast (record { count = count; site = site; clock = 0; next = next; place = 0; feeder = g })
+least-only {asked} {g} e f k s n =
+    rw (k, s, n, e) (record { state-is = least .state-is; alone = record { valid = least .valid; single = refl; first = refl } })
   where
     least : FreshLeast (stationOf (record { count = 1; site = 720; clock = 0; next = 1; place = 0; feeder = g }))
     least = least-fresh refl (ap (λ (x : Feeder). stationOf (record { count = 1; site = 720; clock = 0; next = 1; place = 0; feeder = x })) (f ∙ ap (λ (a : Asked). freshAt a 0) e))

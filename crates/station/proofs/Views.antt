@@ -1,19 +1,17 @@
 -- The view of a station: its feeders by their places, one of them changed, and that it determines the station.
-use mathlib.Core.Path.{_≡_, refl, sym, _∙_, ap, subst}
-use Prim.Native.Nat.{ℕ, zero, suc, _+_, _-_, _≤_, _<_}
-use mathlib.Core.List.{List}
+use mathlib.Core.Path.{_≡_, sym, _∙_, ap, subst}
+use Prim.Native.Nat.{ℕ, zero, suc, _+_, _-_, _<_}
 use mathlib.Core.Logic.{⊎-elim}
 use native.Mathlib.Omega.{arith}
 use lib.ListN.{length, getD, set, length-set}
-use lib.Seq.{getD-set-same, getD-set-other, set-getD}
+use lib.Seq.{getD-set-same, getD-set-other}
 use Rattle.rules.specs.Basics.{tabulate}
 use Rattle.rules.specs.Site as rules
-use Rattle.rules.specs.Site.{State, noFeeder, feederOf, chargesOn, withCharges, holding}
+use Rattle.rules.specs.Site.{noFeeder, feederOf, chargesOn}
 use Rattle.rules.specs.Valid.{IsFeeder}
 use Rattle.rules.proofs.Lists.{tabulate-same, length-tabulate, getD-tabulate}
 use Rattle.profile.proofs.Levels.{same-or-not}
-use Rattle.charges.specs.declared.Charges.{Charges}
-use Rattle.charges.specs.Arrays.{chargesOf, Columns, Holds}
+use Rattle.charges.specs.Arrays.{Columns, Holds}
 use Rattle.station.specs.declared.Feeder.{Feeder}
 use Rattle.station.specs.declared.Station.{Station}
 use Rattle.station.specs.View.{feederView, outside, feederAt, view, Formed}

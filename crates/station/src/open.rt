@@ -262,12 +262,14 @@ impl One {
         ensures { λ r. ⌜ OnlyLeast r ⌝ }
     {
         let asked = least_asked();
+        let site = asked.site;
         let feeder = fresh_at(asked, 0);
+        let first_ticket = 1;
         One {
-            count: 1,
-            site: asked.site,
+            count: asked.count as usize,
+            site,
             clock: 0,
-            next: 1,
+            next: first_ticket,
             place: 0,
             feeder,
         }

@@ -11,7 +11,6 @@ use borrow.Author.Tests.{lt-ltb, le-ltb, lt-leb, le-leb, eq-eqb}
 use Rattle.rules.specs.Basics.{Each}
 use Rattle.rules.specs.Load.{Load, IsRate, Limits, limits, sound}
 use Rattle.rules.specs.Charge.{Charge, activeUntil, seen}
-use Rattle.rules.specs.Site.{limitsOf}
 use Rattle.rules.specs.Calls.{boundOf}
 use Rattle.rules.proofs.Ranges.{below-or-not}
 use Rattle.rules.proofs.Lists.{length-tabulate, getD-tabulate, each-map}

@@ -14,8 +14,11 @@ least-asked-requires c κs = search needs
 fresh-at-requires : tie.Need-fresh-at-requires
 fresh-at-requires c κs = ap (λ a. firstOf (openRefusals (askedOf a))) (c .least-asked .ensures)
 
+cast-t5 : tie.Need-cast-t5
+cast-t5 c = search needs
+
 returns : tie.Need-returns
-returns c = least-only (c .before .least-asked .ensures) (c .fresh-at .ensures)
+returns c = least-only (c .before .before .least-asked .ensures) (c .before .fresh-at .ensures) (search) (search) (search)
 
 pub least-spec : {M : Type 1} → statement M
-least-spec = tie.close (tie.spec least-asked-requires fresh-at-requires returns)
+least-spec = tie.close (tie.spec least-asked-requires fresh-at-requires cast-t5 returns)

@@ -1,5 +1,5 @@
 -- All that a feeder of a valid site sees ends in time, and goes into a profile.
-use Prim.Native.Nat.{ℕ, suc, _<_}
+use Prim.Native.Nat.{ℕ, suc, _≤_, _<_}
 use mathlib.Core.Bool.{Bool, true, false, cond}
 use mathlib.Core.List.{List, [], _∷_, _++_, map}
 use native.Mathlib.Omega.{arith}
@@ -13,7 +13,7 @@ use Rattle.rules.specs.Site.{State, noFeeder, feederOf, chargesOn, siteCharges,
 use Rattle.rules.specs.Valid.{ValidCharge, ValidState, IsFeeder}
 use Rattle.rules.proofs.Lists.{each-map, each-append}
 use Rattle.rules.proofs.Ends.{each-until}
-use Rattle.rules.proofs.Sites.{until-joins, until-append, others-own, last-seen, by-place, tails-high}
+use Rattle.rules.proofs.Sites.{until-joins, until-append, lastUntil-append, others-own, last-seen, by-place, tails-high}
 use Rattle.planner.specs.Ready.{Plannable}
 use Rattle.planner.proofs.Showing.{plannable}
 
@@ -21,20 +21,20 @@ use Rattle.planner.proofs.Showing.{plannable}
 
 module _ (s : State) (v : ValidState s) where
   -- "No held time reaches 100,000,000"
-  pub site-end : lastUntil (loadsOf (siteCharges s)) < 100000000
+  pub site-end : lastUntil (loadsOf (siteCharges s)) ≤ 99000000
   site-end = omega (arith, v .ends-high, v .clock-high, v .next-high, tails-high s v)
 
   module _ (f : ℕ) (h : IsFeeder s f) where
-    parts-end : (lastUntil (loadsOf (othersOf s f)) < 100000000) × (lastUntil (loadsOf (chargesOn s f)) < 100000000)
+    parts-end : (lastUntil (loadsOf (othersOf s f)) ≤ 99000000) × (lastUntil (loadsOf (chargesOn s f)) ≤ 99000000)
     parts-end =
         let whole = others-own (λ cs. lastUntil (loadsOf cs)) until-joins s f h in
         let two = until-append (othersOf s f) (chargesOn s f) in
         (omega (arith, whole, two, site-end), omega (arith, whole, two, site-end))
 
-    pub own-end : lastUntil (loadsOf (chargesOn s f)) < 100000000
+    pub own-end : lastUntil (loadsOf (chargesOn s f)) ≤ 99000000
     own-end = parts-end .1
 
-    pub seen-end : lastUntil (seen (limitsOf s f) (chargesOn s f)) < 100000000
+    pub seen-end : lastUntil (seen (limitsOf s f) (chargesOn s f)) ≤ 99000000
     seen-end =
         omega (
           arith,
@@ -43,8 +43,12 @@ module _ (s : State) (v : ValidState s) where
           site-end,
         )
 
-    pub others-end : lastUntil (loadsOf (othersOf s f)) < 100000000
+    pub others-end : lastUntil (loadsOf (othersOf s f)) ≤ 99000000
     others-end = parts-end .0
+
+    pub elsewhere-end : lastUntil (map elsewhere (loadsOf (othersOf s f))) ≤ 99000000
+    elsewhere-end =
+        omega (arith, seen-end, lastUntil-append (map elsewhere (loadsOf (othersOf s f))) (loadsOf (chargesOn s f)))
 
 -- what holds of the charges of each feeder holds of those of the others
 others-each :
