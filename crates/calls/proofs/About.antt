@@ -1,16 +1,17 @@
--- The feeder that a call is about.
+-- The feeder that a call is about, and what it stands beside.
 use mathlib.Core.Path.{_≡_, refl, ap, sym, subst, _∙_}
 use Prim.Native.Nat.{ℕ, _+_, _≤_, _<_}
-use mathlib.Core.List.{map}
+use mathlib.Core.List.{List, map}
 use native.Mathlib.Omega.{arith}
 use Rattle.rules.specs.Basics.{Found, at, nothing}
-use Rattle.rules.specs.Load.{elsewhere}
+use Rattle.rules.specs.Load.{Load, elsewhere}
 use Rattle.rules.specs.Charge.{loadsOf}
 use Rattle.rules.specs.Site.{othersOf}
 use Rattle.charges.specs.declared.drawn.Drawn.{Drawn}
 use Rattle.charges.specs.Drawn.{drawnOf, Draws, Reaches}
 use Rattle.charges.proofs.Drawing.{columns-reach}
 use Rattle.charges.specs.Held.{Listed}
+use Rattle.planner.specs.declared.Beside.{Beside}
 use Rattle.planner.specs.Ready.{Around, Others}
 use Rattle.station.specs.declared.Station.{Station}
 use Rattle.station.specs.declared.One.{One}
@@ -19,36 +20,53 @@ use Rattle.station.specs.Holders.{Lacks, HeldAt, Holding}
 use Rattle.station.specs.Beside.{BesideOf}
 use Rattle.station.proofs.Ones.{alone-of}
 use Rattle.station.proofs.Rests.{beside-of}
+use Rattle.planning.specs.Answers.{besideFor}
 use Rattle.planning.proofs.Ready.{can-plan}
-use Rattle.calls.specs.declared.Call.{Call}
-use Rattle.calls.specs.declared.Call.the-variants.{Preview, Commit, Move, Offer, ReplanLatest, ReplanLines, Enquire, Board, Withdraw}
-use Rattle.calls.specs.Applied.{NamedPlace, HeldPlace, AboutPlace}
+use Rattle.calls.specs.Applied.{NamedPlace, HeldPlace}
 
--- its place is that of a feeder
-pub about-inside : (s : Station) (call : Call) (p : ℕ) → AboutPlace s call p → p < s .count
-about-inside s (Preview o) p h = h .inside
-about-inside s (Commit o shown) p h = h .inside
-about-inside s (Move target) p h = h .inside
-about-inside s (Offer feeder) p h = h .inside
-about-inside s (ReplanLatest feeder) p h = h .inside
-about-inside s (ReplanLines feeder allowance) p h = h .inside
-about-inside s (Enquire ticket) p h = h .inside
-about-inside s Board p h = h .inside
-about-inside s (Withdraw ticket) p h = h .inside
+-- One feeder of several. Numbers and lists that a call passes on are told by equations.
 
--- the feeder at a place of a valid station
+-- it is one of the station
 pub one-of : {s : Station} {p : ℕ} {o : One} → Valid s → p < s .count → o ≡ oneAt s p → Of s o
 one-of {s} {p} {o} v h e =
     let here : o .place ≡ p = ap (λ (x : One). x .place) e in
     record { valid = v; inside = omega (arith, here, h); same = e ∙ ap (oneAt s) (sym here) }
 
--- the feeder at the place of the number is that of the number
-pub place-names : (s : Station) {p f : ℕ} {o : One} → o ≡ oneAt s p → NamedPlace (s .count) f p → Names o f
-place-names s {p} {f} {o} e h low high =
-    h .names low (omega (arith, high, ap (λ (x : One). x .count) e)) ∙ ap (λ n. n + 1) (sym (ap (λ (x : One). x .place) e))
+-- taken out at the place of the number, it is that of the number
+pub place-names : (s : Station) {p q f g : ℕ} {o : One} → o ≡ oneAt s q → NamedPlace (s .count) g p → q ≡ p → g ≡ f → Names o f
+place-names s {p} {q} {f} {g} {o} e h same named low high =
+    let here : o .place ≡ q = ap (λ (x : One). x .place) e in
+    let count : o .count ≡ s .count = ap (λ (x : One). x .count) e in
+    omega (arith, here, same, named, h .names (omega (arith, low, named)) (omega (arith, high, named, count)))
 
-pub place-holds : {s : Station} {p ticket : ℕ} {o : One} → o ≡ oneAt s p → HeldPlace s ticket p → Holding s ticket (o .place)
-place-holds {s} {p} {ticket} {o} e h = subst (Holding s ticket) (sym (ap (λ (x : One). x .place) e)) (h .holding)
+-- taken out at the place of the holder, it is that which holds the ticket
+pub place-holds : {s : Station} {p q t u : ℕ} {o : One} → o ≡ oneAt s q → HeldPlace s u p → q ≡ p → u ≡ t → Holding s t (o .place)
+place-holds {s} {p} {q} {t} {u} {o} e h same named =
+    subst (λ x. Holding s x (o .place)) named (subst (Holding s u) (sym (ap (λ (x : One). x .place) e ∙ same)) (h .holding))
+
+-- how many charges the others hold is handed on
+pub held-is : {b told : Beside} → b ≡ told → b .held ≡ told .held
+held-is e = ap (λ (x : Beside). x .held) e
+
+-- and what these draw is lent
+pub several-around :
+    {s : Station} {o : One} {b : Beside} {n : ℕ} {xs : List Load} {d r : Drawn}
+    → Of s o
+    → b ≡ besideFor o n
+    → Draws xs d
+    → d .held ≤ 540
+    → xs ≡ map elsewhere (loadsOf (othersOf (view s) (o .place + 1)))
+    → r ≡ d
+    → BesideOf s (o .place) (record { clock = b .clock; limits = b .limits; rest = r })
+several-around {s} {o} {b} {n} {xs} {d} {r} f e draws few others same =
+    beside-of f (ap (λ (x : Beside). x .limits) e) (ap (λ (x : Beside). x .clock) e) (ap drawnOf same ∙ draws .loads ∙ others)
+    (subst Reaches (sym same) (columns-reach d (draws .columns)))
+    (omega (arith, few, ap (λ (x : Drawn). x .held) same))
+
+-- what a withdrawal asks
+pub can-withdraw :
+    {s : Station} {o : One} {b : Around} → Of s o → BesideOf s (o .place) b → Listed (o .feeder .charges) × Others b × (b .rest .held ≤ 540)
+can-withdraw f d = let can = can-plan f d in (can .ready .listed, can .others, can .few)
 
 -- The only feeder is that of every number and every ticket
 
@@ -64,11 +82,15 @@ alone-holds {o} a ticket =
           rw same e;
     }
 
--- The place by what was found
+-- and stands beside nothing
+pub alone-around :
+    {o : One} {b : Around} → Alone o → b .limits ≡ limitsFor o → b .clock ≡ o .clock → b .rest .held ≡ 0 → BesideOf (stationOf o) (o .place) b
+alone-around {o} {b} a y c none =
+    beside-of (alone-of a) y c (rw (none, a .first) refl)
+    (record { lines = omega (arith, none); activeTimes = omega (arith, none); starts = omega (arith, none); rates = omega (arith, none) })
+    (omega (arith, none))
 
--- a call that names no feeder is about any
-pub first-place : {count : ℕ} → 1 ≤ count → NamedPlace count 0 0
-first-place h = record { inside = omega (arith, h); names = λ low high. absurd (omega (arith, low)) }
+-- The place of a ticket by what was found
 
 pub nobody-holds : (s : Station) (ticket : ℕ) → 1 ≤ s .count → ((i : ℕ) → i < s .count → Lacks s ticket i) → HeldPlace s ticket 0
 nobody-holds s ticket h e =
@@ -87,43 +109,3 @@ holder-holds s ticket {f} {k} o =
 
     found-not : at k ≡ nothing → ⊥
     found-not e = subst (λ (x : Found). isAt x) e tt
-
--- the place by what the call was found to be
-pub about-as : (s : Station) {call found : Call} (p : ℕ) → call ≡ found → AboutPlace s found p → AboutPlace s call p
-about-as s p e h = rw e h
-
-pub about-is : (s : Station) {call found : Call} (p : ℕ) → call ≡ found → AboutPlace s call p → AboutPlace s found p
-about-is s p e h = subst (λ (x : Call). AboutPlace s x p) e h
-
--- What a plan stands beside
-
--- nothing, where the feeder is the only one
-pub alone-around :
-    {o : One} {b : Around} → Alone o → b .limits ≡ limitsFor o → b .clock ≡ o .clock → b .rest .held ≡ 0 → BesideOf (stationOf o) (o .place) b
-alone-around {o} {b} a y c none =
-    beside-of (alone-of a) y c (rw (none, a .first) refl)
-    (record { lines = omega (arith, none); activeTimes = omega (arith, none); starts = omega (arith, none); rates = omega (arith, none) })
-    (omega (arith, none))
-
--- what the others draw, as it is lent
-pub several-around :
-    {s : Station} {p : ℕ} {o : One} {d : Drawn} {b : Around}
-    → Valid s
-    → p < s .count
-    → o ≡ oneAt s p
-    → Draws (map elsewhere (loadsOf (othersOf (view s) (p + 1)))) d
-    → d .held ≤ 540
-    → b .limits ≡ limitsFor o
-    → b .clock ≡ o .clock
-    → b .rest ≡ d
-    → BesideOf s (o .place) b
-several-around {s} {p} {o} {d} {b} v h e draws few y c same =
-    beside-of (one-of v h e) y c
-    (ap drawnOf same ∙ draws .loads ∙ ap (λ q. map elsewhere (loadsOf (othersOf (view s) (q + 1)))) (sym (ap (λ (x : One). x .place) e)))
-    (subst Reaches (sym same) (columns-reach d (draws .columns)))
-    (omega (arith, few, ap (λ (x : Drawn). x .held) same))
-
--- what a withdrawal asks
-pub can-withdraw :
-    {s : Station} {o : One} {b : Around} → Of s o → BesideOf s (o .place) b → Listed (o .feeder .charges) × Others b × (b .rest .held ≤ 540)
-can-withdraw f d = let can = can-plan f d in (can .ready .listed, can .others, can .few)

@@ -1,53 +1,56 @@
--- A call given as a value is the call that it was found to be, and the station after it is valid.
+-- The station after a call is valid, and a call given as a value is the call that it was found to be.
 use mathlib.Core.Path.{_≡_, ap, sym, subst, _∙_}
 use Prim.Native.Nat.{ℕ}
 use mathlib.Core.List.{List}
-use Rattle.rules.specs.Calls.{Answer, Result}
+use Rattle.rules.specs.Site.{State}
+use Rattle.rules.specs.Calls as rules
+use Rattle.rules.specs.Calls.{Result, step}
 use Rattle.rules.specs.Valid.{ValidState}
 use Rattle.rules.proofs.Validity.{step-valid}
 use Rattle.station.specs.declared.Station.{Station}
 use Rattle.station.specs.declared.One.{One}
-use Rattle.station.specs.View.{view, Formed, Valid, LeftOf, stateAfter}
-use Rattle.station.specs.Given.{Keeps, Leaves, Gives}
+use Rattle.station.specs.View.{view, Formed, Valid, stateAfter}
+use Rattle.station.specs.Given.{Leaves, Gives}
 use Rattle.calls.specs.declared.Call.{Call}
-use Rattle.calls.specs.declared.Answer.{Answer as CallAnswer}
-use Rattle.calls.specs.Applied.{callOf, Makes, Applies}
+use Rattle.calls.specs.declared.Answer.{Answer}
+use Rattle.calls.specs.declared.Applied.{Applied}
+use Rattle.calls.specs.Applied.{callOf, lends, listAfter, ListStays, answerOf, appliedOf, Applies}
 
-pub as-found :
-    {s : Station} {call found : Call} {numbers before after : List ℕ} {answer : CallAnswer} {left : One}
-    → call ≡ found
-    → Makes s found numbers before after answer left
-    → Makes s call numbers before after answer left
-as-found e h = rw e h
-
--- a call that keeps the station leaves it as it is
-pub kept-leaves :
-    {r : Result} {s : Station} {answer : Answer} {left : One} {list : List ℕ}
-    → Keeps r s answer list
-    → LeftOf s left × (stateAfter (view s) left ≡ view s)
-    → Leaves r s answer left list
-kept-leaves k l = record { result = rw (l .1) (k .result); fits = l .0 }
-
--- and the station after it is that of the rules
-pub made-applies :
-    {s : Station} {t : Station} {call : Call} {numbers before after : List ℕ} {answer : CallAnswer} {left : One}
+-- What a call leaves of a valid station is put back: the next one is valid. What is handed on and what is handed back are told by equations.
+pub left-gives :
+    {s t next : Station} (call : rules.Call) {r : Result} {told answer : rules.Answer} {left : One} {lent list : List ℕ}
     → Valid s
-    → Makes s call numbers before after answer left
+    → Leaves r s told left lent
     → Formed t × (view t ≡ stateAfter (view s) left)
-    → Applies (view s) call numbers before after answer t
-made-applies {s} {t} {call} {numbers} {before} {after} v m f =
-    record {
-      gives =
-          record {
-            result = rw (f .1) (m .leaves .result);
-            valid =
-                record {
-                  formed = f .0;
-                  state =
-                      subst ValidState
-                      (sym (f .1 ∙ ap (λ (r : Result). r .state) (m .leaves .result)))
-                      (step-valid (view s) (callOf call numbers before) (v .state));
-                };
-          };
-      stays = m .stays;
-    }
+    → r ≡ step (view s) call
+    → told ≡ answer
+    → t ≡ next
+    → lent ≡ list
+    → Gives (step (view s) call) answer next list
+left-gives {s} {t} call {told = told} {lent = lent} v l f asked said back same =
+    rw (← back, ← said, ← same)
+    (record {
+      result = result;
+      valid =
+          record { formed = f .0; state = subst ValidState (sym (ap (λ (r : Result). r .state) result)) (step-valid (view s) call (v .state)) };
+    })
+  where
+    result : record { answer = told; state = view t; list = lent } ≡ step (view s) call
+    result = rw (f .1) (l .result ∙ asked)
+
+-- The answer of a call given as a value, and the station after it, as they are handed back.
+pub applied-as :
+    {s : State} {call found : Call} {numbers before after : List ℕ} {r : Result} {told : rules.Answer} {answer : Answer} {t next : Station} {lent : List ℕ}
+    {a : Applied}
+    → call ≡ found
+    → Gives r told t lent
+    → a ≡ appliedOf answer next
+    → r ≡ step s (callOf found numbers before)
+    → told ≡ answerOf answer
+    → t ≡ next
+    → lent ≡ listAfter found numbers after
+    → ListStays (lends found) before after
+    → Applies s call numbers before after (a .answer) (a .station)
+applied-as e g given asked said back same stays =
+    rw (e, given)
+    (record { gives = rw (← asked, ← said, ← back, ← same) g; stays = stays })

@@ -2,3 +2,4 @@ pub mod Applying
 pub mod Only
 pub mod About
 pub mod Enquiries
+pub mod Planned

@@ -11,10 +11,12 @@ use Rattle.calls.specs.declared.Call.{Call}
 use Rattle.calls.specs.declared.Call.the-variants.{Preview, Commit, Move, Offer, ReplanLatest, ReplanLines, Enquire, Board, Withdraw}
 use Rattle.calls.specs.declared.Answer.{Answer}
 use Rattle.calls.specs.declared.Answer.the-variants.{Preview as PreviewOf, Commit as CommitOf, Move as MoveOf, Plan as PlanOf, Enquiry as EnquiryOf, Board as BoardOf, Withdrawal as WithdrawalOf}
-use Rattle.station.specs.declared.One.{One}
+use Rattle.calls.specs.declared.Applied.{Applied}
+use Rattle.calls.specs.declared.plan.Plan.{Plan}
+use Rattle.calls.specs.declared.plan.Plan.the-variants.{Offered, Latest, Lines}
 use Rattle.station.specs.View.{view}
 use Rattle.station.specs.Holders.{Holding}
-use Rattle.station.specs.Given.{Leaves, Gives}
+use Rattle.station.specs.Given.{Gives}
 use Rattle.orders.specs.Shown.{previewAnswer}
 use Rattle.ordering.specs.declared.Order.{Order}
 use Rattle.ordering.specs.Answers.{commitAnswer}
@@ -77,17 +79,10 @@ answerOf (EnquiryOf a) = enquiryAnswer a
 answerOf (BoardOf a) = boardAnswer a
 answerOf (WithdrawalOf a) = withdrawalAnswer a
 
--- exactly what one step of the rules gives, with what it leaves of the station
-pub record Makes (s : Station) (call : Call) (numbers before after : List ℕ) (answer : Answer) (left : One) : Type 0 where
-  pub leaves : Leaves (step (view s) (callOf call numbers before)) s (answerOf answer) left (listAfter call numbers after)
-  pub stays : ListStays (lends call) before after
-
 -- exactly what one step of the rules gives
 pub record Applies (s : State) (call : Call) (numbers before after : List ℕ) (answer : Answer) (next : Station) : Type 0 where
   pub gives : Gives (step s (callOf call numbers before)) (answerOf answer) next (listAfter call numbers after)
   pub stays : ListStays (lends call) before after
-
--- Which feeder a call is about
 
 -- "changes nothing": it leaves every station as it is
 abbrev pub keepsOf : Call → Bool
@@ -101,6 +96,24 @@ keepsOf (Enquire ticket) = true
 keepsOf Board = true
 keepsOf (Withdraw ticket) = false
 
+-- what `apply` hands back
+abbrev pub appliedOf : Answer → Station → Applied
+appliedOf answer s = record { answer = answer; station = s }
+
+-- Which plan is asked for, as the rules have it, and the list that is lent to it
+
+abbrev pub planCall : Plan → ℕ → List ℕ → rules.Call
+planCall Offered feeder starts = offer feeder starts
+planCall Latest feeder starts = replanLatest feeder
+planCall (Lines allowance) feeder starts = replanLines feeder allowance
+
+abbrev pub planList : Plan → List ℕ → List ℕ
+planList Offered starts = starts
+planList Latest starts = []
+planList (Lines allowance) starts = []
+
+-- Which feeder a call is about
+
 -- the place of a feeder: of that with the number, if there is one
 pub record NamedPlace (count number place : ℕ) : Type 0 where
   pub inside : place < count
@@ -110,15 +123,3 @@ pub record NamedPlace (count number place : ℕ) : Type 0 where
 pub record HeldPlace (s : Station) (ticket place : ℕ) : Type 0 where
   pub inside : place < s .count
   pub holding : Holding s ticket place
-
--- of that which the call names, or which holds the ticket that it withdraws
-abbrev pub AboutPlace : Station → Call → ℕ → Type 0
-AboutPlace s (Preview o) p = NamedPlace (s .count) (o .feeder) p
-AboutPlace s (Commit o shown) p = NamedPlace (s .count) (o .feeder) p
-AboutPlace s (Move target) p = NamedPlace (s .count) 0 p
-AboutPlace s (Offer feeder) p = NamedPlace (s .count) feeder p
-AboutPlace s (ReplanLatest feeder) p = NamedPlace (s .count) feeder p
-AboutPlace s (ReplanLines feeder allowance) p = NamedPlace (s .count) feeder p
-AboutPlace s (Enquire ticket) p = NamedPlace (s .count) 0 p
-AboutPlace s Board p = NamedPlace (s .count) 0 p
-AboutPlace s (Withdraw ticket) p = HeldPlace s ticket p

@@ -3,8 +3,8 @@ use mathlib.Core.Path.{subst}
 use Rattle.station.specs.Holders.{HolderOf}
 use Rattle.calls.proofs.About.{nobody-holds, holder-holds}
 use borrow.Author.Needs.{needs}
-use Rattle.calls.proofs.several.holding.Statement.{statement}
-use Rattle.calls.proofs.several.holding.Tie as tie
+use Rattle.calls.proofs.yard.holding.Statement.{statement}
+use Rattle.calls.proofs.yard.holding.Tie as tie
 
 holder-requires : tie.Need-holder-requires
 holder-requires c κs = search needs

@@ -1,0 +1,50 @@
+-- The order's feeder is taken out at the place of its number, and put back with the new charge.
+use mathlib.Core.Path.{ap}
+use native.Mathlib.Omega.{arith}
+use Rattle.rules.specs.Calls.{Result}
+use Rattle.ordering.specs.Ordered.{commitOf}
+use Rattle.calls.proofs.About.{one-of, place-names}
+use Rattle.calls.proofs.Applying.{left-gives}
+use borrow.Author.Needs.{needs}
+use Rattle.calls.proofs.yard.Yard.commit.Statement.{statement}
+use Rattle.calls.proofs.yard.Yard.commit.Tie as tie
+
+preview-requires : tie.Need-preview-requires
+preview-requires c κs = search needs
+
+place-of-requires : tie.Need-place-of-requires
+place-of-requires c κs = search needs
+
+one-requires : tie.Need-one-requires
+one-requires c κs = search needs
+
+commit-requires : tie.Need-commit-requires
+commit-requires c κs =
+    let p = c .before in
+    let o = p .before .before .before in (
+      o .args .self .station,
+      (
+        one-of (o .pre) (p .place-of .ensures .inside) (c .one .ensures),
+        place-names (o .args .self .station) (c .one .ensures) (p .place-of .ensures) (omega arith) (omega arith),
+        ap (λ (r : Result). r .answer) (p .before .preview .ensures .result),
+      ),
+    )
+
+after-requires : tie.Need-after-requires
+unfolding commit-requires
+after-requires c κs =
+    let h = commit-requires (c .before) κs in
+    (h .1 .0 .valid, c .commit .ensures .0 (h .0) (h .1 .0) (h .1 .1) (h .1 .2) .fits)
+
+returns : tie.Need-returns
+unfolding commit-requires
+returns c =
+    let h = commit-requires (c .before .before) tt in
+    let a = c .before .before .before .before .before .before .args in
+    let left = c .before .commit .ensures .0 (h .0) (h .1 .0) (h .1 .1) (h .1 .2) in
+    left-gives (commitOf (a .order) (a .shown)) (h .1 .0 .valid) left (c .after .ensures) (search needs) (search needs) (search needs) (search needs)
+
+pub commit-spec : {M : Type 1} → statement M
+commit-spec =
+    tie.close
+    (tie.spec preview-requires place-of-requires one-requires commit-requires after-requires returns)
