@@ -15,7 +15,7 @@ use Rattle.planner.specs.declared.Beside.{Beside}
 use Rattle.planner.specs.Ready.{Around, Others}
 use Rattle.station.specs.declared.Station.{Station}
 use Rattle.station.specs.declared.One.{One}
-use Rattle.station.specs.View.{view, Valid, oneAt, limitsFor, Of, Names, Alone, stationOf}
+use Rattle.station.specs.View.{view, Valid, oneAt, Of, Names, Alone, stationOf}
 use Rattle.station.specs.Holders.{Lacks, HeldAt, Holding}
 use Rattle.station.specs.Beside.{BesideOf}
 use Rattle.station.proofs.Ones.{alone-of}
@@ -84,11 +84,14 @@ alone-holds {o} a ticket =
 
 -- and stands beside nothing
 pub alone-around :
-    {o : One} {b : Around} → Alone o → b .limits ≡ limitsFor o → b .clock ≡ o .clock → b .rest .held ≡ 0 → BesideOf (stationOf o) (o .place) b
-alone-around {o} {b} a y c none =
-    beside-of (alone-of a) y c (rw (none, a .first) refl)
-    (record { lines = omega (arith, none); activeTimes = omega (arith, none); starts = omega (arith, none); rates = omega (arith, none) })
-    (omega (arith, none))
+    {o : One} {b : Beside} {n : ℕ} {lines times starts rates : List ℕ} → Alone o → b ≡ besideFor o n → n ≡ 0 →
+    BesideOf (stationOf o) (o .place)
+    (record { clock = b .clock; limits = b .limits; rest = record { held = b .held; lines = lines; «active_times» = times; starts = starts; rates = rates } })
+alone-around {o} {b} a e none =
+    let held : b .held ≡ 0 = held-is e ∙ none in
+    beside-of (alone-of a) (ap (λ (x : Beside). x .limits) e) (ap (λ (x : Beside). x .clock) e) (rw (held, a .first) refl)
+    (record { lines = omega (arith, held); activeTimes = omega (arith, held); starts = omega (arith, held); rates = omega (arith, held) })
+    (omega (arith, held))
 
 -- The place of a ticket by what was found
 

@@ -16,19 +16,24 @@ use Rattle.calls.specs.declared.Answer.{Answer}
 use Rattle.calls.specs.declared.Applied.{Applied}
 use Rattle.calls.specs.Applied.{callOf, lends, listAfter, ListStays, answerOf, appliedOf, Applies}
 
--- What a call leaves of a valid station is put back: the next one is valid. What is handed on and what is handed back are told by equations.
+-- What a call that is made promises, beside what is to be shown: of the right call, its own answer, what it leaves, and its list. A function's
+-- proof shows these by a search, so that a call with another number, say, fails as the equation that it breaks.
+pub record HandsOn {A : Type 0} (made asked : Result) (told answer : rules.Answer) (left next : A) (lent list : List ℕ) : Type 0 where
+  pub result : made ≡ asked
+  pub said : told ≡ answer
+  pub back : left ≡ next
+  pub same : lent ≡ list
+
+-- What a call leaves of a valid station is put back: the next one is valid.
 pub left-gives :
     {s t next : Station} (call : rules.Call) {r : Result} {told answer : rules.Answer} {left : One} {lent list : List ℕ}
     → Valid s
     → Leaves r s told left lent
     → Formed t × (view t ≡ stateAfter (view s) left)
-    → r ≡ step (view s) call
-    → told ≡ answer
-    → t ≡ next
-    → lent ≡ list
+    → HandsOn r (step (view s) call) told answer t next lent list
     → Gives (step (view s) call) answer next list
-left-gives {s} {t} call {told = told} {lent = lent} v l f asked said back same =
-    rw (← back, ← said, ← same)
+left-gives {s} {t} call {told = told} {lent = lent} v l f h =
+    rw (← h .back, ← h .said, ← h .same)
     (record {
       result = result;
       valid =
@@ -36,7 +41,7 @@ left-gives {s} {t} call {told = told} {lent = lent} v l f asked said back same =
     })
   where
     result : record { answer = told; state = view t; list = lent } ≡ step (view s) call
-    result = rw (f .1) (l .result ∙ asked)
+    result = rw (f .1) (l .result ∙ h .result)
 
 -- The answer of a call given as a value, and the station after it, as they are handed back.
 pub applied-as :
@@ -45,12 +50,8 @@ pub applied-as :
     → call ≡ found
     → Gives r told t lent
     → a ≡ appliedOf answer next
-    → r ≡ step s (callOf found numbers before)
-    → told ≡ answerOf answer
-    → t ≡ next
-    → lent ≡ listAfter found numbers after
+    → HandsOn r (step s (callOf found numbers before)) told (answerOf answer) t next lent (listAfter found numbers after)
     → ListStays (lends found) before after
     → Applies s call numbers before after (a .answer) (a .station)
-applied-as e g given asked said back same stays =
-    rw (e, given)
-    (record { gives = rw (← asked, ← said, ← back, ← same) g; stays = stays })
+applied-as e g given h stays =
+    rw (e, given) (record { gives = rw (← h .result, ← h .said, ← h .back, ← h .same) g; stays = stays })

@@ -1,17 +1,16 @@
 -- Calls of the only feeder: what is left of it is the whole station after the call.
 use mathlib.Core.Path.{_≡_, refl, ap, sym, subst, _∙_}
-use Prim.Native.Nat.{ℕ, zero, suc, _≤_, _<_}
+use Prim.Native.Nat.{ℕ}
 use mathlib.Core.Bool.{true, false≢true}
 use mathlib.Core.List.{List, [], _∷_}
-use native.Mathlib.Omega.{arith}
+use Rattle.rules.specs.Calls as rules
 use Rattle.rules.specs.Calls.{Result, step}
 use Rattle.rules.specs.Valid.{ValidState}
 use Rattle.rules.proofs.Validity.{step-valid}
 use Rattle.charges.specs.Arrays.{Columns}
-use Rattle.station.specs.declared.Feeder.{Feeder}
 use Rattle.station.specs.declared.Station.{Station}
 use Rattle.station.specs.declared.One.{One}
-use Rattle.station.specs.View.{unused, feederAt, view, Formed, Valid, SameHead, stationOf, Alone}
+use Rattle.station.specs.View.{view, Valid, SameHead, stationOf, Alone}
 use Rattle.station.specs.Given.{Keeps, Leaves, LeavesAlone}
 use Rattle.station.proofs.Ones.{only-formed, alone-left}
 use types.Run.{OneOf, miss}
@@ -20,23 +19,25 @@ use Rattle.calls.specs.declared.Call.{Call}
 use Rattle.calls.specs.declared.Call.the-variants.{Preview, Commit, Move, Offer, ReplanLatest, ReplanLines, Enquire, Board, Withdraw}
 use Rattle.calls.proofs.Call.{the-type}
 use Rattle.calls.specs.declared.Answer.{Answer}
+use Rattle.calls.proofs.Applying.{HandsOn}
 use Rattle.calls.specs.Applied.{callOf, lends, listAfter, ListStays, answerOf, keepsOf, Applies}
 
 -- a call that keeps the station
 pub kept-applies :
-    {s : Station} (call : Call) {numbers before after : List ℕ} {a : Answer} → Valid s →
-    Keeps (step (view s) (callOf call numbers before)) s (answerOf a) (listAfter call numbers after) → ListStays (lends call) before after →
-    Applies (view s) call numbers before after a s
-kept-applies call v k stays = record { gives = record { result = k .result; valid = v }; stays = stays }
+    {s : Station} {call found : Call} {numbers before after : List ℕ} {r : Result} {told : rules.Answer} {a : Answer} {lent : List ℕ} → Valid s →
+    call ≡ found → Keeps r s told lent → HandsOn r (step (view s) (callOf found numbers before)) told (answerOf a) s s lent (listAfter found numbers after) →
+    ListStays (lends found) before after → Applies (view s) call numbers before after a s
+kept-applies v e k h stays =
+    rw e (record { gives = record { result = rw (← h .said, ← h .same) (k .result ∙ h .result); valid = v }; stays = stays })
 
-module _ {o l : One} (call : Call) {numbers before after : List ℕ} {a : Answer} (only : Alone o) where
+module _ {o l next : One} {call found : Call} {numbers before after : List ℕ} {r : Result} {told : rules.Answer} {a : Answer} {lent : List ℕ} (only : Alone o) (e : call ≡ found) where
   -- the result by the feeder that is left
-  pub only-applies :
-      record { answer = answerOf a; state = view (stationOf l); list = listAfter call numbers after } ≡ step (view (stationOf o)) (callOf call numbers before) →
-      Columns (l .feeder .charges) → l .count ≡ 1 → l .place ≡ 0 → ListStays (lends call) before after →
-      Applies (view (stationOf o)) call numbers before after a (stationOf l) × Alone l
-  only-applies r c n p stays = (
-    record { gives = record { result = r; valid = valid }; stays = stays },
+  only-applies :
+      record { answer = told; state = view (stationOf l); list = lent } ≡ r → Columns (l .feeder .charges) → l .count ≡ 1 → l .place ≡ 0 →
+      HandsOn r (step (view (stationOf o)) (callOf found numbers before)) told (answerOf a) l next lent (listAfter found numbers after) →
+      ListStays (lends found) before after → Applies (view (stationOf o)) call numbers before after a (stationOf next) × Alone next
+  only-applies result c n p h stays = rw (e, ← h .back) (
+    record { gives = record { result = rw (← h .said, ← h .same) (result ∙ h .result); valid = valid }; stays = stays },
     record { valid = valid; single = n; first = p },
   )
     where
@@ -45,37 +46,25 @@ module _ {o l : One} (call : Call) {numbers before after : List ℕ} {a : Answer
           record {
             formed = only-formed l c;
             state =
-                subst ValidState (sym (ap (λ (x : Result). x .state) r))
-                (step-valid (view (stationOf o)) (callOf call numbers before) (only .valid .state));
+                subst ValidState (sym (ap (λ (x : Result). x .state) (result ∙ h .result)))
+                (step-valid (view (stationOf o)) (callOf found numbers before) (only .valid .state));
           }
 
   -- a call that leaves the feeder and the next ticket
   pub left-applies :
-      Leaves (step (view (stationOf o)) (callOf call numbers before)) (stationOf o) (answerOf a) l (listAfter call numbers after) → SameHead o l →
-      ListStays (lends call) before after →
-      Applies (view (stationOf o)) call numbers before after a (stationOf l) × Alone l
-  left-applies v e stays =
-      only-applies (alone-left only v e) (v .fits .columns) (ap (λ (x : One). x .count) e ∙ only .single)
-      (ap (λ (x : One). x .place) e ∙ only .first) stays
+      Leaves r (stationOf o) told l lent → SameHead o l →
+      HandsOn r (step (view (stationOf o)) (callOf found numbers before)) told (answerOf a) l next lent (listAfter found numbers after) →
+      ListStays (lends found) before after → Applies (view (stationOf o)) call numbers before after a (stationOf next) × Alone next
+  left-applies v same =
+      only-applies (alone-left only v same) (v .fits .columns) (ap (λ (x : One). x .count) same ∙ only .single)
+      (ap (λ (x : One). x .place) same ∙ only .first)
 
   -- a call that leaves the next clock too
   pub moved-applies :
-      LeavesAlone (step (view (stationOf o)) (callOf call numbers before)) (answerOf a) l (listAfter call numbers after) → ListStays (lends call) before after →
-      Applies (view (stationOf o)) call numbers before after a (stationOf l) × Alone l
-  moved-applies v stays = only-applies (v .result) (v .columns) (v .single) (v .first) stays
-
--- Any call is what it was found to be
-
-pub found-only :
-    (o : One) {l : One} {call found : Call} {numbers before after : List ℕ} {a : Answer} → call ≡ found →
-    Applies (view (stationOf o)) found numbers before after a (stationOf l) × Alone l →
-    Applies (view (stationOf o)) call numbers before after a (stationOf l) × Alone l
-found-only o e h = rw e h
-
-pub found-kept :
-    (s : Station) {t : Station} {call found : Call} {numbers before after : List ℕ} {a : Answer} → call ≡ found →
-    Applies (view s) found numbers before after a t → Applies (view s) call numbers before after a t
-found-kept s e h = rw e h
+      LeavesAlone r told l lent →
+      HandsOn r (step (view (stationOf o)) (callOf found numbers before)) told (answerOf a) l next lent (listAfter found numbers after) →
+      ListStays (lends found) before after → Applies (view (stationOf o)) call numbers before after a (stationOf next) × Alone next
+  moved-applies v = only-applies (v .result) (v .columns) (v .single) (v .first)
 
 -- what keeps the station, and is neither a preview nor an enquiry, is a board
 pub board-left :

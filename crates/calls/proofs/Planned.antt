@@ -8,6 +8,7 @@ use Rattle.station.specs.declared.Station.{Station}
 use Rattle.station.specs.declared.One.{One}
 use Rattle.station.specs.View.{view, Names}
 use Rattle.station.specs.Given.{Leaves}
+use Rattle.calls.proofs.Applying.{HandsOn}
 use Rattle.calls.specs.declared.plan.Plan.{Plan}
 use Rattle.calls.specs.Applied.{planCall, planList}
 
@@ -15,10 +16,9 @@ pub names-as : (o : One) {f g : ℕ} → Names o f → f ≡ g → Names o g
 names-as o h e = subst (Names o) e h
 
 pub planned-as :
-    (s : Station) {plan found : Plan} (number : ℕ) (starts : List ℕ) {r : Result} {answer : rules.Answer} {left : One} {list : List ℕ}
+    (s : Station) {plan found : Plan} (number : ℕ) (starts : List ℕ) {r : Result} {told answer : rules.Answer} {left next : One} {list : List ℕ}
     → plan ≡ found
-    → Leaves r s answer left list
-    → r ≡ step (view s) (planCall found number starts)
-    → list ≡ planList found starts
-    → Leaves (step (view s) (planCall plan number starts)) s answer left (planList plan starts)
-planned-as s number starts e h same lent = rw (e, ← same, ← lent) h
+    → Leaves r s told left list
+    → HandsOn r (step (view s) (planCall found number starts)) told answer left next list (planList found starts)
+    → Leaves (step (view s) (planCall plan number starts)) s answer next (planList plan starts)
+planned-as s number starts e l h = rw (e, ← h .result, ← h .said, ← h .back, ← h .same) l

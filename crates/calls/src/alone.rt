@@ -41,6 +41,10 @@ pub fn make(one: One, call: Call, numbers: &[u32], list: &mut [u32]) -> Made
     ensures { λ r. ⌜ Applies (view (stationOf one)) call (now (numbers .entry)) (now (list .entry)) (now (list .exit)) (r .answer) (stationOf (r .left)) ⌝ }
     ensures { λ r. ⌜ Alone (r .left) ⌝ }
 {
+    let zero = [0; 1];
+    let none = &zero[..];
+    let rest = [none, none, none, none];
+    let beside = beside(one, 0);
     match call {
         Call::Preview { order } => {
             let answer = preview_alone(one, order);
@@ -69,10 +73,6 @@ pub fn make(one: One, call: Call, numbers: &[u32], list: &mut [u32]) -> Made
             }
         }
         Call::Offer { feeder } => {
-            let zero = [0; 1];
-            let none = &zero[..];
-            let rest = [none, none, none, none];
-            let beside = beside(one, 0);
             let done = offer(one, beside, rest, feeder, numbers);
             let answer = done.answer;
             let left = done.left;
@@ -82,10 +82,6 @@ pub fn make(one: One, call: Call, numbers: &[u32], list: &mut [u32]) -> Made
             }
         }
         Call::ReplanLatest { feeder } => {
-            let zero = [0; 1];
-            let none = &zero[..];
-            let rest = [none, none, none, none];
-            let beside = beside(one, 0);
             let done = replan_latest(one, beside, rest, feeder);
             let answer = done.answer;
             let left = done.left;
@@ -95,10 +91,6 @@ pub fn make(one: One, call: Call, numbers: &[u32], list: &mut [u32]) -> Made
             }
         }
         Call::ReplanLines { feeder, allowance } => {
-            let zero = [0; 1];
-            let none = &zero[..];
-            let rest = [none, none, none, none];
-            let beside = beside(one, 0);
             let done = replan_lines(one, beside, rest, feeder, allowance);
             let answer = done.answer;
             let left = done.left;
@@ -122,10 +114,6 @@ pub fn make(one: One, call: Call, numbers: &[u32], list: &mut [u32]) -> Made
             }
         }
         Call::Withdraw { ticket } => {
-            let zero = [0; 1];
-            let none = &zero[..];
-            let rest = [none, none, none, none];
-            let beside = beside(one, 0);
             let done = withdraw(one, beside, rest, ticket);
             let answer = done.answer;
             let left = done.left;

@@ -88,45 +88,45 @@ handed-back-requires-9 c κs = search needs
 
 returns : tie.Need-returns
 returns c =
-    applied-as (c .before .before .before .before .call .given .1) (c .before .before .preview .ensures) (c .handed-back .ensures) (search needs) (search needs) (search needs) (search needs) refl
+    applied-as (c .before .before .before .before .call .given .1) (c .before .before .preview .ensures) (c .handed-back .ensures) (search needs) refl
 
 returns-2 : tie.Need-returns-2
 returns-2 c =
-    applied-as (c .before .before .before .before .call2 .given .1) (c .before .before .commit .ensures) (c .handed-back2 .ensures) (search needs) (search needs) (search needs) (search needs) refl
+    applied-as (c .before .before .before .before .call2 .given .1) (c .before .before .commit .ensures) (c .handed-back2 .ensures) (search needs) refl
 
 same-length : tie.Need-same-length
 same-length c = search needs
 
 returns-3 : tie.Need-returns-3
 returns-3 c =
-    applied-as (c .before .before .before .before .before .before .before .call3 .given .1) (c .before .before .before .before .move-clock .ensures) (c .handed-back3 .ensures) (search needs) (search needs) (search needs) (search needs) tt
+    applied-as (c .before .before .before .before .before .before .before .call3 .given .1) (c .before .before .before .before .move-clock .ensures) (c .handed-back3 .ensures) (search needs) tt
 
 returns-4 : tie.Need-returns-4
 returns-4 c =
-    applied-as (c .before .before .before .before .call4 .given .1) (c .before .before .offer .ensures) (c .handed-back4 .ensures) (search needs) (search needs) (search needs) (search needs) refl
+    applied-as (c .before .before .before .before .call4 .given .1) (c .before .before .offer .ensures) (c .handed-back4 .ensures) (search needs) refl
 
 returns-5 : tie.Need-returns-5
 returns-5 c =
-    applied-as (c .before .before .before .before .call5 .given .1) (c .before .before .replan-latest .ensures) (c .handed-back5 .ensures) (search needs) (search needs) (search needs) (search needs) refl
+    applied-as (c .before .before .before .before .call5 .given .1) (c .before .before .replan-latest .ensures) (c .handed-back5 .ensures) (search needs) refl
 
 returns-6 : tie.Need-returns-6
 returns-6 c =
-    applied-as (c .before .before .before .before .call6 .given .1) (c .before .before .replan-lines .ensures) (c .handed-back6 .ensures) (search needs) (search needs) (search needs) (search needs) refl
+    applied-as (c .before .before .before .before .call6 .given .1) (c .before .before .replan-lines .ensures) (c .handed-back6 .ensures) (search needs) refl
 
 returns-7 : tie.Need-returns-7
 returns-7 c =
-    applied-as (c .before .before .before .before .call7 .given .1) (c .before .before .enquire .ensures) (c .handed-back7 .ensures) (search needs) (search needs) (search needs) (search needs) refl
+    applied-as (c .before .before .before .before .call7 .given .1) (c .before .before .enquire .ensures) (c .handed-back7 .ensures) (search needs) refl
 
 same-length-2 : tie.Need-same-length-2
 same-length-2 c = search needs
 
 returns-8 : tie.Need-returns-8
 returns-8 c =
-    applied-as (c .before .before .before .before .before .before .enum-told .given .1) (c .before .before .before .before .board .ensures) (c .handed-back8 .ensures) (search needs) (search needs) (search needs) (search needs) tt
+    applied-as (c .before .before .before .before .before .before .enum-told .given .1) (c .before .before .before .before .board .ensures) (c .handed-back8 .ensures) (search needs) tt
 
 returns-9 : tie.Need-returns-9
 returns-9 c =
-    applied-as (c .before .before .before .before .call8 .given .1) (c .before .before .withdraw .ensures) (c .handed-back9 .ensures) (search needs) (search needs) (search needs) (search needs) refl
+    applied-as (c .before .before .before .before .call8 .given .1) (c .before .before .withdraw .ensures) (c .handed-back9 .ensures) (search needs) refl
 
 pub apply-spec : {M : Type 1} → statement M
 apply-spec =

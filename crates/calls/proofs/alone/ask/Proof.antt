@@ -1,8 +1,6 @@
 -- A preview, an enquiry, and what keeps the station beside these, which is a board.
 use mathlib.Core.Path.{refl}
-use Rattle.station.specs.View.{stationOf}
-use Rattle.calls.proofs.Only.{kept-applies, found-kept, board-left}
-use Rattle.calls.specs.declared.Call.the-variants.{Preview, Enquire, Board}
+use Rattle.calls.proofs.Only.{kept-applies, board-left}
 use borrow.Author.Needs.{needs}
 use Rattle.calls.proofs.alone.ask.Statement.{statement}
 use Rattle.calls.proofs.alone.ask.Tie as tie
@@ -15,7 +13,8 @@ preview-alone-requires c κs = search needs
 
 returns : tie.Need-returns
 returns c =
-    found-kept (stationOf (c .before .before .before .before .before .before .args .one)) (c .before .before .call .given .1) (kept-applies (Preview _) (c .before .before .before .before .before .before .pre .0 .valid) (c .preview-alone .ensures) refl)
+    let o = c .before .before .before .before .before .before in
+    kept-applies (o .pre .0 .valid) (c .before .before .call .given .1) (c .preview-alone .ensures) (search needs) refl
 
 enum-known-call-2 : tie.Need-enum-known-call-2
 enum-known-call-2 c = search needs
@@ -25,7 +24,8 @@ enquire-alone-requires c κs = search needs
 
 returns-2 : tie.Need-returns-2
 returns-2 c =
-    found-kept (stationOf (c .before .before .before .before .before .before .before .args .one)) (c .before .before .call2 .given .1) (kept-applies (Enquire _) (c .before .before .before .before .before .before .before .pre .0 .valid) (c .enquire-alone .ensures) refl)
+    let o = c .before .before .before .before .before .before .before in
+    kept-applies (o .pre .0 .valid) (c .before .before .call2 .given .1) (c .enquire-alone .ensures) (search needs) refl
 
 board-alone-requires : tie.Need-board-alone-requires
 board-alone-requires c κs = search needs
@@ -35,7 +35,9 @@ same-length c = search needs
 
 returns-3 : tie.Need-returns-3
 returns-3 c =
-    found-kept (stationOf (c .before .before .before .before .before .before .before .before .args .one)) (board-left (c .before .before .before .before .before .before .before .before .args .call) (c .before .before .before .before .before .before .before .before .pre .1) (c .before .before .before .before .before .match .keys2) (c .before .before .before .before .match2 .keys2)) (kept-applies Board (c .before .before .before .before .before .before .before .before .pre .0 .valid) (c .before .before .board-alone .ensures) tt)
+    let m = c .before .before .before .before in
+    let o = m .before .before .before .before in
+    kept-applies (o .pre .0 .valid) (board-left (o .args .call) (o .pre .1) (m .before .match .keys2) (m .match2 .keys2)) (c .before .before .board-alone .ensures) (search needs) tt
 
 pub ask-spec : {M : Type 1} → statement M
 ask-spec =

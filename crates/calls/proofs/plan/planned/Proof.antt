@@ -27,17 +27,17 @@ replan-lines-requires c κs = search needs
 returns : tie.Need-returns
 returns c s of beside names =
     let a = c .before .before .before .before .args in
-    planned-as s (a .number) (now (a .starts)) (c .before .enum-told .given .1) (c .offer .ensures .0 s of beside (names-as (a .one) names (omega arith))) (search needs) (search needs)
+    planned-as s (a .number) (now (a .starts)) (c .before .enum-told .given .1) (c .offer .ensures .0 s of beside (names-as (a .one) names (omega arith))) (search needs)
 
 returns-2 : tie.Need-returns-2
 returns-2 c s of beside names =
     let a = c .before .before .before .before .args in
-    planned-as s (a .number) (now (a .starts)) (c .before .enum-told2 .given .1) (c .replan-latest .ensures .0 s of beside (names-as (a .one) names (omega arith))) (search needs) (search needs)
+    planned-as s (a .number) (now (a .starts)) (c .before .enum-told2 .given .1) (c .replan-latest .ensures .0 s of beside (names-as (a .one) names (omega arith))) (search needs)
 
 returns-3 : tie.Need-returns-3
 returns-3 c s of beside names =
     let a = c .before .before .before .before .before .args in
-    planned-as s (a .number) (now (a .starts)) (c .before .before .plan .given .1) (c .replan-lines .ensures .0 s of beside (names-as (a .one) names (omega arith))) (search needs) (search needs)
+    planned-as s (a .number) (now (a .starts)) (c .before .before .plan .given .1) (c .replan-lines .ensures .0 s of beside (names-as (a .one) names (omega arith))) (search needs)
 
 pub planned-spec : {M : Type 1} → statement M
 planned-spec =

@@ -42,7 +42,7 @@ returns c =
     let h = commit-requires (c .before .before) tt in
     let a = c .before .before .before .before .before .before .args in
     let left = c .before .commit .ensures .0 (h .0) (h .1 .0) (h .1 .1) (h .1 .2) in
-    left-gives (commitOf (a .order) (a .shown)) (h .1 .0 .valid) left (c .after .ensures) (search needs) (search needs) (search needs) (search needs)
+    left-gives (commitOf (a .order) (a .shown)) (h .1 .0 .valid) left (c .after .ensures) (search needs)
 
 pub commit-spec : {M : Type 1} → statement M
 commit-spec =

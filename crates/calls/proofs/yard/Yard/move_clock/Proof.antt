@@ -19,7 +19,7 @@ returns : tie.Need-returns
 returns c =
     let o = c .before .before .before .before .before .before in
     let left = c .before .before .before .move-clock .ensures in
-    left-gives (move (o .args .target) (now (o .args .report))) (o .pre) left (c .after .ensures) (search needs) (search needs) (search needs) (search needs)
+    left-gives (move (o .args .target) (now (o .args .report))) (o .pre) left (c .after .ensures) (search needs)
 
 pub move-clock-spec : {M : Type 1} → statement M
 move-clock-spec = tie.close (tie.spec move-clock-requires after-requires same-length returns)

@@ -55,7 +55,7 @@ returns c =
     let b = c .before .before .before .before .before .before .before .before .before .before .before in
     let a = b .before .before .before .before .before .before .args in
     let left = c .before .planned .ensures _ (of b) (around b (rw (held-is (b .beside .ensures)))) (names b) in
-    left-gives (planCall (a .plan) (a .number) (now (a .starts))) (of b .valid) left (c .after .ensures) (search needs) (search needs) (search needs) (search needs)
+    left-gives (planCall (a .plan) (a .number) (now (a .starts))) (of b .valid) left (c .after .ensures) (search needs)
 
 pub plan-spec : {M : Type 1} → statement M
 plan-spec =

@@ -54,7 +54,7 @@ returns c =
     let b = c .before .before .before .before .before .before .before .before .before .before .before in
     let a = b .before .before .before .before .before .args in
     let left = c .before .withdraw .ensures .0 _ (of b) (around b (rw (held-is (b .beside .ensures)))) (holds b) in
-    left-gives (withdraw (a .ticket)) (of b .valid) left (c .after .ensures) (search needs) (search needs) (search needs) (search needs)
+    left-gives (withdraw (a .ticket)) (of b .valid) left (c .after .ensures) (search needs)
 
 pub withdraw-spec : {M : Type 1} → statement M
 withdraw-spec =
