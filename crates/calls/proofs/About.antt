@@ -22,7 +22,8 @@ use Rattle.station.proofs.Ones.{alone-of}
 use Rattle.station.proofs.Rests.{beside-of}
 use Rattle.planning.specs.Answers.{besideFor}
 use Rattle.planning.proofs.Ready.{can-plan}
-use Rattle.calls.specs.Applied.{NamedPlace, HeldPlace}
+use Rattle.calls.specs.Applied.{NamedPlace, HeldPlace, PartsOf}
+use Rattle.calls.specs.declared.yard.Parts.{Parts}
 
 -- One feeder of several. Numbers and lists that a call passes on are told by equations.
 
@@ -62,6 +63,16 @@ several-around {s} {o} {b} {n} {xs} {d} {r} f e draws few others same =
     beside-of f (ap (λ (x : Beside). x .limits) e) (ap (λ (x : Beside). x .clock) e) (ap drawnOf same ∙ draws .loads ∙ others)
     (subst Reaches (sym same) (columns-reach d (draws .columns)))
     (omega (arith, few, ap (λ (x : Drawn). x .held) same))
+
+-- Both, as they are gathered. The columns are those lent: their equation is shown where they are, with `held-is`.
+module _ {s : Station} {p : ℕ} {r : Parts} (v : Valid s) (h : p < s .count) (k : PartsOf s p r) where
+  pub parts-of : Of s (r .one)
+  parts-of = one-of v h (k .taken)
+
+  pub parts-around : {d : Drawn} → d ≡ r .others → BesideOf s (r .one .place) (record { clock = r .beside .clock; limits = r .beside .limits; rest = d })
+  parts-around same =
+      several-around parts-of (k .beside) (k .draws) (k .few)
+      (ap (λ q. map elsewhere (loadsOf (othersOf (view s) (q + 1)))) (sym (ap (λ (x : One). x .place) (k .taken)))) same
 
 -- what a withdrawal asks
 pub can-withdraw :

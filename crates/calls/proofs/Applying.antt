@@ -2,6 +2,8 @@
 use mathlib.Core.Path.{_≡_, ap, sym, subst, _∙_}
 use Prim.Native.Nat.{ℕ}
 use mathlib.Core.List.{List}
+use native.Mathlib.Omega.{arith}
+use lib.ListN.{set}
 use Rattle.rules.specs.Site.{State}
 use Rattle.rules.specs.Calls as rules
 use Rattle.rules.specs.Calls.{Result, step}
@@ -9,7 +11,8 @@ use Rattle.rules.specs.Valid.{ValidState}
 use Rattle.rules.proofs.Validity.{step-valid}
 use Rattle.station.specs.declared.Station.{Station}
 use Rattle.station.specs.declared.One.{One}
-use Rattle.station.specs.View.{view, Formed, Valid, stateAfter}
+use Rattle.station.specs.View.{view, Formed, Valid, stateAfter, oneAt, SameHead}
+use Rattle.station.proofs.Moves.{put-formed, after-still}
 use Rattle.station.specs.Given.{Leaves, Gives}
 use Rattle.calls.specs.declared.Call.{Call}
 use Rattle.calls.specs.declared.Answer.{Answer}
@@ -42,6 +45,25 @@ left-gives {s} {t} call {told = told} {lent = lent} v l f h =
   where
     result : record { answer = told; state = view t; list = lent } ≡ step (view s) call
     result = rw (f .1) (l .result ∙ h .result)
+
+-- The feeder that is left of a call is put in its place; nothing else has changed but the next ticket.
+abbrev pub putBack : Station → ℕ → One → Station
+putBack s p l = record { count = s .count; site = s .site; clock = s .clock; next = l .next; feeders = set (s .feeders) p (l .feeder) }
+
+pub put-gives :
+    {s next : Station} (call : rules.Call) {r : Result} {told answer : rules.Answer} {p : ℕ} {o left : One} {lent list : List ℕ}
+    → Valid s
+    → o ≡ oneAt s p
+    → Leaves r s told left lent
+    → SameHead o left
+    → HandsOn r (step (view s) call) told answer (putBack s p left) next lent list
+    → Gives (step (view s) call) answer next list
+put-gives {s} call {p = p} {left = l} v e leaves head h =
+    left-gives call v leaves
+    (subst (λ q. Formed (putBack s q l) × (view (putBack s q l) ≡ stateAfter (view s) l))
+    (ap (λ (x : One). x .place) head ∙ ap (λ (x : One). x .place) e)
+    (put-formed s (v .formed) l (leaves .fits), after-still s (v .formed) l (leaves .fits) (omega (arith, ap (λ (x : One). x .clock) head, ap (λ (x : One). x .clock) e))))
+    h
 
 -- The answer of a call given as a value, and the station after it, as they are handed back.
 pub applied-as :

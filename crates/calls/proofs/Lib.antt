@@ -2,4 +2,3 @@ pub mod Applying
 pub mod Only
 pub mod About
 pub mod Enquiries
-pub mod Planned

@@ -18,9 +18,13 @@ impl Yard {
         requires { ⌜ Valid (self .station) ⌝ }
         ensures { λ r. ⌜ Gives (step (view (self .station)) (moveCall target (now (report .entry)))) (moveAnswer (r .answer)) (r .yard .station) (now (report .exit)) ⌝ }
     {
-        let done = move_clock(self.station, target, report);
+        let station = self.station;
+        let done = move_clock(station, target, report);
         let answer = done.answer;
-        let yard = self.after(done.left);
-        Moving { answer, yard }
+        let next = station.after(done.left);
+        Moving {
+            answer,
+            yard: Yard { station: next },
+        }
     }
 }

@@ -39,13 +39,19 @@ impl Yard {
         requires { ⌜ Valid (self .station) ⌝ }
         ensures { λ r. ⌜ Gives (step (view (self .station)) (commitOf order shown)) (commitAnswer (r .answer)) (r .yard .station) [] ⌝ }
     {
-        let station = self.station;
+        let mut station = self.station;
         let found = preview(station, order);
         let place = place_of(station.count, order.feeder);
         let one = station.one(place);
         let done = commit(one, order, shown, found);
         let answer = done.answer;
-        let yard = self.after(done.left);
-        Committing { answer, yard }
+        let left = done.left;
+        let feeder = left.feeder;
+        station.feeders[place] = feeder;
+        station.next = left.next;
+        Committing {
+            answer,
+            yard: Yard { station },
+        }
     }
 }

@@ -1,7 +1,7 @@
 // Calls that go by tickets, on whichever feeder holds them: an enquiry, a board and a withdrawal.
 use crate::yard::Yard;
 use crate::yard::holding;
-use planning::beside;
+use crate::yard::taken_out;
 use site::board::BoardAnswer;
 use site::board::board;
 use site::enquiry::EnquiryAnswer;
@@ -52,20 +52,25 @@ impl Yard {
         requires { ⌜ Valid (self .station) ⌝ }
         ensures { λ r. ⌜ Gives (step (view (self .station)) (withdrawCall ticket)) (withdrawalAnswer (r .answer)) (r .yard .station) [] ⌝ }
     {
-        let station = self.station;
+        let mut station = self.station;
         let place = holding(station, ticket);
-        let one = station.one(place);
-        let others = station.rest(place);
-        let beside = beside(one, others.held);
+        let parts = taken_out(station, place);
+        let others = parts.others;
         let rest = [
             &others.lines[..],
             &others.active_times[..],
             &others.starts[..],
             &others.rates[..],
         ];
-        let done = withdraw(one, beside, rest, ticket);
+        let done = withdraw(parts.one, parts.beside, rest, ticket);
         let answer = done.answer;
-        let yard = self.after(done.left);
-        Withdrawing { answer, yard }
+        let left = done.left;
+        let feeder = left.feeder;
+        station.feeders[place] = feeder;
+        station.next = left.next;
+        Withdrawing {
+            answer,
+            yard: Yard { station },
+        }
     }
 }

@@ -1,11 +1,14 @@
-// A station whose calls are methods: each takes it by value, and hands the next one back with the answer. Here is what they share.
+// A station whose calls are methods: each takes it by value, and hands the next one back with the answer. Here is what they share. A call about
+// one feeder puts it back in its place itself, since a station that goes in and out of a function is two more copies on the stack.
+use charges::drawn::Drawn;
+use planner::Beside;
+use planning::beside;
 use station::One;
 use station::Station;
 use station::holder::Holder;
-ghost use mathlib.Core.Path.{_≡_};
-ghost use Prim.Native.Nat.{_≤_};
-ghost use Rattle.station.specs.View.{view, Formed, Valid, LeftOf, stateAfter};
-ghost use Rattle.calls.specs.Applied.{NamedPlace, HeldPlace};
+ghost use Prim.Native.Nat.{_≤_, _<_};
+ghost use Rattle.station.specs.View.{Formed, Valid};
+ghost use Rattle.calls.specs.Applied.{NamedPlace, HeldPlace, PartsOf};
 
 // Methods can be given only to a type of the same crate, so the station is wrapped.
 pub struct Yard {
@@ -37,15 +40,24 @@ pub fn holding(station: Station, ticket: u32) -> usize
     feeder
 }
 
-impl Yard {
-    // The station with what a call leaves of it.
-    pub fn after(self, left: One) -> Yard
-        requires { ⌜ Valid (self .station) × LeftOf (self .station) left ⌝ }
-        ensures { λ r. ⌜ Formed (r .station) × (view (r .station) ≡ stateAfter (view (self .station)) left) ⌝ }
-    {
-        let station = self.station;
-        Yard {
-            station: station.after(left),
-        }
+// A feeder taken out of its station, what the others draw, and what a plan of it stands beside.
+pub struct Parts {
+    pub one: One,
+    pub others: Drawn,
+    pub beside: Beside,
+}
+
+// What a plan of the feeder at a place takes. It is a function of its own, so that the copies that it makes are gone when the plan is made.
+pub fn taken_out(station: Station, place: usize) -> Parts
+    requires { ⌜ Valid station × (place < station .count) ⌝ }
+    ensures { λ r. ⌜ PartsOf station place r ⌝ }
+{
+    let one = station.one(place);
+    let others = station.rest(place);
+    let beside = beside(one, others.held);
+    Parts {
+        one,
+        others,
+        beside,
     }
 }

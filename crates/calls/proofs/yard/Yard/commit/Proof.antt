@@ -4,7 +4,7 @@ use native.Mathlib.Omega.{arith}
 use Rattle.rules.specs.Calls.{Result}
 use Rattle.ordering.specs.Ordered.{commitOf}
 use Rattle.calls.proofs.About.{one-of, place-names}
-use Rattle.calls.proofs.Applying.{left-gives}
+use Rattle.calls.proofs.Applying.{put-gives}
 use borrow.Author.Needs.{needs}
 use Rattle.calls.proofs.yard.Yard.commit.Statement.{statement}
 use Rattle.calls.proofs.yard.Yard.commit.Tie as tie
@@ -30,21 +30,21 @@ commit-requires c κs =
       ),
     )
 
-after-requires : tie.Need-after-requires
-unfolding commit-requires
-after-requires c κs =
-    let h = commit-requires (c .before) κs in
-    (h .1 .0 .valid, c .commit .ensures .0 (h .0) (h .1 .0) (h .1 .1) (h .1 .2) .fits)
+mul-feeder : tie.Need-mul-feeder
+mul-feeder c = search needs
+
+element-set-from-feeder : tie.Need-element-set-from-feeder
+element-set-from-feeder c = search needs
 
 returns : tie.Need-returns
 unfolding commit-requires
 returns c =
-    let h = commit-requires (c .before .before) tt in
-    let a = c .before .before .before .before .before .before .args in
-    let left = c .before .commit .ensures .0 (h .0) (h .1 .0) (h .1 .1) (h .1 .2) in
-    left-gives (commitOf (a .order) (a .shown)) (h .1 .0 .valid) left (c .after .ensures) (search needs)
+    let d = c .before .before in
+    let h = commit-requires (d .before) tt in
+    let o = d .before .before .before .before .before in
+    put-gives (commitOf (o .args .order) (o .args .shown)) (o .pre) (d .before .one .ensures) (d .commit .ensures .0 (h .0) (h .1 .0) (h .1 .1) (h .1 .2)) (d .commit .ensures .1) (search needs)
 
 pub commit-spec : {M : Type 1} → statement M
 commit-spec =
     tie.close
-    (tie.spec preview-requires place-of-requires one-requires commit-requires after-requires returns)
+    (tie.spec preview-requires place-of-requires one-requires commit-requires mul-feeder element-set-from-feeder returns)

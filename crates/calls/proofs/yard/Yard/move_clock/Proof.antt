@@ -17,7 +17,7 @@ same-length c = search needs
 
 returns : tie.Need-returns
 returns c =
-    let o = c .before .before .before .before .before .before in
+    let o = c .before .before .before .before .before .before .before in
     let left = c .before .before .before .move-clock .ensures in
     left-gives (move (o .args .target) (now (o .args .report))) (o .pre) left (c .after .ensures) (search needs)
 
