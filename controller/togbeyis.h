@@ -36,7 +36,7 @@ extern "C" {
 #define TOGBEYIS_IMAGE 4608  /* the bytes of an image */
 #define TOGBEYIS_HELD 180    /* the charges that a station holds at most */
 #define TOGBEYIS_REPORT 360  /* the places that a clock move wants of its report list, at least */
-#define TOGBEYIS_STACK 307200 /* the bytes of stack that are enough for any call */
+#define TOGBEYIS_STACK 204800 /* the bytes of stack that are enough for any call */
 
 /* Tests an image: 0 where it is one, or 20, 21, 22. */
 uint32_t togbeyis_restore(const uint8_t *image, size_t length);
