@@ -57,7 +57,7 @@ impl Replan {
     pub fn title(self) -> &'static str {
         match self {
             Replan::Never => "orders and moves only",
-            Replan::Latest => "replan by latest 1 start",
+            Replan::Latest => "replan by latest start",
             Replan::Lines => "replan by lines",
         }
     }
