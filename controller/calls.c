@@ -14,9 +14,10 @@ static size_t lend(uint32_t list[PLACES_MOST], uint32_t asked) {
     return places;
 }
 
-static uint32_t make_open(struct buffer *b, const uint32_t *n, struct text *text, uint32_t *blocks) {
+/* An image is of one feeder, so that there is one bound. */
+static uint32_t make_open(struct buffer *b, const uint32_t *n, size_t count, struct text *text, uint32_t *blocks) {
     uint32_t bound = 0;
-    uint32_t refusal = togbeyis_open(b->bytes, b->length, n[0], n[1], n[2], &bound, blocks);
+    uint32_t refusal = togbeyis_open(b->bytes, b->length, n[0], n[1], n + 2, count - 2, &bound, blocks);
 
     if (!refusal) text_add(text, "open 0 %" PRIu32, bound);
     return refusal;
@@ -24,16 +25,16 @@ static uint32_t make_open(struct buffer *b, const uint32_t *n, struct text *text
 
 static uint32_t make_preview(struct buffer *b, const uint32_t *n, struct text *text, uint32_t *blocks) {
     uint32_t start = 0;
-    uint32_t refusal = togbeyis_preview(b->bytes, b->length, n[0], n[1], n[2], n[3], &start, blocks);
+    uint32_t refusal = togbeyis_preview(b->bytes, b->length, n[0], n[1], n[2], n[3], n[4], &start, blocks);
 
     if (!refusal) text_add(text, "start %" PRIu32, start);
     return refusal;
 }
 
 static uint32_t make_commit(struct buffer *b, const uint32_t *n, struct text *text, uint32_t *blocks) {
-    uint32_t ticket = 0, start = 0;
-    uint32_t refusal = togbeyis_commit(b->bytes, b->length, n[0], n[1], n[2], n[3], n[4], &ticket, &start, blocks);
+    uint32_t ticket = 0, start = 0, refusal;
 
+    refusal = togbeyis_commit(b->bytes, b->length, n[0], n[1], n[2], n[3], n[4], n[5], &ticket, &start, blocks);
     if (!refusal) text_add(text, "ticket %" PRIu32 " start %" PRIu32, ticket, start);
     return refusal;
 }
@@ -63,21 +64,23 @@ static uint32_t tell_plan(uint32_t refusal, const struct plan *p, struct text *t
 
 static uint32_t make_offer(struct buffer *b, const uint32_t *n, size_t count, struct text *text, uint32_t *blocks) {
     struct plan p = {0, 0, 0, 0};
-    uint32_t refusal = togbeyis_offer(b->bytes, b->length, n, count, &p.cause, &p.before, &p.after, &p.rounds, blocks);
+    size_t starts = count - 1;
+    uint32_t refusal;
 
+    refusal = togbeyis_offer(b->bytes, b->length, n[0], n + 1, starts, &p.cause, &p.before, &p.after, &p.rounds, blocks);
     return tell_plan(refusal, &p, text);
 }
 
-static uint32_t make_latest(struct buffer *b, struct text *text, uint32_t *blocks) {
+static uint32_t make_latest(struct buffer *b, const uint32_t *n, struct text *text, uint32_t *blocks) {
     struct plan p = {0, 0, 0, 0};
-    uint32_t refusal = togbeyis_latest(b->bytes, b->length, &p.cause, &p.before, &p.after, &p.rounds, blocks);
+    uint32_t refusal = togbeyis_latest(b->bytes, b->length, n[0], &p.cause, &p.before, &p.after, &p.rounds, blocks);
 
     return tell_plan(refusal, &p, text);
 }
 
 static uint32_t make_lines(struct buffer *b, const uint32_t *n, struct text *text, uint32_t *blocks) {
     struct plan p = {0, 0, 0, 0};
-    uint32_t refusal = togbeyis_lines(b->bytes, b->length, n[0], &p.cause, &p.before, &p.after, &p.rounds, blocks);
+    uint32_t refusal = togbeyis_lines(b->bytes, b->length, n[0], n[1], &p.cause, &p.before, &p.after, &p.rounds, blocks);
 
     return tell_plan(refusal, &p, text);
 }
@@ -116,12 +119,12 @@ static uint32_t make(struct buffer *b, const struct request *request, struct tex
     const uint32_t *n = request->numbers;
 
     switch (request->call) {
-    case OPEN: return make_open(b, n, text, blocks);
+    case OPEN: return make_open(b, n, request->count, text, blocks);
     case PREVIEW: return make_preview(b, n, text, blocks);
     case COMMIT: return make_commit(b, n, text, blocks);
     case MOVE: return make_move(b, n, text, blocks);
     case OFFER: return make_offer(b, n, request->count, text, blocks);
-    case LATEST: return make_latest(b, text, blocks);
+    case LATEST: return make_latest(b, n, text, blocks);
     case LINES: return make_lines(b, n, text, blocks);
     case ENQUIRE: return make_enquire(b, n, text, blocks);
     case BOARD: return make_board(b, n, request->count, text, blocks);

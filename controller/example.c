@@ -8,23 +8,24 @@
 static uint8_t image[TOGBEYIS_IMAGE];
 static uint32_t blocks;
 
-/* Takes an order with the earliest start that there is. */
+/* Takes an order of feeder 1 with the earliest start that there is. */
 static uint32_t order(uint32_t line, uint32_t time, uint32_t due) {
     uint32_t start = 0, ticket = 0, refusal;
 
-    refusal = togbeyis_preview(image, sizeof image, line, time, due, 1, &start, &blocks);
+    refusal = togbeyis_preview(image, sizeof image, 1, line, time, due, 1, &start, &blocks);
     if (!refusal)
-        refusal = togbeyis_commit(image, sizeof image, line, time, due, 1, start, &ticket, &start, &blocks);
+        refusal = togbeyis_commit(image, sizeof image, 1, line, time, due, 1, start, &ticket, &start, &blocks);
     if (!refusal) printf("ticket %" PRIu32 " starts at %" PRIu32 ": %" PRIu32 " blocks\n", ticket, start, blocks);
     return refusal;
 }
 
 int main(void) {
     static uint8_t card[TOGBEYIS_IMAGE];
+    const uint32_t settings[] = {1, 100, 0}; /* N, c and r of the one feeder, under a site limit of 720 */
     uint32_t report[TOGBEYIS_REPORT], bound = 0, charging = 0, start = 0, rate = 0, end = 0;
     size_t reported = 0, dropped = 0;
 
-    printf("opened: %" PRIu32 ", ", togbeyis_open(image, sizeof image, 1, 100, 0, &bound, &blocks));
+    printf("opened: %" PRIu32 ", ", togbeyis_open(image, sizeof image, 1, 720, settings, 3, &bound, &blocks));
     printf("the lines differ by %" PRIu32 " at most\n", bound);
     if (order(1, 10, 60) || order(1, 10, 60)) return 1;
     printf("an order for line 4: refused %" PRIu32 "\n", order(4, 10, 60));

@@ -2,18 +2,19 @@
 
 #include <string.h>
 
-/* A call, its first word, and how many numbers it takes. `read` and `write` take a path. */
+/* A call, its first word, and how many numbers it takes: the least, by how many there may be more, and the most. `open` takes the
+ * number of feeders, the site limit, and three numbers for each of up to four feeders. `read` and `write` take a path. */
 struct form {
     const char *word;
     enum call call;
-    size_t least, most;
+    size_t least, more, most;
 };
 
 static const struct form forms[] = {
-    {"open", OPEN, 3, 3},    {"preview", PREVIEW, 4, 4}, {"commit", COMMIT, 5, 5},
-    {"move", MOVE, 2, 2},    {"offer", OFFER, 0, 2048},  {"latest", LATEST, 0, 0},
-    {"lines", LINES, 1, 1},  {"enquire", ENQUIRE, 1, 1}, {"board", BOARD, 1, 2048},
-    {"withdraw", WITHDRAW, 1, 1}, {"read", READ, 0, 0},   {"write", WRITE, 0, 0},
+    {"open", OPEN, 5, 3, 14},        {"preview", PREVIEW, 5, 1, 5}, {"commit", COMMIT, 6, 1, 6},
+    {"move", MOVE, 2, 1, 2},         {"offer", OFFER, 1, 1, 2048},  {"latest", LATEST, 1, 1, 1},
+    {"lines", LINES, 2, 1, 2},       {"enquire", ENQUIRE, 1, 1, 1}, {"board", BOARD, 1, 1, 2048},
+    {"withdraw", WITHDRAW, 1, 1, 1}, {"read", READ, 0, 1, 0},       {"write", WRITE, 0, 1, 0},
 };
 
 /* Where the part of a text ends that begins at `from`: at a space or at the end. */
@@ -58,7 +59,8 @@ static const char *numbers_read(struct request *request, const struct form *form
         request->count++;
         at = end;
     }
-    return request->count < form->least ? "missing number" : NULL;
+    if (request->count < form->least || (request->count - form->least) % form->more != 0) return "missing number";
+    return NULL;
 }
 
 /* The path after the first word, which ends at `at`: one word, not empty. */

@@ -18,33 +18,35 @@ static void fill(void) {
     uint32_t ticket = 0, start = 0, blocks = 0, i;
 
     for (i = 0; i < TOGBEYIS_HELD; i++) {
-        togbeyis_preview(image, sizeof image, i % 3 + 1, 1 + 37 * i % 240, 7 * i, 1 + i % 2, &start, &blocks);
-        togbeyis_commit(image, sizeof image, i % 3 + 1, 1 + 37 * i % 240, 7 * i, 1 + i % 2, start, &ticket, &start, &blocks);
+        togbeyis_preview(image, sizeof image, 1, i % 3 + 1, 1 + 37 * i % 240, 7 * i, 1 + i % 2, &start, &blocks);
+        togbeyis_commit(image, sizeof image, 1, i % 3 + 1, 1 + 37 * i % 240, 7 * i, 1 + i % 2, start, &ticket, &start, &blocks);
     }
 }
 
 /* Every call, refused and not, on an empty and on a full station. */
 static void *calls(void *nothing) {
+    const uint32_t settings[] = {60, 10, 5, 60, 10, 5, 60, 10, 5, 60, 10, 5};
     uint32_t report[TOGBEYIS_REPORT], starts[TOGBEYIS_HELD], a = 0, b = 0, c = 0, d = 0, blocks = 0;
     uint8_t copy[TOGBEYIS_IMAGE];
     uint64_t before = 0, after = 0;
     size_t reported = 0, dropped = 0, i;
 
-    togbeyis_open(image, sizeof image, 60, 10, 5, &a, &blocks);
+    togbeyis_open(image, sizeof image, 4, 720, settings, 12, &a, &blocks);
+    togbeyis_open(image, sizeof image, 1, 720, settings, 3, &a, &blocks);
     fill();
     for (i = 0; i < TOGBEYIS_HELD; i++) starts[i] = (uint32_t)(400 * i);
     togbeyis_restore(image, sizeof image);
     togbeyis_save(image, sizeof image, copy, sizeof copy, &blocks);
-    togbeyis_offer(image, sizeof image, starts, TOGBEYIS_HELD, &a, &before, &after, &b, &blocks);
-    togbeyis_latest(image, sizeof image, &a, &before, &after, &b, &blocks);
-    togbeyis_lines(image, sizeof image, 1000, &a, &before, &after, &b, &blocks);
+    togbeyis_offer(image, sizeof image, 1, starts, TOGBEYIS_HELD, &a, &before, &after, &b, &blocks);
+    togbeyis_latest(image, sizeof image, 1, &a, &before, &after, &b, &blocks);
+    togbeyis_lines(image, sizeof image, 1, 1000, &a, &before, &after, &b, &blocks);
     togbeyis_enquire(image, sizeof image, TOGBEYIS_HELD, &a, &b, &c, &d, &blocks);
     for (i = 0; i < TOGBEYIS_HELD; i++) starts[i] = (uint32_t)(i + 1);
     togbeyis_board(image, sizeof image, starts, TOGBEYIS_HELD, report, TOGBEYIS_REPORT, &reported, &blocks);
     togbeyis_withdraw(image, sizeof image, TOGBEYIS_HELD, &blocks);
     togbeyis_move(image, sizeof image, 100, report, TOGBEYIS_REPORT, &reported, &dropped, &blocks);
-    togbeyis_latest(image, sizeof image, &a, &before, &after, &b, &blocks);
-    togbeyis_lines(image, sizeof image, 1000, &a, &before, &after, &b, &blocks);
+    togbeyis_latest(image, sizeof image, 1, &a, &before, &after, &b, &blocks);
+    togbeyis_lines(image, sizeof image, 1, 1000, &a, &before, &after, &b, &blocks);
     return nothing;
 }
 

@@ -33,7 +33,7 @@ fn sort_of(line: &[u8], answer: &str) -> String {
         Call::Commit { .. } => "commit",
         Call::Move { .. } => "move",
         Call::Offer { .. } => "offer",
-        Call::Latest => "latest",
+        Call::Latest { .. } => "latest",
         Call::Lines { .. } => "lines",
         Call::Enquire { .. } => "enquire",
         Call::Board { .. } => "board",

@@ -10,7 +10,7 @@ mod withdrawal;
 
 use crate::protocol::{read_call, Call};
 use crate::script::{self, Line};
-use crate::yard;
+use crate::yard::{self, Opening, Settings};
 use std::cmp::Ordering;
 use std::fmt;
 
@@ -31,9 +31,14 @@ impl fmt::Display for Broken {
 /// order minute is the clock at that moment; its line and p are those passed in", and
 /// so is its rate.
 struct Order {
+    /// Its place among the feeders, from 0.
+    feeder: usize,
     line: u32,
     time: u64,
     rate: u32,
+    /// r of its feeder, for which "a point" counts "as drawing for r minutes after its end"
+    /// (N7).
+    tail: u64,
     order: u64,
     /// "the one reported by the clock move that passed it"
     reported: Option<u64>,
@@ -51,18 +56,24 @@ impl Order {
 
     /// "is finished when s + p + r is at or below the clock" (N7), else held, unless it was
     /// withdrawn.
-    fn held(&self, clock: u64, tail: u64) -> bool {
-        let finished = self.reported.is_some_and(|start| start + self.time + tail <= clock);
+    fn held(&self, clock: u64) -> bool {
+        let finished = self.reported.is_some_and(|start| start + self.time + self.tail <= clock);
         !finished && !self.withdrawn
     }
 }
 
-/// What the calls and answers since an opening say.
-struct Trace {
+/// Limit, bound and r of a feeder.
+struct Feeder {
     limit: u64,
     bound: u64,
-    /// r, for which "a point" counts "as drawing for r minutes after its end" (N7).
     tail: u64,
+}
+
+/// What the calls and answers since an opening say.
+struct Trace {
+    feeders: Vec<Feeder>,
+    /// W
+    site_limit: u64,
     clock: u64,
     orders: Vec<Order>,
     /// Whether an enquiry or a board was answered since the last other call.
@@ -71,7 +82,7 @@ struct Trace {
 
 /// Checks the answers to a script.
 pub fn check(lines: &[Line], answers: &[Line]) -> Result<(), Broken> {
-    let mut trace = Trace::from_opening([1, 100, 0], true);
+    let mut trace = Trace::from_opening(&Opening::of_one(1, 100, 0));
     let mut answer = 0;
     for line in script::answered(lines) {
         let text = answers.get(answer).map(|text| script::show(text));
@@ -128,13 +139,30 @@ fn nearest(hundredths: u64) -> u64 {
 }
 
 impl Trace {
-    /// "limit and bound are that station's N and D", "also from the one beside a
-    /// refusal", which is the station of 1, 100; there "r is 0" (N7).
-    fn from_opening(settings: [u32; 3], refused: bool) -> Trace {
-        let settings = if refused { [1, 100, 0] } else { settings };
-        let [limit, percent, tail] = settings.map(u64::from);
-        let bound = nearest(limit * percent);
-        Trace { limit, bound, tail, clock: 0, orders: Vec::new(), asked: false }
+    /// "limit and bound are that station's N and D", and with N14 each feeder's own.
+    fn from_opening(opening: &Opening) -> Trace {
+        let feeder = |settings: Settings| {
+            let (limit, percent) = (u64::from(settings.limit), u64::from(settings.percent));
+            Feeder { limit, bound: nearest(limit * percent), tail: settings.tail.into() }
+        };
+        let feeders = opening.up_to_count().map(feeder).collect();
+        let site_limit = opening.site_limit.into();
+        Trace { feeders, site_limit, clock: 0, orders: Vec::new(), asked: false }
+    }
+
+    /// "also from the one beside a refusal", which is the station of 1, 100; there "r is 0"
+    /// (N7), and there "stand one feeder and W 720" (N14).
+    fn opened(&mut self, opening: &Opening, answer: &Answer) -> Checked {
+        if answer.refused() {
+            *self = Trace::from_opening(&Opening::of_one(1, 100, 0));
+            return Ok(());
+        }
+        let bounds = answer.numbers.len().saturating_sub(1);
+        ensure(answer.words == "open" && bounds == opening.count as usize && bounds <= 4, || {
+            format!("an opening is answered with '{}' {:?}", answer.words, answer.numbers)
+        })?;
+        *self = Trace::from_opening(opening);
+        Ok(())
     }
 
     fn step(&mut self, call: &Call, answer: &Answer) -> Checked {
@@ -148,10 +176,7 @@ impl Trace {
         }
         self.leave(matches!(call, Call::Open { .. }))?;
         match (call, answer.refused()) {
-            (Call::Open { limit, percent, tail }, refused) => {
-                *self = Trace::from_opening([*limit, *percent, *tail], refused);
-                Ok(())
-            }
+            (Call::Open { opening }, _) => self.opened(opening, answer),
             (Call::Commit { order, .. }, false) => self.accepted(order, answer),
             (Call::Move { target, .. }, false) => self.moved(u64::from(*target), answer),
             (Call::Withdraw { ticket }, false) => self.withdrawn(*ticket, answer),
@@ -185,10 +210,15 @@ impl Trace {
         ensure(answer.numbers[0] == ticket, || {
             format!("ticket {} where {ticket} is next", answer.numbers[0])
         })?;
+        let feeder = (order.feeder as usize).wrapping_sub(1);
+        let own = self.feeders.get(feeder);
+        let tail = own.ok_or(format!("an order of feeder {} is taken", order.feeder))?.tail;
         self.orders.push(Order {
+            feeder,
             line: order.line,
             time: u64::from(order.time),
             rate: order.rate,
+            tail,
             order: self.clock,
             reported: None,
             waiting: None,
@@ -240,10 +270,11 @@ impl Trace {
     /// enquiry finds it waiting." "Enquiries show the rate" (N4). It "is finished when
     /// s + p + r is at or below the clock" (N7).
     fn enquiry(&mut self, ticket: u32, answer: &Answer) -> Checked {
-        let (clock, tail) = (self.clock, self.tail);
+        let clock = self.clock;
         let Some(order) = self.order(u64::from(ticket)) else {
             return ensure(answer.refused(), || format!("ticket {ticket} found, not given"));
         };
+        let tail = order.tail;
         let found = || format!("ticket {ticket}: {} {:?}", answer.words, answer.numbers);
         if order.withdrawn {
             return ensure(answer.refused() && answer.numbers == [15], found);
@@ -280,10 +311,11 @@ impl Trace {
     /// "No charge ends later than the last minute in which an order was accepted
     /// plus the charging times of all accepted orders." "The ceiling on ends gains r for
     /// each accepted order" (N7), and a withdrawn order's "time still counts in the ceiling
-    /// on ends" (N11), as does its order minute.
+    /// on ends" (N11), as does its order minute; "the ceiling taken over the site", each r that
+    /// of the order's feeder (N14).
     fn check_ends(&self) -> Checked {
         let Some(last) = self.orders.last() else { return Ok(()) };
-        let times = self.orders.iter().map(|order| order.time + self.tail);
+        let times = self.orders.iter().map(|order| order.time + order.tail);
         let ceiling = last.order + times.sum::<u64>();
         for (ticket, order) in self.standing() {
             let end = order.start().unwrap_or(0) + order.time;
@@ -296,27 +328,42 @@ impl Trace {
     /// than its limit charging and no two lines differ by more than the bound";
     /// "A line's count in a minute takes all accepted orders of the list, dropped
     /// ones too", but not those that were withdrawn (N11); they are "weighted counts" (N4),
-    /// in which each is active in "minutes s to s + p + r − 1" (N7). Counts change only where
+    /// in which each is active in "minutes s to s + p + r − 1" (N7). "The every-minute guarantee
+    /// holds for each feeder, with W [..] taken over the site" (N14). Counts change only where
     /// an order starts or its tail ends, so these minutes stand for all.
     fn check_counts(&self) -> Checked {
         let mut changes = Vec::new();
         for (_, order) in self.standing() {
-            let (start, line) = (order.start().unwrap_or(0), order.line as usize - 1);
-            changes.push((start, line, i64::from(order.rate)));
-            changes.push((start + order.time + self.tail, line, -i64::from(order.rate)));
+            let (start, rate) = (order.start().unwrap_or(0), i64::from(order.rate));
+            let line = (order.feeder, order.line as usize - 1);
+            changes.push((start, line, rate));
+            changes.push((start + order.time + order.tail, line, -rate));
         }
         changes.sort_unstable();
-        let mut counts = [0i64; 3];
-        for (place, (minute, line, change)) in changes.iter().enumerate() {
-            counts[*line] += change;
-            let last_of_minute = changes.get(place + 1).is_none_or(|next| next.0 != *minute);
-            ensure(!last_of_minute || self.sound(&counts), || {
-                format!("minute {minute} has counts {counts:?}")
-            })?;
+        let mut counts = vec![[0i64; 3]; self.feeders.len()];
+        for (place, (minute, (feeder, line), change)) in changes.iter().enumerate() {
+            counts[*feeder][*line] += change;
+            if changes.get(place + 1).is_none_or(|next| next.0 != *minute) {
+                self.check_minute(*minute, &counts)?;
+            }
         }
         Ok(())
     }
 
+    fn check_minute(&self, minute: u64, counts: &[[i64; 3]]) -> Checked {
+        for (number, (feeder, counts)) in self.feeders.iter().zip(counts).enumerate() {
+            ensure(feeder.sound(counts), || {
+                format!("minute {minute} has counts {counts:?} on feeder {}", number + 1)
+            })?;
+        }
+        let site: i64 = counts.iter().flatten().sum();
+        ensure(site <= self.site_limit as i64, || {
+            format!("minute {minute} has {site} on the site of {}", self.site_limit)
+        })
+    }
+}
+
+impl Feeder {
     fn sound(&self, counts: &[i64; 3]) -> bool {
         let largest = counts.iter().max().copied().unwrap_or(0);
         let smallest = counts.iter().min().copied().unwrap_or(0);

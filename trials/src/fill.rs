@@ -68,11 +68,11 @@ mod tests {
     use crate::script::{join, show, split};
 
     const OPEN: &str =
-        "open 1 100 0\ncommit 1 5 9 1 ?\ncommit 1 5 9 1 ?\ncommit 1 5 9 1 3\nlatest ?\n\
-                        commit 4 5 9 1 ?\ncommit 1 x 9 1 ?\ncommit 1 5 9 1 7?\n";
+        "open 1 720 1 100 0\ncommit 1 1 5 9 1 ?\ncommit 1 1 5 9 1 ?\ncommit 1 1 5 9 1 3\nlatest ?\n\
+                        commit 1 4 5 9 1 ?\ncommit 1 1 x 9 1 ?\ncommit 1 1 5 9 1 7?\n";
     const FILLED: &str =
-        "open 1 100 0\ncommit 1 5 9 1 0\ncommit 1 5 9 1 5\ncommit 1 5 9 1 3\nlatest ?\n\
-                          commit 4 5 9 1 0\ncommit 1 x 9 1 ?\ncommit 1 5 9 1 7?\n";
+        "open 1 720 1 100 0\ncommit 1 1 5 9 1 0\ncommit 1 1 5 9 1 5\ncommit 1 1 5 9 1 3\nlatest ?\n\
+                          commit 1 4 5 9 1 0\ncommit 1 1 x 9 1 ?\ncommit 1 1 5 9 1 7?\n";
 
     #[test]
     fn open_starts_are_those_that_would_be_shown() {
@@ -83,12 +83,12 @@ mod tests {
     #[test]
     fn commits_that_are_taken_are_left_open() {
         let open = unfill(&split(FILLED.as_bytes()));
-        assert_eq!(show(&join(&open)), OPEN.replace("commit 4 5 9 1 ?", "commit 4 5 9 1 0"));
+        assert_eq!(show(&join(&open)), OPEN.replace("commit 1 4 5 9 1 ?", "commit 1 4 5 9 1 0"));
     }
 
     #[test]
     fn an_order_becomes_an_open_commit() {
-        let order = Order { line: 1, time: 10, due: 60, rate: 2 };
-        assert_eq!(show(&open_commit(order)), "commit 1 10 60 2 ?");
+        let order = Order { feeder: 3, line: 1, time: 10, due: 60, rate: 2 };
+        assert_eq!(show(&open_commit(order)), "commit 3 1 10 60 2 ?");
     }
 }

@@ -53,9 +53,7 @@ impl<Y: Yard> Interpreter<Y> {
     pub fn try_call(&mut self, call: &Call, out: &mut Vec<u8>) -> Result<(), Refusal> {
         let yard = &mut self.yard;
         match call {
-            Call::Open { limit, percent, tail } => {
-                protocol::write_opened(out, yard.open(*limit, *percent, *tail)?);
-            }
+            Call::Open { opening } => protocol::write_opened(out, &yard.open(opening)?),
             Call::Preview { order } => protocol::write_previewed(out, yard.preview(*order)?),
             Call::Commit { order, shown } => {
                 protocol::write_committed(out, yard.commit(*order, *shown)?);
@@ -65,10 +63,14 @@ impl<Y: Yard> Interpreter<Y> {
                 let moved = yard.move_clock(*target, &mut self.list)?;
                 protocol::write_moved(out, moved, &self.list);
             }
-            Call::Offer { starts } => protocol::write_planned(out, yard.offer(starts)?),
-            Call::Latest => protocol::write_planned(out, yard.replan_by_latest_start()),
-            Call::Lines { allowance } => {
-                protocol::write_planned(out, yard.replan_by_lines(*allowance)?);
+            Call::Offer { feeder, starts } => {
+                protocol::write_planned(out, yard.offer(*feeder, starts)?);
+            }
+            Call::Latest { feeder } => {
+                protocol::write_planned(out, yard.replan_by_latest_start(*feeder)?);
+            }
+            Call::Lines { feeder, allowance } => {
+                protocol::write_planned(out, yard.replan_by_lines(*feeder, *allowance)?);
             }
             Call::Enquire { ticket } => protocol::write_found(out, yard.enquire(*ticket)?),
             Call::Board { places, tickets } => {

@@ -25,7 +25,7 @@ impl Trial {
     /// For a bus, which holds no station before an opening: one in front, and comments up
     /// to the end of its block, so that all else comes to stand where it stood.
     fn opened(mut self) -> Trial {
-        let mut input = b"open 1 100 0\n".to_vec();
+        let mut input = b"open 1 720 1 100 0\n".to_vec();
         while input.len() < BLOCK {
             let comment = (BLOCK - input.len() - 1).min(1_000);
             input.resize(input.len() + comment, b'#');
@@ -87,7 +87,7 @@ impl Calls {
         let turn = self.given / 2;
         self.given += 1;
         match self.given % 2 {
-            1 => format!("commit 1 1 9 1 {turn:016}").into_bytes(),
+            1 => format!("commit 1 1 1 9 1 {turn:014}").into_bytes(),
             _ => format!("move {:022} 360", turn + 1).into_bytes(),
         }
     }
@@ -125,10 +125,10 @@ const ENDS: [(&str, &str); 8] = [
     ("nothing", ""),
     ("an empty line", "\n"),
     ("two empty lines", "\n\n"),
-    ("a call", "latest"),
-    ("a call with a line feed", "latest\n"),
+    ("a call", "latest 1"),
+    ("a call with a line feed", "latest 1\n"),
     ("a comment", "#"),
-    ("two calls", "commit 1 5 5 1 0\nenquire 1"),
+    ("two calls", "commit 1 1 5 5 1 0\nenquire 1"),
     ("an error and a comment", "x\n#x"),
 ];
 
@@ -140,7 +140,7 @@ fn ends() -> Vec<Trial> {
         inputs.push((name.to_string(), text.as_bytes().to_vec()));
     }
     for length in [LONGEST_LINE - 1, LONGEST_LINE, LONGEST_LINE + 1, 2 * BLOCK + 1] {
-        let input = [b"commit 1 5 5 1 0\n".to_vec(), long_call(length)].concat();
+        let input = [b"commit 1 1 5 5 1 0\n".to_vec(), long_call(length)].concat();
         inputs.push((format!("a last line of {length} bytes"), input));
     }
     for length in [BLOCK - 1, BLOCK, BLOCK + 1, 2 * BLOCK] {
@@ -161,15 +161,15 @@ fn ends() -> Vec<Trial> {
 }
 
 const CUT: [&str; 9] = [
-    "commit 1 10 60 1 ?",
-    "preview 2 10 60 1",
-    "commit 1 10 60 1 0",
+    "commit 1 1 10 60 1 ?",
+    "preview 1 2 10 60 1",
+    "commit 1 1 10 60 1 0",
     "enquire 2",
     "# no answer",
     "",
     "x",
     "move 3 360",
-    "offer 21 0",
+    "offer 1 21 0",
 ];
 
 /// Each line cut at each place, its begin and its end too.
@@ -309,7 +309,7 @@ fn short_lines() -> Trial {
     let mut random = Random::new(5);
     let mut input = Vec::new();
     while input.len() < 3 * BLOCK {
-        let line = random.pick(&["x", "x", "x", "y", "open", "open x", "lines", "#", "lines 0"]);
+        let line = random.pick(&["x", "x", "x", "y", "open", "open x", "lines", "#", "lines 0 0"]);
         input.extend(line.as_bytes());
         input.push(b'\n');
     }
@@ -318,7 +318,7 @@ fn short_lines() -> Trial {
 
 /// Answers of a thousand bytes and more, among short ones.
 fn long_reports() -> Trial {
-    let mut input = b"open 60 100 0\n".to_vec();
+    let mut input = b"open 1 720 60 100 0\n".to_vec();
     for turn in 1.. {
         if input.len() > 4 * BLOCK {
             break;
@@ -326,7 +326,7 @@ fn long_reports() -> Trial {
         // Sixty in a minute, for three minutes.
         for place in 0..180 {
             let start = 3 * (turn - 1) + place / 60;
-            input.extend(format!("commit 1 1 9 1 {start}\n").into_bytes());
+            input.extend(format!("commit 1 1 1 9 1 {start}\n").into_bytes());
         }
         input.extend(format!("move {} 360\n", 3 * turn).into_bytes());
     }
@@ -371,7 +371,7 @@ mod tests {
         for trial in [short_lines(), long_reports()] {
             let block = script::split(&trial.input[..BLOCK]);
             let answers = script::join(&script::reference_answers(&block));
-            assert!(answers.len() > 3 * BLOCK / 2, "{}: {}", trial.title, answers.len());
+            assert!(answers.len() > 4 * BLOCK / 3, "{}: {}", trial.title, answers.len());
         }
     }
 }

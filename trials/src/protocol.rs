@@ -2,13 +2,13 @@
 //!
 //! | line | answer |
 //! | --- | --- |
-//! | `open N c r` | `open 0 D`, or `refused K` |
-//! | `preview line p d rate` | `start S`, or `refused K` |
-//! | `commit line p d rate S` | `ticket T start S`, or `refused K` |
+//! | `open COUNT W N c r` and up to three further `N c r` | `open 0 D1 ..`, or `refused K` |
+//! | `preview feeder line p d rate` | `start S`, or `refused K` |
+//! | `commit feeder line p d rate S` | `ticket T start S`, or `refused K` |
 //! | `move target places` | `moved R dropped X T S T S ..`, or `refused K` |
-//! | `offer s1 s2 ..` | `plan CAUSE BEFORE AFTER ROUNDS`, or `refused 10` |
-//! | `latest` | `plan ..` |
-//! | `lines allowance` | `plan ..`, or `refused 11` |
+//! | `offer feeder s1 s2 ..` | `plan CAUSE BEFORE AFTER ROUNDS`, or `refused K` |
+//! | `latest feeder` | `plan ..`, or `refused 29` |
+//! | `lines feeder allowance` | `plan ..`, or `refused K` |
 //! | `enquire T` | `waiting S RATE`, `charging S E RATE`, or `refused 15` |
 //! | `board places t1 t2 ..` | `board LOOKED A1 A2 ..`, or `refused K` |
 //! | `withdraw T` | `withdrawn`, or `refused K` |
@@ -16,7 +16,9 @@
 //! Words are separated by exactly one space byte. Empty lines and lines that
 //! begin with `#` get no answer. Anything else gets `error` and a reason.
 
-use crate::yard::{Committed, Found, Moved, Order, Planned, Refusal};
+use crate::yard::{
+    Committed, Found, Moved, Opening, Order, Planned, Refusal, Settings, MOST_FEEDERS,
+};
 
 /// More bytes than these in a line, without the line feed, are too many.
 pub const LONGEST_LINE: usize = 4096;
@@ -25,13 +27,13 @@ pub const MOST_PLACES: u32 = 4096;
 
 #[derive(Clone, Debug, PartialEq, Eq)]
 pub enum Call {
-    Open { limit: u32, percent: u32, tail: u32 },
+    Open { opening: Opening },
     Preview { order: Order },
     Commit { order: Order, shown: u32 },
     Move { target: u32, places: u32 },
-    Offer { starts: Vec<u32> },
-    Latest,
-    Lines { allowance: u32 },
+    Offer { feeder: u32, starts: Vec<u32> },
+    Latest { feeder: u32 },
+    Lines { feeder: u32, allowance: u32 },
     Enquire { ticket: u32 },
     Board { places: u32, tickets: Vec<u32> },
     Withdraw { ticket: u32 },
@@ -71,21 +73,21 @@ pub fn read_call(text: &[u8]) -> Result<Option<Call>, Fault> {
     }
     let mut words = text.split(|byte| *byte == b' ');
     let call = match words.next().unwrap_or(b"") {
-        b"open" => numbers(words).map(|[limit, percent, tail]| Call::Open { limit, percent, tail }),
-        b"preview" => numbers(words).map(|[line, time, due, rate]| {
-            let order = Order { line, time, due, rate };
+        b"open" => opening(words).map(|opening| Call::Open { opening }),
+        b"preview" => numbers(words).map(|[feeder, line, time, due, rate]| {
+            let order = Order { feeder, line, time, due, rate };
             Call::Preview { order }
         }),
-        b"commit" => numbers(words).map(|[line, time, due, rate, shown]| {
-            let order = Order { line, time, due, rate };
+        b"commit" => numbers(words).map(|[feeder, line, time, due, rate, shown]| {
+            let order = Order { feeder, line, time, due, rate };
             Call::Commit { order, shown }
         }),
         b"move" => numbers(words).map(|[target, places]| Call::Move { target, places }),
-        b"offer" => list(words).map(|starts| Call::Offer { starts }),
-        b"latest" => numbers(words).map(|[]| Call::Latest),
-        b"lines" => numbers(words).map(|[allowance]| Call::Lines { allowance }),
+        b"offer" => headed(words).map(|(feeder, starts)| Call::Offer { feeder, starts }),
+        b"latest" => numbers(words).map(|[feeder]| Call::Latest { feeder }),
+        b"lines" => numbers(words).map(|[feeder, allowance]| Call::Lines { feeder, allowance }),
         b"enquire" => numbers(words).map(|[ticket]| Call::Enquire { ticket }),
-        b"board" => board(words),
+        b"board" => headed(words).map(|(places, tickets)| Call::Board { places, tickets }),
         b"withdraw" => numbers(words).map(|[ticket]| Call::Withdraw { ticket }),
         _ => Err(Fault::UnknownCall),
     };
@@ -96,14 +98,38 @@ pub fn read_call(text: &[u8]) -> Result<Option<Call>, Fault> {
 fn numbers<'a, const K: usize>(
     mut words: impl Iterator<Item = &'a [u8]>,
 ) -> Result<[u32; K], Fault> {
-    let mut values = [0; K];
-    for value in &mut values {
-        *value = number(words.next().ok_or(Fault::MissingNumber)?)?;
-    }
+    let values = first_numbers(&mut words)?;
     match words.next() {
         Some(_) => Err(Fault::ExtraNumber),
         None => Ok(values),
     }
+}
+
+/// The next `K` numbers, whatever follows.
+fn first_numbers<'a, const K: usize>(
+    words: &mut impl Iterator<Item = &'a [u8]>,
+) -> Result<[u32; K], Fault> {
+    let mut values = [0; K];
+    for value in &mut values {
+        *value = number(words.next().ok_or(Fault::MissingNumber)?)?;
+    }
+    Ok(values)
+}
+
+/// The count and W, one feeder's settings, and up to three further ones: where a word follows
+/// there have to be three numbers, and after the fourth feeder there is one too many.
+fn opening<'a>(words: impl Iterator<Item = &'a [u8]>) -> Result<Opening, Fault> {
+    let mut words = words.peekable();
+    let [count, site_limit] = first_numbers(&mut words)?;
+    let mut feeders = Vec::with_capacity(MOST_FEEDERS);
+    while feeders.is_empty() || words.peek().is_some() {
+        if feeders.len() == MOST_FEEDERS {
+            return Err(Fault::ExtraNumber);
+        }
+        let [limit, percent, tail] = first_numbers(&mut words)?;
+        feeders.push(Settings { limit, percent, tail });
+    }
+    Ok(Opening { count, site_limit, feeders })
 }
 
 /// As many numbers as the line has, judged from left to right: whether they are
@@ -112,10 +138,11 @@ fn list<'a>(words: impl Iterator<Item = &'a [u8]>) -> Result<Vec<u32>, Fault> {
     words.map(number).collect()
 }
 
-/// How many places are lent, and then the tickets.
-fn board<'a>(mut words: impl Iterator<Item = &'a [u8]>) -> Result<Call, Fault> {
-    let places = number(words.next().ok_or(Fault::MissingNumber)?)?;
-    Ok(Call::Board { places, tickets: list(words)? })
+/// One number, and then a list: the feeder and the starts, or how many places are lent and the
+/// tickets.
+fn headed<'a>(mut words: impl Iterator<Item = &'a [u8]>) -> Result<(u32, Vec<u32>), Fault> {
+    let [head] = first_numbers(&mut words)?;
+    Ok((head, list(words)?))
 }
 
 /// A decimal number of 32 bits. Leading zeros don't count, so the digits alone
@@ -137,13 +164,13 @@ fn number(word: &[u8]) -> Result<u32, Fault> {
 /// Writes the line of a call; `read_call` reads it back.
 pub fn write_call(call: &Call) -> String {
     match call {
-        Call::Open { limit, percent, tail } => format!("open {limit} {percent} {tail}"),
+        Call::Open { opening } => write_opening(opening),
         Call::Preview { order } => format!("preview {}", write_order(order)),
         Call::Commit { order, shown } => format!("commit {} {shown}", write_order(order)),
         Call::Move { target, places } => format!("move {target} {places}"),
-        Call::Offer { starts } => format!("offer{}", write_list(starts)),
-        Call::Latest => "latest".to_string(),
-        Call::Lines { allowance } => format!("lines {allowance}"),
+        Call::Offer { feeder, starts } => format!("offer {feeder}{}", write_list(starts)),
+        Call::Latest { feeder } => format!("latest {feeder}"),
+        Call::Lines { feeder, allowance } => format!("lines {feeder} {allowance}"),
         Call::Enquire { ticket } => format!("enquire {ticket}"),
         Call::Board { places, tickets } => format!("board {places}{}", write_list(tickets)),
         Call::Withdraw { ticket } => format!("withdraw {ticket}"),
@@ -156,8 +183,15 @@ fn write_list(numbers: &[u32]) -> String {
 }
 
 fn write_order(order: &Order) -> String {
-    let Order { line, time, due, rate } = order;
-    format!("{line} {time} {due} {rate}")
+    let Order { feeder, line, time, due, rate } = order;
+    format!("{feeder} {line} {time} {due} {rate}")
+}
+
+fn write_opening(opening: &Opening) -> String {
+    let Opening { count, site_limit, feeders } = opening;
+    let settings = |feeder: &Settings| [feeder.limit, feeder.percent, feeder.tail];
+    let numbers: Vec<u32> = feeders.iter().flat_map(settings).collect();
+    format!("open {count} {site_limit}{}", write_list(&numbers))
 }
 
 /// Appends a word and numbers to an answer, separated by single spaces.
@@ -193,8 +227,12 @@ pub fn write_refusal(out: &mut Vec<u8>, refusal: Refusal) {
     words(out, "refused", &[u64::from(refusal)]);
 }
 
-pub fn write_opened(out: &mut Vec<u8>, bound: u32) {
-    words(out, "open", &[0, u64::from(bound)]);
+/// One bound for each feeder.
+pub fn write_opened(out: &mut Vec<u8>, bounds: &[u32]) {
+    words(out, "open", &[0]);
+    for bound in bounds {
+        words(out, "", &[u64::from(*bound)]);
+    }
 }
 
 pub fn write_previewed(out: &mut Vec<u8>, start: u64) {

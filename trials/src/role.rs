@@ -1,6 +1,7 @@
 //! What a program under trial is to be: a console, or a bus over an image (N8). Both are
 //! given the same scripts. A bus holds no station before the first opening, and an opening
-//! that is refused leaves its image, where a console has the station of 1, 100.
+//! that is refused leaves its image, where a console has the station of 1, 100; so does an
+//! opening of several feeders, which a bus cannot save (N14).
 
 use crate::bus::files::Shelf;
 use crate::bus::images::Reference;
@@ -29,8 +30,9 @@ impl Role {
     }
 
     /// The calls and answers that demand 3 speaks of. Those of a bus are without what was
-    /// refused for its image, and without the numbers of blocks; None is a list with a refused opening, after which a bus
-    /// goes on with a station whose tickets the script does not ask for.
+    /// refused for its image, and without the numbers of blocks; None is a list with a refused
+    /// opening, be it for its feeders (N14), after which a bus goes on with a station whose
+    /// tickets the script does not ask for.
     pub fn list_of_calls(self, lines: &[Line], answers: &[Line]) -> Option<(Vec<Line>, Vec<Line>)> {
         if self == Role::Console {
             return Some((lines.to_vec(), answers.to_vec()));
@@ -38,16 +40,14 @@ impl Role {
         let refusals = [image::SIZE, image::CHECK, image::CONTENTS];
         let refused = refusals.map(|number| format!("refused {number}").into_bytes());
         let pairs = script::answered(lines).zip(answers);
-        let calls = pairs.filter(|(line, _)| !line.starts_with(b"write "));
-        let made: Vec<_> = calls.filter(|(_, answer)| !refused.contains(answer)).collect();
+        let calls: Vec<_> = pairs.filter(|(line, _)| !line.starts_with(b"write ")).collect();
         let is_refused_opening = |line: &Line, answer: &Line| {
             line.starts_with(b"open ") && answer.starts_with(b"refused")
         };
-        match made.iter().any(|(line, answer)| is_refused_opening(line, answer)) {
+        let made = calls.iter().filter(|(_, answer)| !refused.contains(answer));
+        match calls.iter().any(|(line, answer)| is_refused_opening(line, answer)) {
             true => None,
-            false => Some(
-                made.into_iter().map(|(line, answer)| (line.clone(), unblocked(answer))).unzip(),
-            ),
+            false => Some(made.map(|(line, answer)| ((*line).clone(), unblocked(answer))).unzip()),
         }
     }
 }

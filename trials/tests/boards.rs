@@ -8,12 +8,13 @@ use common::{breaks_demand_3, caught, expect, fast, lines, reference};
 use std::collections::BTreeSet;
 use trials::interpret::Interpreter;
 use trials::protocol::{read_call, Call};
-use trials::yard::{Order, Yard, NOT_HELD};
+use trials::yard::{Opening, Order, Yard, NOT_HELD};
 use trials::{demand, generate, script};
 
 /// Tickets 1, 3 and 4 are held, 2 is gone, 5 is not yet given. Ticket 1 charges, 3 and 4 wait.
-const YARD: &str = "open 2 50 0\ncommit 1 10 60 1 0\ncommit 2 3 60 1 0\ncommit 1 10 60 1 10\n\
-                    commit 1 10 60 1 20\nmove 3 360\n";
+const YARD: &str =
+    "open 1 720 2 50 0\ncommit 1 1 10 60 1 0\ncommit 1 2 3 60 1 0\ncommit 1 1 10 60 1 10\n\
+                    commit 1 1 10 60 1 20\nmove 3 360\n";
 
 fn after(more: &str, expected: &[&str]) {
     let mut all = vec!["open 0 1", "ticket 1 start 0", "ticket 2 start 0", "ticket 3 start 10"];
@@ -61,8 +62,8 @@ fn boards_refused() {
 /// "Later places of the answer list are kept", and "the station and every list stay" beside
 /// a refusal.
 fn answer_list(mut yard: impl Yard) -> Result<(), &'static str> {
-    let order = Order { line: 1, time: 5, due: 9, rate: 1 };
-    yard.open(1, 100, 0).map_err(|_| "open")?;
+    let order = Order { feeder: 1, line: 1, time: 5, due: 9, rate: 1 };
+    yard.open(&Opening::of_one(1, 100, 0)).map_err(|_| "open")?;
     yard.commit(order, 0).map_err(|_| "commit")?;
     yard.commit(order, 5).map_err(|_| "commit")?;
     let untouched: Vec<u32> = (0..400).map(|place| 7 * place + 1).collect();

@@ -10,7 +10,7 @@ use trials::{between, damage, kills};
 use wrong::{Fault, Inside};
 
 /// With a word of the title under which the trials of images find them.
-const FOUND: [(Fault, &str); 23] = [
+const FOUND: [(Fault, &str); 27] = [
     (Fault::CheckWithoutPlace, "Limit"),
     (Fault::CheckOf507Bytes, "Held"),
     (Fault::BigEndian, "valid"),
@@ -30,6 +30,10 @@ const FOUND: [(Fault, &str); 23] = [
     (Fault::SoundInThePast, "valid"),
     (Fault::DueRefused, "valid"),
     (Fault::Only180Tickets, "valid"),
+    (Fault::SiteExceededTaken, "SiteExceeded"),
+    (Fault::AnySiteLimit, "SiteLimit"),
+    (Fault::SeveralRefusedFirst, "Limit"),
+    (Fault::FirstOfSeveralSaved, "Limit"),
     (Fault::SavedAfterRefusal, "bytes"),
     (Fault::OpeningReadsTheImage, "Limit"),
     (Fault::OwnRefusalFirst, "bytes"),
@@ -96,14 +100,19 @@ fn the_second_implementations_bus_as_a_program() {
     let choice = Choice { scripts: 45, ..choice("mixed") };
     let summary = compare(&program, &choice).map_err(|failure| failure.what);
     assert_eq!(summary.map(|summary| summary.scripts), Ok(47));
-    let outcome =
-        program.answers(b"latest\nlatest 1\nread\nread /\nopen 5 20 0\nopen 61 20 0\nlatest\n");
-    assert_eq!(outcome.answers.len(), 7);
+    let outcome = program.answers(
+        b"latest 1\nlatest 1 1\nread\nread /\nopen 1 720 5 20 0\nopen 1 720 61 20 0\nlatest 1\n\
+open 2 9 5 20 0 5 20 0\nopen 2 0 5 20 0 5 20 0\nlatest 2\n",
+    );
+    assert_eq!(outcome.answers.len(), 10);
     assert_eq!(outcome.answers[0], b"refused 22");
     assert_eq!(outcome.answers[1], b"error extra number");
     assert_eq!(outcome.answers[4], b"open 0 1 blocks 1");
     assert_eq!(outcome.answers[5], b"refused 1");
     assert_eq!(outcome.answers[6], b"plan 7 0 0 0 blocks 0");
+    assert_eq!(outcome.answers[7], b"refused 22");
+    assert_eq!(outcome.answers[8], b"refused 28");
+    assert_eq!(outcome.answers[9], b"refused 29");
 }
 
 /// Stops of a bus that keeps its image in a file.

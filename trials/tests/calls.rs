@@ -6,28 +6,31 @@ mod common;
 use common::{answers, expect, fast, lines, reference};
 use trials::fill::fill;
 use trials::script;
-use trials::yard::{Moved, Order, Yard};
+use trials::yard::{Moved, Opening, Order, Yard};
 
 const WORD: &str = "4294967295";
 
 #[test]
 fn openings_refused() {
     expect(
-        "open 0 100 0\nopen 61 101 0\nopen 1 101 0\nopen 60 101 0",
+        "open 1 720 0 100 0\nopen 1 720 61 101 0\nopen 1 720 1 101 0\nopen 1 720 60 101 0",
         &["refused 1", "refused 1", "refused 2", "refused 2"],
     );
     expect(
-        "open 1 50 0\nopen 1 51 0\nopen 50 1 0\nopen 51 1 0\nopen 59 0 0",
+        "open 1 720 1 50 0\nopen 1 720 1 51 0\nopen 1 720 50 1 0\nopen 1 720 51 1 0\nopen 1 720 59 0 0",
         &["refused 3", "open 0 1", "refused 3", "open 0 1", "refused 3"],
     );
-    expect(&format!("open {WORD} {WORD} {WORD}\nopen 60 {WORD} 0"), &["refused 1", "refused 2"]);
+    expect(
+        &format!("open 1 720 {WORD} {WORD} {WORD}\nopen 1 720 60 {WORD} 0"),
+        &["refused 1", "refused 2"],
+    );
 }
 
 /// "Beside a refused opening stands the fresh station of 1, 100."
 #[test]
 fn a_refused_opening_leaves_the_small_station() {
     let text =
-        "open 60 100 0\ncommit 1 5 5 1 0\ncommit 1 5 5 1 0\nopen 60 101 0\ncommit 1 5 5 1 0\ncommit 1 5 9 1 5\nenquire 3";
+        "open 1 720 60 100 0\ncommit 1 1 5 5 1 0\ncommit 1 1 5 5 1 0\nopen 1 720 60 101 0\ncommit 1 1 5 5 1 0\ncommit 1 1 5 9 1 5\nenquire 3";
     let expected = [
         "open 0 60",
         "ticket 1 start 0",
@@ -57,10 +60,10 @@ fn orders_refused_by_the_first_place() {
         ("1 1440 2000001 1".to_string(), "refused 6"),
     ];
     for (order, refused) in orders {
-        let text = format!("preview {order}\ncommit {order} 0\ncommit {order} {WORD}");
+        let text = format!("preview 1 {order}\ncommit 1 {order} 0\ncommit 1 {order} {WORD}");
         expect(&text, &[refused; 3]);
     }
-    let text = format!("preview 1 1440 2000000 1\ncommit 1 1440 2000000 1 {WORD}");
+    let text = format!("preview 1 1 1440 2000000 1\ncommit 1 1 1440 2000000 1 {WORD}");
     expect(&text, &["start 0", "refused 16"]);
 }
 
@@ -69,8 +72,8 @@ fn orders_refused_by_the_first_place() {
 #[test]
 fn previews_change_nothing() {
     let text =
-        "open 1 100 0\npreview 1 5 9 1\npreview 1 5 9 1\nenquire 1\nlatest\noffer\nmove 9 360\n\
-                preview 1 5 9 1\ncommit 1 5 9 1 9";
+        "open 1 720 1 100 0\npreview 1 1 5 9 1\npreview 1 1 5 9 1\nenquire 1\nlatest 1\noffer 1\nmove 9 360\n\
+                preview 1 1 5 9 1\ncommit 1 1 5 9 1 9";
     let mut expected = vec!["open 0 1", "start 0", "start 0", "refused 15", "plan 7 0 0 0"];
     expected.extend(["plan 7 0 0 0", "moved 0 dropped 0", "start 9", "ticket 1 start 9"]);
     expect(text, &expected);
@@ -82,9 +85,9 @@ fn previews_change_nothing() {
 #[test]
 fn starts_that_are_not_the_earliest_any_more() {
     let text = format!(
-        "open 1 100 0\ncommit 1 10 60 1 0\ncommit 1 10 15 1 10\npreview 2 5 90 1\nmove 1 360\n\
-         commit 2 5 90 1 0\ncommit 2 5 90 1 2\ncommit 2 5 90 1 1\npreview 2 5 90 1\n\
-         commit 2 5 90 1 6\ncommit 2 5 90 1 6\ncommit 2 5 90 1 {WORD}\npreview 2 5 90 1\ncommit 2 5 90 1 11"
+        "open 1 720 1 100 0\ncommit 1 1 10 60 1 0\ncommit 1 1 10 15 1 10\npreview 1 2 5 90 1\nmove 1 360\n\
+         commit 1 2 5 90 1 0\ncommit 1 2 5 90 1 2\ncommit 1 2 5 90 1 1\npreview 1 2 5 90 1\n\
+         commit 1 2 5 90 1 6\ncommit 1 2 5 90 1 6\ncommit 1 2 5 90 1 {WORD}\npreview 1 2 5 90 1\ncommit 1 2 5 90 1 11"
     );
     let mut expected = vec!["open 0 1", "ticket 1 start 0", "ticket 2 start 10", "start 0"];
     expected.extend(["moved 1 dropped 0 1 0", "refused 16", "refused 16", "ticket 3 start 1"]);
@@ -92,8 +95,8 @@ fn starts_that_are_not_the_earliest_any_more() {
     expected.extend(["start 11", "ticket 5 start 11"]);
     expect(&text, &expected);
     let text =
-        "open 1 100 0\ncommit 1 5 60 1 0\ncommit 1 5 5 1 5\ncommit 2 3 60 1 0\npreview 2 3 60 1\n\
-                offer 5 0 4\ncommit 2 3 60 1 3\ncommit 2 3 60 1 7\ncommit 2 3 60 1 0";
+        "open 1 720 1 100 0\ncommit 1 1 5 60 1 0\ncommit 1 1 5 5 1 5\ncommit 1 2 3 60 1 0\npreview 1 2 3 60 1\n\
+                offer 1 5 0 4\ncommit 1 2 3 60 1 3\ncommit 1 2 3 60 1 7\ncommit 1 2 3 60 1 0";
     let mut expected = vec!["open 0 1", "ticket 1 start 0", "ticket 2 start 5"];
     expected.extend(["ticket 3 start 0", "start 3", "plan 0 5 0 0"]);
     expected.extend(["refused 16", "refused 16", "ticket 4 start 0"]);
@@ -125,7 +128,7 @@ fn moves_refused() {
 #[test]
 fn lists_allowances_and_tickets_refused() {
     let text = format!(
-        "open 1 100 0\ncommit 1 10 60 1 0\noffer\noffer 0 0\nlines 0\nlines 1001\nlines {WORD}\n\
+        "open 1 720 1 100 0\ncommit 1 1 10 60 1 0\noffer 1\noffer 1 0 0\nlines 1 0\nlines 1 1001\nlines 1 {WORD}\n\
          enquire 0\nenquire 2\nenquire {WORD}\nenquire 1\nmove 10 360\nenquire 1"
     );
     let expected = [
@@ -148,9 +151,9 @@ fn lists_allowances_and_tickets_refused() {
 
 /// "the station and every list stay", and "Places after them keep what they held".
 fn report_list<Y: Yard>(mut yard: Y) {
-    yard.open(2, 50, 0).unwrap();
-    yard.commit(Order { line: 1, time: 5, due: 9, rate: 1 }, 0).unwrap();
-    yard.commit(Order { line: 2, time: 5, due: 9, rate: 1 }, 0).unwrap();
+    yard.open(&Opening::of_one(2, 50, 0)).unwrap();
+    yard.commit(Order { feeder: 1, line: 1, time: 5, due: 9, rate: 1 }, 0).unwrap();
+    yard.commit(Order { feeder: 1, line: 2, time: 5, due: 9, rate: 1 }, 0).unwrap();
     let untouched: Vec<u32> = (0..400).map(|place| 7 * place + 1).collect();
     let mut list = untouched.clone();
     assert_eq!(yard.move_clock(1_000_001, &mut list), Err(8));
@@ -174,7 +177,7 @@ fn report_lists_are_left_alone() {
 #[test]
 fn a_move_over_everything() {
     let text =
-        "open 1 100 0\ncommit 1 3 9 1 0\ncommit 1 3 9 1 3\ncommit 2 3 9 1 0\nmove 7 360\nmove 7 360";
+        "open 1 720 1 100 0\ncommit 1 1 3 9 1 0\ncommit 1 1 3 9 1 3\ncommit 1 2 3 9 1 0\nmove 7 360\nmove 7 360";
     let expected = [
         "open 0 1",
         "ticket 1 start 0",
@@ -191,9 +194,9 @@ fn a_move_over_everything() {
 #[test]
 fn causes_of_offers_in_their_order() {
     let text = format!(
-        "open 2 50 0\ncommit 1 5 5 1 0\ncommit 1 5 5 1 5\ncommit 1 5 5 1 10\nmove 1 360\n\
-         offer 0 {WORD}\noffer {WORD} 10\noffer 4294967290 10\noffer 11 10\n\
-         offer 5 5\noffer 1 5\noffer 5 6\noffer 1 1\noffer 10 5\noffer 5 10"
+        "open 1 720 2 50 0\ncommit 1 1 5 5 1 0\ncommit 1 1 5 5 1 5\ncommit 1 1 5 5 1 10\nmove 1 360\n\
+         offer 1 0 {WORD}\noffer 1 {WORD} 10\noffer 1 4294967290 10\noffer 1 11 10\n\
+         offer 1 5 5\noffer 1 1 5\noffer 1 5 6\noffer 1 1 1\noffer 1 10 5\noffer 1 5 10"
     );
     let expected = [
         "open 0 1",
@@ -218,8 +221,8 @@ fn causes_of_offers_in_their_order() {
 /// A difference in an early minute and a count too high in a late one: cause 5.
 #[test]
 fn a_late_count_beats_an_early_difference() {
-    let text = "open 2 50 0\ncommit 1 5 5 1 0\ncommit 1 5 5 1 5\ncommit 1 5 5 1 10\ncommit 1 5 5 1 15\ncommit 1 5 5 1 20\n\
-                offer 0 0 10 10 10";
+    let text = "open 1 720 2 50 0\ncommit 1 1 5 5 1 0\ncommit 1 1 5 5 1 5\ncommit 1 1 5 5 1 10\ncommit 1 1 5 5 1 15\ncommit 1 1 5 5 1 20\n\
+                offer 1 0 0 10 10 10";
     let last = trials::script::reference_answers(&common::lines(text)).pop().unwrap();
     assert_eq!(trials::script::show(&last), "plan 5 50 50 0");
 }
@@ -228,8 +231,8 @@ fn a_late_count_beats_an_early_difference() {
 #[test]
 fn counts_past_a_byte() {
     for count in [128, 180] {
-        let queue = "commit 1 1 1 2 ?\n".repeat(count);
-        let text = format!("open 60 100 0\n{queue}offer{}", " 0".repeat(count));
+        let queue = "commit 1 1 1 1 2 ?\n".repeat(count);
+        let text = format!("open 1 720 60 100 0\n{queue}offer 1{}", " 0".repeat(count));
         let text = script::show(&script::join(&fill(reference(), &lines(&text))));
         for answers in [answers(reference(), &text), answers(fast(), &text)] {
             assert!(answers.last().is_some_and(|last| last.starts_with("plan 5 ")));
@@ -241,8 +244,8 @@ fn counts_past_a_byte() {
 /// starts too early, and nothing of line 1 was placed.
 #[test]
 fn by_lines_without_a_placed_charge() {
-    let text = "open 6 17 0\ncommit 1 9 9 1 0\ncommit 2 2 2 1 0\ncommit 2 7 7 1 2\ncommit 3 9 9 1 0\ncommit 1 9 9 1 0\n\
-                move 1 360\nlines 1\nlines 1000";
+    let text = "open 1 720 6 17 0\ncommit 1 1 9 9 1 0\ncommit 1 2 2 2 1 0\ncommit 1 2 7 7 1 2\ncommit 1 3 9 9 1 0\ncommit 1 1 9 9 1 0\n\
+                move 1 360\nlines 1 1\nlines 1 1000";
     let expected = [
         "open 0 1",
         "ticket 1 start 0",

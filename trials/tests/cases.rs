@@ -6,18 +6,18 @@ use common::{answers, expect, fast, lines, reference};
 use trials::demand;
 use trials::script;
 
-const E: &str = "open 2 50 0
-commit 1 10 60 1 0
-commit 3 10 60 1 0
-commit 2 5 60 1 0
-commit 2 5 60 1 0
-commit 2 5 20 1 5
-commit 1 10 60 1 0
+const E: &str = "open 1 720 2 50 0
+commit 1 1 10 60 1 0
+commit 1 3 10 60 1 0
+commit 1 2 5 60 1 0
+commit 1 2 5 60 1 0
+commit 1 2 5 20 1 5
+commit 1 1 10 60 1 0
 ";
 
-const H: &str = "open 1 100 0
-commit 1 10 60 1 0
-commit 1 10 15 1 10
+const H: &str = "open 1 720 1 100 0
+commit 1 1 10 60 1 0
+commit 1 1 10 15 1 10
 ";
 
 /// Case h's opening and orders with more lines, and the answers to those.
@@ -29,16 +29,16 @@ fn after_h(more: &str, expected: &[&str]) {
 
 #[test]
 fn a_to_d_open() {
-    expect("open 5 20 0", &["open 0 1"]);
-    expect("open 10 10 0", &["open 0 1"]);
-    expect("open 9 11 0", &["open 0 1"]);
-    expect("open 60 100 0\nopen 61 100 0", &["open 0 60", "refused 1"]);
+    expect("open 1 720 5 20 0", &["open 0 1"]);
+    expect("open 1 720 10 10 0", &["open 0 1"]);
+    expect("open 1 720 9 11 0", &["open 0 1"]);
+    expect("open 1 720 60 100 0\nopen 1 720 61 100 0", &["open 0 60", "refused 1"]);
 }
 
 /// N3: hundredths, and the bound.
 #[test]
 fn n3_bounds_are_rounded_to_nearest() {
-    let text = "open 30 5 0\nopen 30 15 0\nopen 10 5 0\nopen 50 1 0\nopen 17 3 0\nopen 9 11 0\nopen 2 75 0";
+    let text = "open 1 720 30 5 0\nopen 1 720 30 15 0\nopen 1 720 10 5 0\nopen 1 720 50 1 0\nopen 1 720 17 3 0\nopen 1 720 9 11 0\nopen 1 720 2 75 0";
     let expected =
         ["open 0 2", "open 0 4", "refused 3", "refused 3", "open 0 1", "open 0 1", "open 0 2"];
     expect(text, &expected);
@@ -51,7 +51,7 @@ fn n3_every_bound() {
     for limit in 1..=60u32 {
         for percent in 0..=100u32 {
             let exact = i64::from(limit * percent);
-            let answer = answers(reference(), &format!("open {limit} {percent} 0")).remove(0);
+            let answer = answers(reference(), &format!("open 1 720 {limit} {percent} 0")).remove(0);
             let bound = answer.strip_prefix("open 0 ").map_or(0, |bound| bound.parse().unwrap());
             let away = (100 * bound - exact).abs();
             assert!(away < 50 || (away == 50 && bound % 2 == 0), "{limit} {percent}: {answer}");
@@ -63,7 +63,7 @@ fn n3_every_bound() {
 
 #[test]
 fn e_to_g_begun_charges_lean_on_a_waiting_one() {
-    let more = "move 1 360\ncommit 3 3 10 1 1\nlatest\nenquire 5\nenquire 7";
+    let more = "move 1 360\ncommit 1 3 3 10 1 1\nlatest 1\nenquire 5\nenquire 7";
     let expected = [
         "open 0 1",
         "ticket 1 start 0",
@@ -83,48 +83,48 @@ fn e_to_g_begun_charges_lean_on_a_waiting_one() {
 
 #[test]
 fn h_both_replans_are_taken() {
-    after_h("latest\nenquire 1\nenquire 2", &["plan 0 5 0 0", "waiting 10 1", "waiting 0 1"]);
-    after_h("lines 1000\nenquire 1\nenquire 2", &["plan 0 5 0 1", "waiting 10 1", "waiting 0 1"]);
-    after_h("lines 1", &["plan 0 5 0 1"]);
+    after_h("latest 1\nenquire 1\nenquire 2", &["plan 0 5 0 0", "waiting 10 1", "waiting 0 1"]);
+    after_h("lines 1 1000\nenquire 1\nenquire 2", &["plan 0 5 0 1", "waiting 10 1", "waiting 0 1"]);
+    after_h("lines 1 1", &["plan 0 5 0 1"]);
 }
 
 #[test]
 fn i_moved_before_the_replan() {
-    after_h("move 1 360\nlatest", &["moved 1 dropped 0 1 0", "plan 7 5 5 0"]);
-    after_h("move 1 360\nlines 1000", &["moved 1 dropped 0 1 0", "plan 7 5 5 1"]);
+    after_h("move 1 360\nlatest 1", &["moved 1 dropped 0 1 0", "plan 7 5 5 0"]);
+    after_h("move 1 360\nlines 1 1000", &["moved 1 dropped 0 1 0", "plan 7 5 5 1"]);
 }
 
 #[test]
 fn j_offers() {
-    after_h("offer 10 0", &["plan 0 5 0 0"]);
-    after_h("offer 10 1", &["plan 5 5 5 0"]);
-    after_h("offer 11 0", &["plan 4 5 5 0"]);
+    after_h("offer 1 10 0", &["plan 0 5 0 0"]);
+    after_h("offer 1 10 1", &["plan 5 5 5 0"]);
+    after_h("offer 1 11 0", &["plan 4 5 5 0"]);
 }
 
 #[test]
 fn k_rounds() {
-    let k = "open 2 50 0\ncommit 1 10 60 1 0\ncommit 1 10 60 1 10\n";
+    let k = "open 1 720 2 50 0\ncommit 1 1 10 60 1 0\ncommit 1 1 10 60 1 10\n";
     let opened = ["open 0 1", "ticket 1 start 0", "ticket 2 start 10"];
-    expect(&format!("{k}lines 2"), &[&opened[..], &["plan 7 0 0 2"]].concat());
-    expect(&format!("{k}lines 1"), &[&opened[..], &["plan 2 0 0 1"]].concat());
+    expect(&format!("{k}lines 1 2"), &[&opened[..], &["plan 7 0 0 2"]].concat());
+    expect(&format!("{k}lines 1 1"), &[&opened[..], &["plan 2 0 0 1"]].concat());
 }
 
 #[test]
 fn l_nothing_waits() {
-    for open in ["", "open 2 50 0\n", "open 60 100 0\n"] {
+    for open in ["", "open 1 720 2 50 0\n", "open 1 720 60 100 0\n"] {
         let opened = answers(reference(), open);
         let mut expected: Vec<&str> = opened.iter().map(String::as_str).collect();
         expected.extend(["plan 7 0 0 0", "plan 7 0 0 1", "plan 7 0 0 0"]);
-        expect(&format!("{open}latest\nlines 5\noffer"), &expected);
+        expect(&format!("{open}latest 1\nlines 1 5\noffer 1"), &expected);
     }
 }
 
 /// N1: latest starts 0, -3, 4 and -10.
-const HURRY: &str = "open 1 100 0
-commit 1 40 40 1 0
-commit 1 10 7 1 40
-commit 1 20 24 1 50
-commit 1 10 0 1 70
+const HURRY: &str = "open 1 720 1 100 0
+commit 1 1 40 40 1 0
+commit 1 1 10 7 1 40
+commit 1 1 20 24 1 50
+commit 1 1 10 0 1 70
 ";
 
 /// By latest start tickets 4, 2, 1, 3. By lines (N5) tickets 4 and 2 are the shortest of
@@ -138,7 +138,7 @@ fn n1_latest_starts_below_zero_come_before_zero() {
     expected.push("ticket 4 start 70");
     let latest = ["plan 0 169 99 0", "waiting 0 1", "waiting 10 1", "waiting 20 1", "waiting 60 1"];
     let lines = ["plan 0 169 79 1", "waiting 0 1", "waiting 10 1", "waiting 40 1", "waiting 20 1"];
-    for (replan, answers) in [("latest", latest), ("lines 1", lines)] {
+    for (replan, answers) in [("latest 1", latest), ("lines 1 1", lines)] {
         let expected = [&expected[..], &answers].concat();
         expect(&format!("{HURRY}{replan}\n{asked}"), &expected);
     }
@@ -147,7 +147,7 @@ fn n1_latest_starts_below_zero_come_before_zero() {
 #[test]
 fn n1_equal_latest_starts_below_zero_go_by_ticket() {
     let text =
-        "open 1 100 0\ncommit 1 20 60 1 0\ncommit 1 10 7 1 20\ncommit 1 13 10 1 30\nlatest\n\
+        "open 1 720 1 100 0\ncommit 1 1 20 60 1 0\ncommit 1 1 10 7 1 20\ncommit 1 1 13 10 1 30\nlatest 1\n\
                 enquire 1\nenquire 2\nenquire 3";
     let mut expected = vec!["open 0 1", "ticket 1 start 0", "ticket 2 start 20"];
     expected.extend(["ticket 3 start 30", "plan 0 56 16 0"]);
@@ -158,8 +158,8 @@ fn n1_equal_latest_starts_below_zero_go_by_ticket() {
 #[test]
 fn n1_lateness_counts_from_the_due_minute_given() {
     let text =
-        "open 1 100 0\nmove 500 360\ncommit 1 10 600 1 500\ncommit 1 10 0 1 510\noffer 510 500\n\
-                commit 1 10 2000000 1 520\ncommit 1 10 2000001 1 0";
+        "open 1 720 1 100 0\nmove 500 360\ncommit 1 1 10 600 1 500\ncommit 1 1 10 0 1 510\noffer 1 510 500\n\
+                commit 1 1 10 2000000 1 520\ncommit 1 1 10 2000001 1 0";
     let mut expected = vec!["open 0 1", "moved 0 dropped 0", "ticket 1 start 500"];
     expected.extend(["ticket 2 start 510", "plan 0 520 510 0", "ticket 3 start 520", "refused 6"]);
     expect(text, &expected);
@@ -168,7 +168,8 @@ fn n1_lateness_counts_from_the_due_minute_given() {
 /// N4: N 2, D 2. The two do not fit on one line together; beside each other they do.
 #[test]
 fn n4_a_charge_of_rate_2_counts_as_two_in_the_limit() {
-    let text = "open 2 100 0\ncommit 1 10 60 2 0\ncommit 1 10 60 1 10\ncommit 2 10 60 1 0\n\
+    let text =
+        "open 1 720 2 100 0\ncommit 1 1 10 60 2 0\ncommit 1 1 10 60 1 10\ncommit 1 2 10 60 1 0\n\
                 move 1 360\nenquire 1\nenquire 2\nenquire 3";
     let mut expected = vec!["open 0 2", "ticket 1 start 0", "ticket 2 start 10"];
     expected.extend(["ticket 3 start 0", "moved 2 dropped 0 1 0 3 0"]);
@@ -180,8 +181,9 @@ fn n4_a_charge_of_rate_2_counts_as_two_in_the_limit() {
 /// does not, until another line has one too.
 #[test]
 fn n4_a_charge_of_rate_2_counts_as_two_in_the_balance() {
-    let text = "open 4 50 0\ncommit 1 10 60 2 0\npreview 1 5 60 1\ncommit 2 10 60 1 0\n\
-                preview 1 5 60 1\ncommit 3 10 60 1 0\ncommit 1 5 60 1 0";
+    let text =
+        "open 1 720 4 50 0\ncommit 1 1 10 60 2 0\npreview 1 1 5 60 1\ncommit 1 2 10 60 1 0\n\
+                preview 1 1 5 60 1\ncommit 1 3 10 60 1 0\ncommit 1 1 5 60 1 0";
     let mut expected = vec!["open 0 2", "ticket 1 start 0", "start 10", "ticket 2 start 0"];
     expected.extend(["start 10", "ticket 3 start 0", "ticket 4 start 0"]);
     expect(text, &expected);
@@ -189,32 +191,32 @@ fn n4_a_charge_of_rate_2_counts_as_two_in_the_balance() {
 
 #[test]
 fn n4_rates_above_the_bound_are_refused() {
-    let text = "open 2 50 0\npreview 1 10 60 2\ncommit 1 10 60 2 0\ncommit 1 10 60 1 0";
+    let text = "open 1 720 2 50 0\npreview 1 1 10 60 2\ncommit 1 1 10 60 2 0\ncommit 1 1 10 60 1 0";
     expect(text, &["open 0 1", "refused 18", "refused 18", "ticket 1 start 0"]);
-    expect("open 1 100 0\npreview 1 10 60 2", &["open 0 1", "refused 18"]);
+    expect("open 1 720 1 100 0\npreview 1 1 10 60 2", &["open 0 1", "refused 18"]);
 }
 
 /// N4: four points in minute 0 beside empty lines. The cap comes down from 4 to 2.
 #[test]
 fn n4_a_cap_two_lower() {
-    let k = "open 4 50 0\ncommit 1 10 60 2 0\ncommit 1 10 60 2 10\n";
+    let k = "open 1 720 4 50 0\ncommit 1 1 10 60 2 0\ncommit 1 1 10 60 2 10\n";
     let opened = ["open 0 2", "ticket 1 start 0", "ticket 2 start 10"];
-    expect(&format!("{k}lines 2"), &[&opened[..], &["plan 7 0 0 2"]].concat());
-    expect(&format!("{k}lines 1"), &[&opened[..], &["plan 2 0 0 1"]].concat());
+    expect(&format!("{k}lines 1 2"), &[&opened[..], &["plan 7 0 0 2"]].concat());
+    expect(&format!("{k}lines 1 1"), &[&opened[..], &["plan 2 0 0 1"]].concat());
 }
 
 /// N5. The lines of a queue on one point, by lines with allowance 1: orders as (p, d), the
 /// lateness before and after, and the starts.
 fn n5(orders: &[(u64, u64)], before: u64, after: u64, starts: &[u64]) {
-    let mut text = "open 1 100 0\n".to_string();
+    let mut text = "open 1 720 1 100 0\n".to_string();
     let mut expected = vec!["open 0 1".to_string()];
     let mut start = 0;
     for (place, (time, due)) in orders.iter().enumerate() {
-        text += &format!("commit 1 {time} {due} 1 {start}\n");
+        text += &format!("commit 1 1 {time} {due} 1 {start}\n");
         expected.push(format!("ticket {} start {start}", place + 1));
         start += time;
     }
-    text += "lines 1\n";
+    text += "lines 1 1\n";
     expected.push(format!("plan 0 {before} {after} 1"));
     for (place, start) in starts.iter().enumerate() {
         text += &format!("enquire {}\n", place + 1);
@@ -228,7 +230,7 @@ fn n5(orders: &[(u64, u64)], before: u64, after: u64, starts: &[u64]) {
 #[test]
 fn n5_a_short_charge_with_slack_before_a_long_urgent_one() {
     n5(&[(100, 100), (10, 30)], 80, 10, &[10, 0]);
-    let text = "open 1 100 0\ncommit 1 100 100 1 0\ncommit 1 10 30 1 100\nlatest";
+    let text = "open 1 720 1 100 0\ncommit 1 1 100 100 1 0\ncommit 1 1 10 30 1 100\nlatest 1";
     expect(text, &["open 0 1", "ticket 1 start 0", "ticket 2 start 100", "plan 7 80 80 0"]);
 }
 
@@ -269,8 +271,8 @@ fn n5_drivers_in_a_hurry_go_by_their_times() {
 /// two. Ticket 3 fits there.
 #[test]
 fn n5_the_most_urgent_charge_does_not_fit() {
-    let text = "open 2 100 0\ncommit 1 20 60 1 0\nmove 1 360\ncommit 1 10 10 2 20\n\
-                commit 1 30 31 1 30\nlines 1\nenquire 2\nenquire 3";
+    let text = "open 1 720 2 100 0\ncommit 1 1 20 60 1 0\nmove 1 360\ncommit 1 1 10 10 2 20\n\
+                commit 1 1 30 31 1 30\nlines 1 1\nenquire 2\nenquire 3";
     let mut expected = vec!["open 0 2", "ticket 1 start 0", "moved 1 dropped 0 1 0"];
     expected.extend(["ticket 2 start 20", "ticket 3 start 30", "plan 0 49 31 1"]);
     expected.extend(["waiting 31 2", "waiting 1 1"]);
@@ -281,8 +283,8 @@ fn n5_the_most_urgent_charge_does_not_fit() {
 /// below the clock, counts and keeps its place; the minute after it is gone.
 #[test]
 fn n7_a_charge_in_its_tail() {
-    let text = "open 1 100 2\ncommit 1 10 60 1 0\ncommit 1 10 60 1 12\nmove 10 360\nenquire 1\n\
-                preview 1 5 60 1\npreview 2 5 60 1\nmove 11 360\nenquire 1\nmove 12 360\nenquire 1";
+    let text = "open 1 720 1 100 2\ncommit 1 1 10 60 1 0\ncommit 1 1 10 60 1 12\nmove 10 360\nenquire 1\n\
+                preview 1 1 5 60 1\npreview 1 2 5 60 1\nmove 11 360\nenquire 1\nmove 12 360\nenquire 1";
     let mut expected = vec!["open 0 1", "ticket 1 start 0", "ticket 2 start 12"];
     expected.extend(["moved 1 dropped 0 1 0", "charging 0 10 1", "start 24", "start 10"]);
     expected.extend(["moved 0 dropped 0", "charging 0 10 1", "moved 0 dropped 1", "refused 15"]);
@@ -292,14 +294,14 @@ fn n7_a_charge_in_its_tail() {
 /// N7: case h with r 3. Lateness and cause 4 go by s + p, limit and balance by s + p + r.
 #[test]
 fn n7_plans_with_tails() {
-    let h = "open 1 100 3\ncommit 1 10 60 1 0\ncommit 1 10 15 1 13\n";
+    let h = "open 1 720 1 100 3\ncommit 1 1 10 60 1 0\ncommit 1 1 10 15 1 13\n";
     let opened = ["open 0 1", "ticket 1 start 0", "ticket 2 start 13"];
     let calls = [
-        ("latest", "plan 0 8 0 0"),
-        ("lines 1", "plan 0 8 0 1"),
-        ("offer 13 0", "plan 0 8 0 0"),
-        ("offer 12 0", "plan 5 8 8 0"),
-        ("offer 14 0", "plan 4 8 8 0"),
+        ("latest 1", "plan 0 8 0 0"),
+        ("lines 1 1", "plan 0 8 0 1"),
+        ("offer 1 13 0", "plan 0 8 0 0"),
+        ("offer 1 12 0", "plan 5 8 8 0"),
+        ("offer 1 14 0", "plan 4 8 8 0"),
     ];
     for (call, plan) in calls {
         expect(&format!("{h}{call}"), &[&opened[..], &[plan]].concat());
@@ -310,7 +312,7 @@ fn n7_plans_with_tails() {
 /// minute after it, for the sake of balance. By lines the cap is lowered once.
 #[test]
 fn n7_tails_in_the_balance_and_under_caps() {
-    let text = "open 3 17 1\ncommit 3 1 0 1 0\ncommit 3 1 0 1 2\nlines 2\nlines 1";
+    let text = "open 1 720 3 17 1\ncommit 1 3 1 0 1 0\ncommit 1 3 1 0 1 2\nlines 1 2\nlines 1 1";
     let mut expected = vec!["open 0 1", "ticket 1 start 0", "ticket 2 start 2"];
     expected.extend(["plan 7 4 4 2", "plan 2 4 4 1"]);
     expect(text, &expected);
@@ -319,9 +321,9 @@ fn n7_tails_in_the_balance_and_under_caps() {
 /// N7: "19, after 3, r above 5"; beside a refused opening r is 0.
 #[test]
 fn n7_openings_refused() {
-    let text = "open 2 50 6\nopen 10 5 6\nopen 1 101 6\nopen 0 100 6\nopen 2 50 4294967295\n\
-                commit 1 10 60 1 0\ncommit 1 10 60 1 10\nopen 2 50 5\nopen 61 50 5\n\
-                commit 1 10 60 1 0\ncommit 1 10 60 1 10";
+    let text = "open 1 720 2 50 6\nopen 1 720 10 5 6\nopen 1 720 1 101 6\nopen 1 720 0 100 6\nopen 1 720 2 50 4294967295\n\
+                commit 1 1 10 60 1 0\ncommit 1 1 10 60 1 10\nopen 1 720 2 50 5\nopen 1 720 61 50 5\n\
+                commit 1 1 10 60 1 0\ncommit 1 1 10 60 1 10";
     let mut expected = vec!["refused 19", "refused 3", "refused 2", "refused 1", "refused 19"];
     expected.extend(["ticket 1 start 0", "ticket 2 start 10", "open 0 1", "refused 1"]);
     expected.extend(["ticket 1 start 0", "ticket 2 start 10"]);
@@ -331,9 +333,10 @@ fn n7_openings_refused() {
 /// N7: tails hold the places of a full yard.
 #[test]
 fn n7_a_yard_full_of_tails() {
-    let queue = "commit 1 1 1 1 0\ncommit 2 1 1 1 0\ncommit 3 1 1 1 0\n".repeat(60);
-    let text =
-        format!("open 60 100 5\n{queue}move 5 360\npreview 1 1 1 1\nmove 6 360\npreview 1 1 1 1");
+    let queue = "commit 1 1 1 1 1 0\ncommit 1 2 1 1 1 0\ncommit 1 3 1 1 1 0\n".repeat(60);
+    let text = format!(
+        "open 1 720 60 100 5\n{queue}move 5 360\npreview 1 1 1 1 1\nmove 6 360\npreview 1 1 1 1 1"
+    );
     for answers in [answers(reference(), &text), answers(fast(), &text)] {
         assert!(answers[181].starts_with("moved 180 dropped 0 1 0"), "{}", answers[181]);
         assert_eq!(answers[182..], ["refused 13", "moved 0 dropped 180", "start 6"]);

@@ -6,15 +6,15 @@ use common::lines;
 use trials::demand;
 use trials::script::{self, Line};
 
-const SCRIPT: &str = "open 2 50 0
-commit 1 10 60 1 0
-commit 1 10 15 1 10
-commit 2 5 60 1 0
+const SCRIPT: &str = "open 1 720 2 50 0
+commit 1 1 10 60 1 0
+commit 1 1 10 15 1 10
+commit 1 2 5 60 1 0
 move 4 360
-commit 3 4 60 1 4
+commit 1 3 4 60 1 4
 move 12 360
-commit 1 3 20 1 20
-commit 1 3 20 1 23
+commit 1 1 3 20 1 20
+commit 1 1 3 20 1 23
 enquire 0
 enquire 1
 enquire 2
@@ -117,18 +117,18 @@ fn counts_and_ends() {
 #[test]
 fn minutes_gone() {
     let text =
-        "open 1 100 0\ncommit 1 5 5 1 0\ncommit 1 5 10 1 5\nmove 20 360\nenquire 1\nenquire 2";
+        "open 1 720 1 100 0\ncommit 1 1 5 5 1 0\ncommit 1 1 5 10 1 5\nmove 20 360\nenquire 1\nenquire 2";
     let mut answers = script::reference_answers(&lines(text));
     assert_eq!(demand::check(&lines(text), &answers), Ok(()));
     answers[3] = b"moved 2 dropped 2 1 0 2 4".to_vec();
     let broken = demand::check(&lines(text), &answers).unwrap_err();
-    assert_eq!(broken.what, "minute 4 has counts [2, 0, 0]");
+    assert_eq!(broken.what, "minute 4 has counts [2, 0, 0] on feeder 1");
 }
 
 /// An order that was neither reported nor asked for leaves the claim open.
 #[test]
 fn unknown_starts() {
-    let text = "commit 1 5 5 1 0";
+    let text = "commit 1 1 5 5 1 0";
     let answers = script::reference_answers(&lines(text));
     let broken = demand::check(&lines(text), &answers).unwrap_err();
     assert_eq!(broken.what, "ticket 1 neither reported nor found");
@@ -139,8 +139,8 @@ fn unknown_starts() {
 #[test]
 fn stations_one_after_the_other() {
     let text =
-        "commit 1 5 5 1 0\nenquire 1\nopen 61 1 0\ncommit 2 5 5 1 0\ncommit 2 5 9 1 5\nmove 5 360\n\
-                enquire 1\nenquire 2\nopen 60 100 0\ncommit 3 1 1 1 0\nenquire 1";
+        "commit 1 1 5 5 1 0\nenquire 1\nopen 1 720 61 1 0\ncommit 1 2 5 5 1 0\ncommit 1 2 5 9 1 5\nmove 5 360\n\
+                enquire 1\nenquire 2\nopen 1 720 60 100 0\ncommit 1 3 1 1 1 0\nenquire 1";
     let answers = script::reference_answers(&lines(text));
     assert_eq!(demand::check(&lines(text), &answers), Ok(()));
 }
@@ -149,7 +149,7 @@ fn stations_one_after_the_other() {
 #[test]
 fn rates() {
     let text =
-        "open 4 50 0\ncommit 1 10 60 2 0\ncommit 1 10 60 1 10\nmove 1 360\nenquire 1\nenquire 2";
+        "open 1 720 4 50 0\ncommit 1 1 10 60 2 0\ncommit 1 1 10 60 1 10\nmove 1 360\nenquire 1\nenquire 2";
     let answers = script::reference_answers(&lines(text));
     assert_eq!(demand::check(&lines(text), &answers), Ok(()));
     let falsified = |place: usize, wrong: &str| {
@@ -157,7 +157,7 @@ fn rates() {
         answers[place] = wrong.as_bytes().to_vec();
         demand::check(&lines(text), &answers).expect_err(wrong).what
     };
-    assert_eq!(falsified(5, "waiting 9 1"), "minute 9 has counts [3, 0, 0]");
+    assert_eq!(falsified(5, "waiting 9 1"), "minute 9 has counts [3, 0, 0] on feeder 1");
     assert!(falsified(4, "charging 0 10 1").contains("ticket 1"));
     assert!(falsified(5, "waiting 10 2").contains("ticket 2"));
     assert!(falsified(5, "waiting 10").contains("ticket 2"));
@@ -166,7 +166,8 @@ fn rates() {
 /// N7: in its tail an order is found charging and counts; the ceiling has r for each order.
 #[test]
 fn tails() {
-    let text = "open 1 100 2\ncommit 1 10 60 1 0\ncommit 1 10 60 1 12\nmove 11 360\nenquire 1\n\
+    let text =
+        "open 1 720 1 100 2\ncommit 1 1 10 60 1 0\ncommit 1 1 10 60 1 12\nmove 11 360\nenquire 1\n\
                 enquire 2\nmove 12 360\nenquire 1\nenquire 2";
     let answers = script::reference_answers(&lines(text));
     assert_eq!(demand::check(&lines(text), &answers), Ok(()));
@@ -179,7 +180,7 @@ fn tails() {
     assert!(fails(4, "refused 15").contains("ticket 1"));
     assert!(fails(4, "charging 0 12 1").contains("ticket 1"));
     assert!(fails(7, "charging 0 10 1").contains("ticket 1"));
-    assert_eq!(fails(5, "waiting 11 1"), "minute 11 has counts [2, 0, 0]");
+    assert_eq!(fails(5, "waiting 11 1"), "minute 11 has counts [2, 0, 0] on feeder 1");
     // Two orders accepted in minute 0, of 10 minutes and a tail of 2 each: 24.
     assert_eq!(falsified(8, "waiting 14 1"), Ok(()));
     assert_eq!(fails(8, "waiting 15 1"), "ticket 2 ends in 25, after 24");
@@ -188,7 +189,7 @@ fn tails() {
 /// N7: beside a refused opening r is 0, so the order is gone at its end.
 #[test]
 fn no_tail_beside_a_refused_opening() {
-    let text = "open 2 50 6\ncommit 1 5 5 1 0\nmove 5 360\nenquire 1";
+    let text = "open 1 720 2 50 6\ncommit 1 1 5 5 1 0\nmove 5 360\nenquire 1";
     let mut answers = script::reference_answers(&lines(text));
     assert_eq!(demand::check(&lines(text), &answers), Ok(()));
     answers[3] = b"charging 0 5 1".to_vec();
@@ -200,14 +201,14 @@ fn no_tail_beside_a_refused_opening() {
 #[test]
 fn bounds_rounded_to_nearest() {
     for (limit, percent, bound) in [(30, 5, 2), (30, 15, 4), (17, 3, 1), (9, 11, 1), (2, 75, 2)] {
-        let mut text = format!("open {limit} {percent} 0\n");
-        text += &"commit 1 1 1 1 0\n".repeat(bound);
-        text += "commit 1 1 1 1 1\n";
+        let mut text = format!("open 1 720 {limit} {percent} 0\n");
+        text += &"commit 1 1 1 1 1 0\n".repeat(bound);
+        text += "commit 1 1 1 1 1 1\n";
         text.extend((1..=bound + 1).map(|ticket| format!("enquire {ticket}\n")));
         let mut answers = script::reference_answers(&lines(&text));
         assert_eq!(demand::check(&lines(&text), &answers), Ok(()));
         *answers.last_mut().unwrap() = b"waiting 0 1".to_vec();
         let broken = demand::check(&lines(&text), &answers).unwrap_err();
-        assert_eq!(broken.what, format!("minute 0 has counts [{}, 0, 0]", bound + 1));
+        assert_eq!(broken.what, format!("minute 0 has counts [{}, 0, 0] on feeder 1", bound + 1));
     }
 }

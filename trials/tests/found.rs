@@ -8,7 +8,7 @@ use common::{breaks_demand_3, Inside};
 use trials::compare::{compare, Choice};
 
 /// With the kind of scripts that finds them, and how many lines are left at most.
-const FAULTY: [(&str, usize, &[Error]); 12] = [
+const FAULTY: [(&str, usize, &[Error]); 13] = [
     (
         "leaning",
         13,
@@ -142,6 +142,32 @@ const FAULTY: [(&str, usize, &[Error]); 12] = [
             Error::WithdrawnStillDraws,
         ],
     ),
+    (
+        "feeders",
+        12,
+        &[
+            Error::SiteNotInOrders,
+            Error::SiteNotInReplans,
+            Error::OthersNotCounted,
+            Error::OthersBegunOnly,
+            Error::LastEndOfTheSite,
+            Error::LastClearOfTheFeeder,
+            Error::SiteNotInCause5,
+            Error::LatenessOfTheSite,
+            Error::WaitingOfTheSite,
+            Error::PlacesForOneFeeder,
+            Error::ReportedByFeeder,
+            Error::RateNotAgainstTheSite,
+            Error::SettingsPastTheCountRead,
+            Error::FeederByFeeder,
+            Error::SiteLimitFirst,
+            Error::CountLast,
+            Error::FeederLast,
+            Error::SiteLimitOfARefusedOpening,
+            Error::TailOfTheFirstFeeder,
+            Error::RestOfTheSite,
+        ],
+    ),
 ];
 
 fn choice(kind: &str, scripts: u64) -> Choice<'_> {
@@ -153,8 +179,12 @@ fn the_comparison_finds_every_faulty_yard() {
     for (kind, most, errors) in FAULTY {
         for error in errors {
             let faulty = Inside(|| Faulty::new(*error));
-            // All scripts of openings are alike, and long.
-            let scripts = if kind == "openings" { 1 } else { 80 };
+            // All scripts of openings are alike, and long; those of feeders differ most.
+            let scripts = match kind {
+                "openings" => 1,
+                "feeders" => 400,
+                _ => 80,
+            };
             let failure =
                 compare(&faulty, &choice(kind, scripts)).expect_err(&format!("{error:?}"));
             let lines = failure.lines.len();
@@ -168,7 +198,8 @@ fn the_comparison_finds_every_faulty_yard() {
 /// where no error is put into them.
 #[test]
 fn own_rounds_without_an_error() {
-    for kind in ["leaning", "rates", "priority", "weights", "tails", "boards", "withdraw"] {
+    let kinds = ["leaning", "rates", "priority", "weights", "tails", "boards", "withdraw"];
+    for kind in kinds.into_iter().chain(["feeders"]) {
         let yard = Inside(|| Faulty::new(Error::OwnRounds));
         let found = compare(&yard, &choice(kind, 40)).map_err(|failure| failure.what);
         assert_eq!(found.map(|summary| summary.scripts), Ok(41), "{kind}");

@@ -36,13 +36,14 @@ fn every_script_begins_with_an_opening() {
     }
 }
 
-const REFUSALS: [(&str, &[u32]); 9] = [
-    ("open", &[1, 2, 3, 19]),
-    ("preview", &[4, 5, 17, 18, 6, 13, 14]),
-    ("commit", &[4, 5, 17, 18, 6, 13, 14, 16]),
+const REFUSALS: [(&str, &[u32]); 10] = [
+    ("open", &[27, 1, 2, 3, 19, 28]),
+    ("preview", &[29, 4, 5, 17, 18, 6, 13, 14]),
+    ("commit", &[29, 4, 5, 17, 18, 6, 13, 14, 16]),
     ("move", &[8, 9, 12]),
-    ("offer", &[10]),
-    ("lines", &[11]),
+    ("offer", &[29, 10]),
+    ("latest", &[29]),
+    ("lines", &[29, 11]),
     ("enquire", &[15]),
     ("board", &[23, 24]),
     ("withdraw", &[15, 25, 26]),
@@ -86,6 +87,26 @@ fn every_answer_occurs() {
     assert!(!totals.keys().any(|sort| sort.ends_with("refused  7")), "{totals:#?}");
 }
 
+/// N14: all of them on sites of several feeders too, but for those that have nothing to do with
+/// feeders.
+#[test]
+fn every_answer_occurs_on_sites() {
+    let mut totals = coverage(&Choice { kind: Some("feeders"), ..choice(500, 1) });
+    totals.extend(coverage(&Choice { kind: Some("row"), ..choice(1, 1) }));
+    for (call, numbers) in REFUSALS {
+        for number in numbers.iter().filter(|number| ![8, 11, 12].contains(*number)) {
+            let sort = format!("{call}: refused {number:>2}");
+            assert!(totals.contains_key(&sort), "no '{sort}' in {totals:#?}");
+        }
+    }
+    for (call, numbers) in CAUSES {
+        for number in numbers {
+            let sort = format!("{call}: cause {number}");
+            assert!(totals.contains_key(&sort), "no '{sort}' in {totals:#?}");
+        }
+    }
+}
+
 /// N1: due minutes at the edges of what can be met and of what is taken, in the kind
 /// that is about them and in busy evenings.
 #[test]
@@ -121,9 +142,10 @@ fn long_lists_occur() {
         let script = generate::script_of_kind("lists", 1, number).unwrap();
         for (line, answer) in script::answered(&script.lines).zip(&script.answers) {
             let numbers = line.split(|byte| *byte == b' ').count() - 1;
-            if line.starts_with(b"offer ") && numbers >= 179 {
+            // The feeder is one of the numbers.
+            if line.starts_with(b"offer 1 ") && numbers > 179 {
                 let first = script::show(answer).split(' ').next().map(String::from);
-                seen.insert((numbers.min(501), line.len() == LONGEST_LINE, first));
+                seen.insert((numbers.min(502) - 1, line.len() == LONGEST_LINE, first));
             }
         }
     }
@@ -179,7 +201,7 @@ fn rates_of_all_sorts_occur() {
         let mut yard = Interpreter::new(reference());
         for line in generate::script_of_kind("rates", 1, number).unwrap().lines {
             if let Ok(Some(Call::Commit { order, .. })) = read_call(&line) {
-                seen.insert((yard.yard().bound, order.rate.min(u32::MAX - 1)));
+                seen.insert((yard.yard().feeders[0].bound, order.rate.min(u32::MAX - 1)));
             }
             yard.answer(&line, &mut Vec::new());
         }
@@ -211,7 +233,7 @@ fn weights_of_all_sorts_occur() {
 }
 
 fn sorts_of_weights(station: &Station, line: u32, seen: &mut BTreeSet<&'static str>) {
-    let mut own = station.waiting();
+    let mut own = station.waiting(1);
     own.retain(|charge| charge.line == line);
     let time: u64 = own.iter().map(|charge| charge.time).sum();
     for charge in &own {
@@ -243,7 +265,8 @@ fn tails_of_all_sorts_occur() {
         for line in generate::script_of_kind("tails", 1, number).unwrap().lines {
             let mut answer = Vec::new();
             yard.answer(&line, &mut answer);
-            let Station { clock, tail, charges, .. } = yard.yard();
+            let Station { clock, charges, feeders, .. } = yard.yard();
+            let tail = feeders[0].tail;
             let in_tail = charges.iter().filter(|charge| charge.end() <= *clock).count();
             match read_call(&line) {
                 Ok(Some(Call::Open { .. })) => seen.insert(format!("opened with {tail}")),
@@ -274,18 +297,23 @@ fn the_fast_program_agrees() {
     let scripts = Choice { without: Some(LOOPS), ..choice(400, 11) };
     let summary = compare(&Inside(fast), &scripts).map_err(|failure| failure.what);
     assert_eq!(summary.map(|summary| summary.scripts), Ok(410));
+    let sites = Choice { kind: Some("feeders"), ..choice(400, 12) };
+    let summary = compare(&Inside(fast), &sites).map_err(|failure| failure.what);
+    assert_eq!(summary.map(|summary| summary.scripts), Ok(410));
 }
 
 #[test]
 fn shrinking_leaves_what_fails() {
-    let script =
-        lines("open 5 20 0\ncommit 1 10 60 1 0\ncommit 2 11 60 1 0\nmove 900 360\nlatest\nlatest");
+    let script = lines(
+        "open 1 720 5 20 0\ncommit 1 1 10 60 1 0\ncommit 1 2 11 60 1 0\nmove 900 360\n\
+         latest 1\nlatest 1",
+    );
     let fails = |lines: &[Vec<u8>]| {
         let move_far =
             |line: &Vec<u8>| line.starts_with(b"move") && line.len() >= b"move 90 360".len();
-        lines.iter().any(move_far) && lines.last().is_some_and(|line| line == b"latest")
+        lines.iter().any(move_far) && lines.last().is_some_and(|line| line.starts_with(b"latest"))
     };
     let left = shrink(&script, fails);
     assert_eq!(left.len(), 2);
-    assert_eq!(left[1], b"latest");
+    assert_eq!(left[1], b"latest 0");
 }

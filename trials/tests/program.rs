@@ -31,14 +31,14 @@ fn a_program_that_answers_nothing() {
 
 #[test]
 fn a_program_that_is_not_there() {
-    let outcome = Program::new("./no-such-program", PATIENCE).answers(b"latest\n");
+    let outcome = Program::new("./no-such-program", PATIENCE).answers(b"latest 1\n");
     assert!(outcome.trouble.is_some_and(|trouble| trouble.contains("cannot be started")));
 }
 
 #[test]
 fn a_program_that_does_not_end_in_time() {
     let program = Program::new(&format!("{BINARY} answers"), Duration::ZERO);
-    let trouble = program.answers(b"latest\n").trouble;
+    let trouble = program.answers(b"latest 1\n").trouble;
     assert!(trouble.is_some_and(|trouble| trouble.contains("no end after")));
 }
 

@@ -35,8 +35,9 @@ fn printed(station: &Station) -> Vec<String> {
     pages.split_inclusive('\n').map(String::from).collect()
 }
 
-const E: &str = "open 2 50 0\ncommit 1 10 60 1 0\ncommit 3 10 60 1 0\ncommit 2 5 60 1 0\n\
-                 commit 2 5 60 1 0\ncommit 2 5 20 1 5\ncommit 1 10 60 1 0\n";
+const E: &str =
+    "open 1 720 2 50 0\ncommit 1 1 10 60 1 0\ncommit 1 3 10 60 1 0\ncommit 1 2 5 60 1 0\n\
+                 commit 1 2 5 60 1 0\ncommit 1 2 5 20 1 5\ncommit 1 1 10 60 1 0\n";
 
 /// "Ticket 5 of case e prints, between bars, |     5 2         5        10 waiting |."
 #[test]
@@ -61,7 +62,7 @@ fn case_e() {
 /// "A charge in its tail prints charging with an end at or below the clock", which is s + p.
 #[test]
 fn a_charge_in_its_tail() {
-    let text = "open 1 100 2\ncommit 1 10 60 1 0\ncommit 1 10 60 1 12\nmove 11 360";
+    let text = "open 1 720 1 100 2\ncommit 1 1 10 60 1 0\ncommit 1 1 10 60 1 12\nmove 11 360";
     let rows = printed(&after(text));
     assert_eq!(rows[1], "     1 1         0        10 charging\n");
     assert_eq!(rows[2], "     2 1        12        22 waiting \n");
@@ -264,7 +265,7 @@ impl Answering for Printer {
 #[test]
 fn the_comparison_finds_every_faulty_printer() {
     let right = wall::compare(&Printer(Fault::None), 1, 100).map_err(|failure| failure.what);
-    assert_eq!(right.map(|summary| summary.scripts), Ok(187));
+    assert_eq!(right.map(|summary| summary.scripts), Ok(190));
     for fault in FAULTS {
         let failure = wall::compare(&Printer(fault), 1, 0).expect_err(&format!("{fault:?}"));
         assert!(failure.title.contains("trials wall-input"), "{fault:?}: {}", failure.title);
@@ -281,7 +282,7 @@ fn a_printer_as_a_program() {
     let own = format!("{} pages", env!("CARGO_BIN_EXE_trials"));
     let own = program(&own, Duration::from_secs(60));
     let summary = wall::compare(&own, 5, 30).map_err(|failure| failure.what);
-    assert_eq!(summary.map(|summary| summary.scripts), Ok(117));
+    assert_eq!(summary.map(|summary| summary.scripts), Ok(120));
     let ended = wall::without_output(&own).map_err(|failure| failure.what);
     assert_eq!(ended, Ok(()));
 }

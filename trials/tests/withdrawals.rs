@@ -12,11 +12,13 @@ use trials::reference::Station;
 use trials::{demand, generate, script};
 
 /// Case f: tickets 1, 2, 3, 4 and 6 have begun, and ticket 5 waits for minute 5.
-const F: &str = "open 2 50 0\ncommit 1 10 60 1 0\ncommit 3 10 60 1 0\ncommit 2 5 60 1 0\n\
-                 commit 2 5 60 1 0\ncommit 2 5 20 1 5\ncommit 1 10 60 1 0\nmove 1 360\n";
+const F: &str =
+    "open 1 720 2 50 0\ncommit 1 1 10 60 1 0\ncommit 1 3 10 60 1 0\ncommit 1 2 5 60 1 0\n\
+                 commit 1 2 5 60 1 0\ncommit 1 2 5 20 1 5\ncommit 1 1 10 60 1 0\nmove 1 360\n";
 
 /// Three charges on one point, which wait for 0, 10 and 20.
-const QUEUE: &str = "open 1 100 0\ncommit 1 10 60 1 0\ncommit 1 10 60 1 10\ncommit 1 10 60 1 20\n";
+const QUEUE: &str =
+    "open 1 720 1 100 0\ncommit 1 1 10 60 1 0\ncommit 1 1 10 60 1 10\ncommit 1 1 10 60 1 20\n";
 
 fn last(text: &str, expected: &[&str]) {
     let all = script::reference_answers(&lines(text));
@@ -43,8 +45,8 @@ fn withdrawals_refused() {
 #[test]
 fn what_goes_and_what_stays() {
     let text = format!(
-        "{QUEUE}withdraw 2\nenquire 1\nenquire 2\nenquire 3\nwithdraw 2\npreview 1 10 60 1\n\
-         preview 1 11 60 1\ncommit 1 10 60 1 10\nwithdraw 4\ncommit 1 10 60 1 10\nmove 40 360"
+        "{QUEUE}withdraw 2\nenquire 1\nenquire 2\nenquire 3\nwithdraw 2\npreview 1 1 10 60 1\n\
+         preview 1 1 11 60 1\ncommit 1 1 10 60 1 10\nwithdraw 4\ncommit 1 1 10 60 1 10\nmove 40 360"
     );
     let expected = [
         "withdrawn",
@@ -68,7 +70,7 @@ fn at_the_clock_and_in_a_tail() {
     last(&format!("{QUEUE}withdraw 1"), &["withdrawn"]);
     last(&format!("{QUEUE}move 10 360\nwithdraw 2"), &["moved 1 dropped 1 1 0", "withdrawn"]);
     last(&format!("{QUEUE}move 11 360\nwithdraw 2"), &["moved 2 dropped 1 1 0 2 10", "refused 25"]);
-    let text = "open 1 100 2\ncommit 1 10 60 1 0\nmove 11 360\nwithdraw 1\nmove 12 360\nwithdraw 1";
+    let text = "open 1 720 1 100 2\ncommit 1 1 10 60 1 0\nmove 11 360\nwithdraw 1\nmove 12 360\nwithdraw 1";
     last(text, &["refused 25", "moved 0 dropped 1", "refused 15"]);
 }
 
@@ -76,12 +78,12 @@ fn at_the_clock_and_in_a_tail() {
 /// it may not be the earliest any more.
 #[test]
 fn calls_after_it() {
-    let text = format!("{QUEUE}preview 1 10 60 1\nwithdraw 2\ncommit 1 10 60 1 30");
+    let text = format!("{QUEUE}preview 1 1 10 60 1\nwithdraw 2\ncommit 1 1 10 60 1 30");
     last(&text, &["start 30", "withdrawn", "refused 16"]);
-    let text = format!("{QUEUE}preview 2 10 60 1\nwithdraw 2\ncommit 2 10 60 1 0");
+    let text = format!("{QUEUE}preview 1 2 10 60 1\nwithdraw 2\ncommit 1 2 10 60 1 0");
     last(&text, &["start 0", "withdrawn", "ticket 4 start 0"]);
-    let text = "open 1 100 0\ncommit 1 10 5 1 0\ncommit 1 10 5 1 10\nlatest\nwithdraw 2\nlatest\n\
-                offer 0 0\noffer 0\nlines 1";
+    let text = "open 1 720 1 100 0\ncommit 1 1 10 5 1 0\ncommit 1 1 10 5 1 10\nlatest 1\nwithdraw 2\nlatest 1\n\
+                offer 1 0 0\noffer 1 0\nlines 1 1";
     let expected = ["plan 7 20 20 0", "withdrawn", "plan 7 5 5 0", "refused 10", "plan 7 5 5 0"];
     last(text, &[&expected[..], &["plan 7 5 5 1"]].concat());
 }
@@ -89,27 +91,27 @@ fn calls_after_it() {
 /// A charge of rate 2 counts as two in the rest, and so does the tail.
 #[test]
 fn weighted_counts_of_the_rest() {
-    let yard = "open 4 50 0\ncommit 1 5 60 2 0\ncommit 2 5 60 1 0\ncommit 3 5 60 1 0\n\
-                commit 1 5 60 1 0\n";
+    let yard = "open 1 720 4 50 0\ncommit 1 1 5 60 2 0\ncommit 1 2 5 60 1 0\ncommit 1 3 5 60 1 0\n\
+                commit 1 1 5 60 1 0\n";
     last(&format!("{yard}withdraw 2"), &["refused 26"]);
     last(&format!("{yard}withdraw 1\nwithdraw 2\nwithdraw 3"), &["withdrawn"; 3]);
-    let yard = "open 2 50 3\ncommit 2 5 60 1 0\ncommit 3 9 60 1 0\ncommit 1 5 60 1 0\n\
-                commit 1 1 60 1 0\n";
+    let yard = "open 1 720 2 50 3\ncommit 1 2 5 60 1 0\ncommit 1 3 9 60 1 0\ncommit 1 1 5 60 1 0\n\
+                commit 1 1 1 60 1 0\n";
     last(&format!("{yard}withdraw 2"), &["refused 26"]);
 }
 
 fn full_yard() -> String {
-    let commits = |line: u32| format!("commit {line} 5 9 1 0\n").repeat(60);
-    format!("open 60 100 0\n{}{}{}", commits(1), commits(2), commits(3))
+    let commits = |line: u32| format!("commit 1 {line} 5 9 1 0\n").repeat(60);
+    format!("open 1 720 60 100 0\n{}{}{}", commits(1), commits(2), commits(3))
 }
 
 /// "its place is free": one more order is taken, and one more after it is not.
 #[test]
 fn a_place_is_free() {
-    let text = format!("{}commit 3 5 9 1 0\nwithdraw 180\n", full_yard());
-    let text = format!("{text}commit 3 5 9 1 0\ncommit 3 5 9 1 0");
+    let text = format!("{}commit 1 3 5 9 1 0\nwithdraw 180\n", full_yard());
+    let text = format!("{text}commit 1 3 5 9 1 0\ncommit 1 3 5 9 1 0");
     last(&text, &["refused 13", "withdrawn", "ticket 181 start 0", "refused 13"]);
-    let text = format!("{}withdraw 1\ncommit 1 5 9 1 0", full_yard());
+    let text = format!("{}withdraw 1\ncommit 1 1 5 9 1 0", full_yard());
     caught(Error::PlaceNotFreed, &text, "ticket 181 start 0", "refused 13");
 }
 
@@ -126,9 +128,9 @@ fn withdrawals_refused_otherwise() {
 fn something_left_behind() {
     let text = format!("{QUEUE}withdraw 2\nenquire 3");
     caught(Error::OthersReplanned, &text, "waiting 20 1", "waiting 10 1");
-    let text = format!("{QUEUE}withdraw 3\npreview 1 10 60 1");
+    let text = format!("{QUEUE}withdraw 3\npreview 1 1 10 60 1");
     caught(Error::WithdrawnStillDraws, &text, "start 20", "start 30");
-    let text = format!("{QUEUE}withdraw 3\ncommit 1 10 60 1 20");
+    let text = format!("{QUEUE}withdraw 3\ncommit 1 1 10 60 1 20");
     caught(Error::TicketGivenAgain, &text, "ticket 4 start 20", "ticket 3 start 20");
 }
 
@@ -180,10 +182,10 @@ fn a_withdrawn_order_has_no_charge() {
     assert!(fails(9, "refused 25").contains("ticket 2: refused"));
     assert_eq!(fails(11, "moved 2 dropped 1 2 10 3 20"), "ticket 2 reported, withdrawn");
     // Minute 10 is free for another one: two in it are one and the withdrawn one.
-    let text = format!("{QUEUE}withdraw 2\ncommit 1 10 60 1 10\nenquire 1\nenquire 3\nenquire 4");
+    let text = format!("{QUEUE}withdraw 2\ncommit 1 1 10 60 1 10\nenquire 1\nenquire 3\nenquire 4");
     assert_eq!(falsified(&text, 8, "waiting 10 1"), Ok(()));
     let overlap = falsified(&text, 8, "waiting 11 1");
-    assert_eq!(overlap, Err("minute 20 has counts [2, 0, 0]".to_string()));
+    assert_eq!(overlap, Err("minute 20 has counts [2, 0, 0] on feeder 1".to_string()));
     // Where it was refused, it still stands and has to be found.
     let refused = falsified(&format!("{QUEUE}withdraw 1\nmove 30 360"), 4, "refused 26");
     assert_eq!(refused, Err("ticket 1 neither reported nor found".to_string()));
@@ -203,8 +205,8 @@ fn its_time_still_counts() {
 /// withdrawn order too: 5, and 10 + 2 for each of three.
 #[test]
 fn its_tail_and_order_minute_count() {
-    let text = "open 1 100 2\ncommit 1 10 60 1 0\ncommit 1 10 60 1 12\nmove 5 360\n\
-                commit 1 10 60 1 24\nwithdraw 3\nenquire 2";
+    let text = "open 1 720 1 100 2\ncommit 1 1 10 60 1 0\ncommit 1 1 10 60 1 12\nmove 5 360\n\
+                commit 1 1 10 60 1 24\nwithdraw 3\nenquire 2";
     assert_eq!(falsified(text, 6, "waiting 31 1"), Ok(()));
     let late = falsified(text, 6, "waiting 32 1");
     assert_eq!(late, Err("ticket 2 ends in 42, after 41".to_string()));
@@ -214,7 +216,7 @@ fn its_tail_and_order_minute_count() {
 /// was withdrawn.
 #[test]
 fn tickets_go_on() {
-    let text = format!("{QUEUE}withdraw 3\ncommit 1 10 60 1 20\nenquire 1\nenquire 2\nenquire 4");
+    let text = format!("{QUEUE}withdraw 3\ncommit 1 1 10 60 1 20\nenquire 1\nenquire 2\nenquire 4");
     let again = falsified(&text, 5, "ticket 3 start 20");
     assert_eq!(again, Err("ticket 3 where 4 is next".to_string()));
 }
@@ -283,8 +285,8 @@ impl Before {
 
     fn sort_of_withdrawal(&self, station: &Station, ticket: u32, answer: &str) -> &'static str {
         let charge = station.charge(ticket);
-        let begun = station.begun();
-        let leaned_on = !station.rules().sound(&begun, station.clock);
+        let begun = station.begun(1);
+        let leaned_on = !station.rules(1).sound(&begun, station.clock);
         match (answer, charge) {
             ("refused 15", _) if self.withdrawn.contains(&ticket) => "withdrawn before",
             ("refused 15", _) if ticket == 0 => "ticket 0",

@@ -2,7 +2,7 @@
 use mathlib.Core.Path.{_≡_, refl}
 use Prim.Native.Nat.{ℕ, _+_, max, _≤_}
 use mathlib.Core.Bool.{Bool, true, false, cond, not}
-use mathlib.Core.List.{List, [], _∷_, _++_, append-assoc}
+use mathlib.Core.List.{List, [], _∷_, _++_}
 use native.Mathlib.Omega.{arith}
 use lib.Dec.{eqb}
 use borrow.Author.Tests.{eqb-true, eq-eqb}
@@ -12,7 +12,7 @@ use Rattle.rules.specs.Charge.{Charge, starting, loadOf, loadsOf}
 use Rattle.rules.specs.Search.{Caps}
 use Rattle.rules.specs.Priority.{withoutTicket}
 use Rattle.rules.specs.Replan.{onLine}
-use Rattle.rules.proofs.Lists.{map-append}
+use Rattle.rules.proofs.Fitting.{loads-more}
 use Rattle.rules.proofs.Picking.{Among, front, behind}
 use Rattle.allowance.specs.Allowance.{drawnTime}
 use Rattle.allowance.proofs.Placings.{PlacedUnder, done, next}
@@ -77,24 +77,23 @@ last-more [] x = omega arith
 last-more (y ∷ xs) x = rw (last-more xs x) (omega arith)
 
 pub under-until :
-    {cap : Caps} {clock : ℕ} {begun placed plan : List Charge}
-    → PlacedUnder cap clock begun placed plan
-    → lastUntil (loadsOf (begun ++ plan)) + drawnTime placed
-    ≤ max clock (lastUntil (loadsOf (begun ++ placed))) + drawnTime plan
+    {cap : Caps} {clock : ℕ} {base : List Load} {placed plan : List Charge}
+    → PlacedUnder cap clock base placed plan
+    → lastUntil (base ++ loadsOf plan) + drawnTime placed
+    ≤ max clock (lastUntil (base ++ loadsOf placed)) + drawnTime plan
 under-until done = omega arith
-under-until {cap} {clock} {begun} (next {placed = placed} {plan = plan} c s u h r) =
-    go (lastUntil (loadsOf (begun ++ placed))) (drawnTime placed) h
+under-until {cap} {clock} {base} (next {placed = placed} {plan = plan} c s u h r) =
+    go (lastUntil (base ++ loadsOf placed)) (drawnTime placed) h
     (rw (
-      ← (append-assoc begun placed (starting c s ∷ [])),
-      map-append loadOf (begun ++ placed) (starting c s ∷ []),
-      last-more (loadsOf (begun ++ placed)) (loadOf (starting c s)),
+      loads-more base placed (starting c s),
+      last-more (base ++ loadsOf placed) (loadOf (starting c s)),
       drawn-append placed (starting c s ∷ []),
     ) at (under-until r))
   where
     go :
         (last before : ℕ)
         → s ≤ max clock last
-        → lastUntil (loadsOf (begun ++ plan)) + (before + (c .activeTime + 0))
+        → lastUntil (base ++ loadsOf plan) + (before + (c .activeTime + 0))
         ≤ max clock (max last (s + c .activeTime)) + drawnTime plan
-        → lastUntil (loadsOf (begun ++ plan)) + before ≤ max clock last + drawnTime plan
+        → lastUntil (base ++ loadsOf plan) + before ≤ max clock last + drawnTime plan
     go last before h ih = omega arith

@@ -7,10 +7,10 @@ use mathlib.Core.List.{List, _++_, append-nil}
 use native.Mathlib.Omega.{arith}
 use Rattle.rules.specs.Basics.{Found, at, nothing}
 use Rattle.rules.specs.Load.{counts, lastUntil, Limits}
-use Rattle.rules.specs.Charge.{Charge, loadsOf, begunCharges, waitingCharges}
+use Rattle.rules.specs.Charge.{Charge, loadsOf, waitingCharges}
 use Rattle.rules.specs.Search.{Caps, firstUnbalanced}
 use Rattle.rules.specs.Priority.{fitsAt}
-use Rattle.rules.specs.Replan.{starts, none, Placed, all, stuck, placeLines, largestLine, lowered, placedActive, Outcome, ends, lowers, afterRound, round, goOn, roundsFrom, byLines}
+use Rattle.rules.specs.Replan.{starts, none, Placed, all, stuck, standing, placeLines, largestLine, lowered, placedActive, Outcome, ends, lowers, afterRound, round, goOn, roundsFrom, byLines}
 use Rattle.rules.proofs.Searches.{unbalanced-first}
 use Rattle.rules.proofs.Rounds.{AtLeast, lowered-at-least}
 use Rattle.allowance.specs.Allowance.{drawnTime, minutesAhead}
@@ -32,7 +32,7 @@ module _ (y : Limits) (clock : ℕ) (held : List Charge) where
   least = min (y .limit) (y .bound)
 
   abbrev left-of : Caps → ℕ
-  left-of cap = room least cap (minutesAhead clock held) clock
+  left-of cap = room least cap (minutesAhead y clock held) clock
 
   caps-stay :
       (cap : Caps) (i t v : ℕ)
@@ -51,18 +51,18 @@ module _ (y : Limits) (clock : ℕ) (held : List Charge) where
       → left-of (lowered cap i t v) < left-of cap
   room-less cap i t v c e =
       let r : Lowers y clock held cap i t v = round-lowers y clock held cap i t v e in
-      let f = unbalanced-first y clock (loadsOf (begunCharges clock held ++ r .plan)) t (r .found) in
+      let f = unbalanced-first y clock (standing y clock held ++ loadsOf (r .plan)) t (r .found) in
       let far = under-until (r .placed .under) in
-      sum-less (λ l. sumOver (λ u. cap l u - least) (minutesAhead clock held) clock)
-      (λ l. sumOver (λ u. lowered cap i t v l u - least) (minutesAhead clock held) clock) 3 1 i
-      (λ l. sum-lower (λ u. cap l u - least) (λ u. lowered cap i t v l u - least) (minutesAhead clock held) clock (less l))
+      sum-less (λ l. sumOver (λ u. cap l u - least) (minutesAhead y clock held) clock)
+      (λ l. sumOver (λ u. lowered cap i t v l u - least) (minutesAhead y clock held) clock) 3 1 i
+      (λ l. sum-lower (λ u. cap l u - least) (λ u. lowered cap i t v l u - least) (minutesAhead y clock held) clock (less l))
       (r .line .low)
       (omega (arith, r .line .high))
-      (sum-less (λ u. cap i u - least) (λ u. lowered cap i t v i u - least) (minutesAhead clock held) clock t
+      (sum-less (λ u. cap i u - least) (λ u. lowered cap i t v i u - least) (minutesAhead y clock held) clock t
       (less i)
       (f .low)
-      (within t (lastUntil (loadsOf (begunCharges clock held ++ r .plan))) (drawnTime (r .plan)) (f .high) (f .low) (r .placed .drawn)
-      (rw (append-nil (begunCharges clock held)) at far))
+      (within t (lastUntil (standing y clock held ++ loadsOf (r .plan))) (drawnTime (r .plan)) (f .high) (f .low) (r .placed .drawn)
+      (rw (append-nil (standing y clock held)) at far))
       (omega (arith, lowered-below y clock held cap i t v e, caps-stay cap i t v c e i t)))
     where
       less : (l u : ℕ) → lowered cap i t v l u - least ≤ cap l u - least
@@ -73,8 +73,8 @@ module _ (y : Limits) (clock : ℕ) (held : List Charge) where
           → t < clock + (u - clock)
           → clock ≤ t
           → d ≤ drawnTime (waitingCharges clock held)
-          → u + 0 ≤ max clock (lastUntil (loadsOf (begunCharges clock held))) + d
-          → t < clock + minutesAhead clock held
+          → u + 0 ≤ max clock (lastUntil (standing y clock held)) + d
+          → t < clock + minutesAhead y clock held
       within t u d a b c e = omega arith
 
   -- a round does not end with the allowance spent
@@ -86,7 +86,7 @@ module _ (y : Limits) (clock : ℕ) (held : List Charge) where
   round-not-spent : (cap : Caps) → NotSpent (round y clock held cap)
   unfolding round
   round-not-spent cap =
-      placed (placeLines (fitsAt cap) clock (begunCharges clock held) (waitingCharges clock held) 3)
+      placed (placeLines (fitsAt (y .site) cap) clock (standing y clock held) (waitingCharges clock held) 3)
     where
       unbalanced : (b : Bool) (i t v : ℕ) → NotSpent (cond b (lowers i t v) (ends (none 1)))
       unbalanced true i t v = tt
@@ -94,16 +94,16 @@ module _ (y : Limits) (clock : ℕ) (held : List Charge) where
 
       placed : (p : Placed) → NotSpent (afterRound y clock held p)
       placed stuck = refl
-      placed (all plan) = searched (firstUnbalanced y clock (loadsOf (begunCharges clock held ++ plan))) refl
+      placed (all plan) = searched (firstUnbalanced y clock (standing y clock held ++ loadsOf plan)) refl
         where
           searched :
               (o : Found)
-              → firstUnbalanced y clock (loadsOf (begunCharges clock held ++ plan)) ≡ o
+              → firstUnbalanced y clock (standing y clock held ++ loadsOf plan) ≡ o
               → NotSpent (afterRound y clock held (all plan))
           searched nothing e = rw (e, afterRound) tt
           searched (at t) e =
               rw (e, afterRound)
-              (unbalanced (placedActive plan (largestLine (counts (loadsOf (begunCharges clock held ++ plan)) t)) t) _ t _)
+              (unbalanced (placedActive plan (largestLine (counts (standing y clock held ++ loadsOf plan) t)) t) _ t _)
 
   -- each further round takes something from the room
   rounds-most :
@@ -172,23 +172,23 @@ module _ (y : Limits) (clock : ℕ) (held : List Charge) where
   unfolding least
   first-caps l t = omega arith
 
-  first-room : left-of (λ l t. y .limit) ≡ 3 * ((y .limit - y .bound) * minutesAhead clock held)
+  first-room : left-of (λ l t. y .limit) ≡ 3 * ((y .limit - y .bound) * minutesAhead y clock held)
   unfolding least
   first-room =
-      let e : sumOver (λ t. y .limit - least) (minutesAhead clock held) clock ≡ (y .limit - least) * minutesAhead clock held
-      = sum-same (y .limit - least) (minutesAhead clock held) clock in
+      let e : sumOver (λ t. y .limit - least) (minutesAhead y clock held) clock ≡ (y .limit - least) * minutesAhead y clock held
+      = sum-same (y .limit - least) (minutesAhead y clock held) clock in
       let d : y .limit - least ≡ y .limit - y .bound = omega arith in
       rw (e, d) (omega arith)
 
   pub few-rounds :
-      (a : ℕ) → byLines y clock a held .rounds ≤ 1 + 3 * ((y .limit - y .bound) * minutesAhead clock held)
+      (a : ℕ) → byLines y clock a held .rounds ≤ 1 + 3 * ((y .limit - y .bound) * minutesAhead y clock held)
   unfolding byLines
   few-rounds a = rw (← first-room) (rounds-most (a - 1) 1 (λ l t. y .limit) first-caps)
 
   -- an allowance of so many is not spent
   pub never-spent :
       (a : ℕ)
-      → 3 * ((y .limit - y .bound) * minutesAhead clock held) < a
+      → 3 * ((y .limit - y .bound) * minutesAhead y clock held) < a
       → byLines y clock a held .proposal ≡ none 2
       → ⊥
   unfolding byLines

@@ -10,10 +10,10 @@ use lib.Dec.{leb, eqb}
 use borrow.Author.Tests.{leb-true, le-leb, eq-eqb, not-true}
 use Rattle.rules.specs.Basics.{Found, at, nothing}
 use Rattle.rules.specs.Load.{Load, count, counts, Limits, IsLine, balanceAt}
-use Rattle.rules.specs.Charge.{Charge, loadsOf, begunCharges, waitingCharges}
+use Rattle.rules.specs.Charge.{Charge, loadsOf, waitingCharges}
 use Rattle.rules.specs.Search.{Caps, firstUnbalanced}
 use Rattle.rules.specs.Priority.{fitsAt}
-use Rattle.rules.specs.Replan.{none, Placed, all, stuck, placeLines, largestLine, smallestLine, lowered, placedActive, Outcome, ends, lowers, afterRound, round, goOn, roundsFrom, byLines}
+use Rattle.rules.specs.Replan.{none, Placed, all, stuck, standing, placeLines, largestLine, smallestLine, lowered, placedActive, Outcome, ends, lowers, afterRound, round, goOn, roundsFrom, byLines}
 use Rattle.rules.proofs.Ranges.{below-or-not}
 use Rattle.rules.proofs.Counts.{balanced-all}
 use Rattle.rules.proofs.Searches.{unbalanced-first}
@@ -55,14 +55,14 @@ unbalanced-by y clock xs t e = go (below-or-not (f (smallestLine f) + y .bound) 
 pub record Lowers (y : Limits) (clock : ℕ) (held : List Charge) (cap : Caps) (i t v : ℕ) : Type 0 where
   pub plan : List Charge
   -- the waiting charges, placed under the caps
-  pub placed : RoundPlaced cap clock (begunCharges clock held) (waitingCharges clock held) plan
-  pub found : firstUnbalanced y clock (loadsOf (begunCharges clock held ++ plan)) ≡ at t
+  pub placed : RoundPlaced cap clock (standing y clock held) (waitingCharges clock held) plan
+  pub found : firstUnbalanced y clock (standing y clock held ++ loadsOf plan) ≡ at t
   pub line : IsLine i
   -- D or more
   pub low : y .bound ≤ v
   -- i's count is at or below its cap, and above what it is lowered to
-  pub below : v < count (loadsOf (begunCharges clock held ++ plan)) i t
-  pub within : count (loadsOf (begunCharges clock held ++ plan)) i t ≤ cap i t
+  pub below : v < count (standing y clock held ++ loadsOf plan) i t
+  pub within : count (standing y clock held ++ loadsOf plan) i t ≤ cap i t
 
 pub round-lowers :
     (y : Limits) (clock : ℕ) (held : List Charge) (cap : Caps) (i t v : ℕ)
@@ -70,28 +70,28 @@ pub round-lowers :
     → Lowers y clock held cap i t v
 unfolding round
 round-lowers y clock held cap i t v e =
-    go (placeLines (fitsAt cap) clock (begunCharges clock held) (waitingCharges clock held) 3) refl e
+    go (placeLines (fitsAt (y .site) cap) clock (standing y clock held) (waitingCharges clock held) 3) refl e
   where
     ends-apart : (p : _) → ends p ≡ lowers i t v → ⊥
     ends-apart p q = let z : _≡_ {A = ℕ} 0 1 = cc in omega arith
 
     go :
         (p : Placed)
-        → placeLines (fitsAt cap) clock (begunCharges clock held) (waitingCharges clock held) 3 ≡ p
+        → placeLines (fitsAt (y .site) cap) clock (standing y clock held) (waitingCharges clock held) 3 ≡ p
         → afterRound y clock held p ≡ lowers i t v
         → Lowers y clock held cap i t v
     go stuck q u = absurd (ends-apart (none 1) u)
-    go (all plan) q u = searched (firstUnbalanced y clock (loadsOf (begunCharges clock held ++ plan))) refl
+    go (all plan) q u = searched (firstUnbalanced y clock (standing y clock held ++ loadsOf plan)) refl
       where
         f : ℕ → ℕ → ℕ
-        f w = counts (loadsOf (begunCharges clock held ++ plan)) w
+        f w = counts (standing y clock held ++ loadsOf plan) w
 
-        placing : RoundPlaced cap clock (begunCharges clock held) (waitingCharges clock held) plan
-        placing = round-placed cap clock (begunCharges clock held) (waitingCharges clock held) plan q
+        placing : RoundPlaced cap clock (standing y clock held) (waitingCharges clock held) plan
+        placing = round-placed (y .site) cap clock (standing y clock held) (waitingCharges clock held) plan q
 
         active-in :
             (w : ℕ)
-            → firstUnbalanced y clock (loadsOf (begunCharges clock held ++ plan)) ≡ at w
+            → firstUnbalanced y clock (standing y clock held ++ loadsOf plan) ≡ at w
             → (b : Bool)
             → placedActive plan (largestLine (f w)) w ≡ b
             → cond b (lowers (largestLine (f w)) w (f w (smallestLine (f w)) + y .bound)) (ends (none 1)) ≡ lowers i t v
@@ -109,7 +109,7 @@ round-lowers y clock held cap i t v e =
               low = rw (← value) (omega arith);
               below =
                   rw (← minute, ← line, ← value)
-                  (unbalanced-by y clock (loadsOf (begunCharges clock held ++ plan)) w o);
+                  (unbalanced-by y clock (standing y clock held ++ loadsOf plan) w o);
               within =
                   rw (← minute, ← line)
                   (under-within (placing .under) (λ l t h. absurd (true≢false (sym h))) (largestLine (f w)) w p);
@@ -117,7 +117,7 @@ round-lowers y clock held cap i t v e =
 
         searched :
             (o : Found)
-            → firstUnbalanced y clock (loadsOf (begunCharges clock held ++ plan)) ≡ o
+            → firstUnbalanced y clock (standing y clock held ++ loadsOf plan) ≡ o
             → Lowers y clock held cap i t v
         searched nothing o = absurd (ends-apart _ (rw (o, afterRound) at u))
         searched (at w) o = active-in w o (placedActive plan (largestLine (f w)) w) refl (rw (o, afterRound) at u)

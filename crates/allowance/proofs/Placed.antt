@@ -12,11 +12,10 @@ use Rattle.rules.specs.Search.{Caps}
 use Rattle.rules.specs.Priority.{Crowd, crowdOf, Pick, chosen, nobody, takenBefore, fitsAt, firstFit, picked, withoutTicket}
 use Rattle.rules.specs.Replan.{Placed, all, stuck, placeOn, onLine, placeLines}
 use Rattle.rules.proofs.Lists.{kept-pass}
-use Rattle.rules.proofs.Searches.{Under, under-at}
 use Rattle.rules.proofs.Fitting.{first-fit-first}
 use Rattle.rules.proofs.Picking.{Among, among-each, among-keep, taken-some}
 use Rattle.allowance.specs.Allowance.{drawnTime}
-use Rattle.allowance.proofs.Placings.{PlacedUnder, done, next, under-then}
+use Rattle.allowance.proofs.Placings.{UnderCap, under-at, PlacedUnder, done, next, under-then}
 use Rattle.allowance.proofs.Drawing.{drawn-append, drawn-without, drawn-lines}
 
 stuck-apart : {plan : List Charge} → stuck ≡ all plan → ⊥
@@ -31,42 +30,42 @@ record Chosen (cap : Caps) (clock : ℕ) (xs : List Load) (left : List Charge) (
   start : ℕ
   is : starting who start ≡ c
   member : Among who left
-  under : Under cap xs (drawOf who) start
+  under : UnderCap cap xs (drawOf who) start
   high : start ≤ max clock (lastUntil xs)
 
 picked-chosen :
-    (cap : Caps) (clock : ℕ) (xs : List Load) (q : Crowd) (left : List Charge) (c : Charge)
-    → picked (fitsAt cap) clock xs q left ≡ chosen c
+    (w : ℕ) (cap : Caps) (clock : ℕ) (xs : List Load) (q : Crowd) (left : List Charge) (c : Charge)
+    → picked (fitsAt w cap) clock xs q left ≡ chosen c
     → Chosen cap clock xs left c
 unfolding picked
-picked-chosen cap clock xs q left c e = go (firstFit (fitsAt cap) clock xs left) refl
+picked-chosen w cap clock xs q left c e = go (firstFit (fitsAt w cap) clock xs left) refl
   where
-    go : (f : Found) → firstFit (fitsAt cap) clock xs left ≡ f → Chosen cap clock xs left c
+    go : (f : Found) → firstFit (fitsAt w cap) clock xs left ≡ f → Chosen cap clock xs left c
     go nothing p = absurd (nobody-apart (rw (p, picked) at e))
     go (at s) p =
-        let first = first-fit-first (fitsAt cap) clock xs left s p in
+        let first = first-fit-first (fitsAt w cap) clock xs left s p in
         let high : s < clock + suc (lastUntil xs - clock) = first .high in
-        let t = taken-some (takenBefore q s) (fitsAt cap xs s) left (first .here) in
+        let t = taken-some (takenBefore q s) (fitsAt w cap xs s) left (first .here) in
         let same : chosen (starting (t .who) s) ≡ chosen c = rw (t .gives) at (rw (p, picked) at e) in
         record {
           who = t .who;
           start = s;
           is = cc;
-          member = among-keep (fitsAt cap xs s) (t .who) left (t .member);
+          member = among-keep (fitsAt w cap xs s) (t .who) left (t .member);
           under =
-              under-at cap xs (drawOf (t .who)) s
-              (among-each (λ d. fitsAt cap xs s d ≡ true) (t .member) (kept-pass (fitsAt cap xs s) left));
+              under-at w cap xs (drawOf (t .who)) s
+              (among-each (λ d. fitsAt w cap xs s d ≡ true) (t .member) (kept-pass (fitsAt w cap xs s) left));
           high = omega arith;
         }
 
-module _ (cap : Caps) (clock : ℕ) (begun : List Charge) where
+module _ (w : ℕ) (cap : Caps) (clock : ℕ) (base : List Load) where
   -- the placements from `placed` on, of charges that draw no more than `most` in all
   record Placing (placed : List Charge) (most : ℕ) (plan : List Charge) : Type 0 where
-    under : PlacedUnder cap clock begun placed plan
+    under : PlacedUnder cap clock base placed plan
     drawn : drawnTime plan ≤ drawnTime placed + most
 
   abbrev pick : Crowd → List Charge → List Charge → Pick
-  pick q placed left = picked (fitsAt cap) clock (loadsOf (begun ++ placed)) q left
+  pick q placed left = picked (fitsAt w cap) clock (base ++ loadsOf placed) q left
 
   places-under :
       (q : Crowd) (k : ℕ) (placed left plan : List Charge)
@@ -88,7 +87,7 @@ module _ (cap : Caps) (clock : ℕ) (begun : List Charge) where
           → Placing placed (drawnTime left) plan
       go nobody p rest = absurd (stuck-apart (rw (p, placeOn) at e))
       go (chosen c) p rest =
-          let t : Chosen cap clock (loadsOf (begun ++ placed)) left c = picked-chosen cap clock (loadsOf (begun ++ placed)) q left c p in
+          let t : Chosen cap clock (base ++ loadsOf placed) left c = picked-chosen w cap clock (base ++ loadsOf placed) q left c p in
           let same : starting (t .who) (t .start) ≡ c = t .is in
           let ih : Placing (placed ++ (starting (t .who) (t .start) ∷ [])) (drawnTime (withoutTicket (t .who .ticket) left)) plan
           = rw (← same) at (rest c (rw (p, placeOn) at e)) in
@@ -110,16 +109,16 @@ module _ (cap : Caps) (clock : ℕ) (begun : List Charge) where
 
   lines-under :
       (waiting : List Charge) (l : ℕ) (plan : List Charge)
-      → placeLines (fitsAt cap) clock begun waiting l ≡ all plan
+      → placeLines (fitsAt w cap) clock base waiting l ≡ all plan
       → Placing [] (drawnLines waiting l) plan
   lines-under waiting zero plan e = let same : [] ≡ plan = cc in rw (← same) (record { under = done; drawn = omega arith })
-  lines-under waiting (suc l) plan e = go (placeLines (fitsAt cap) clock begun waiting l) refl (lines-under waiting l)
+  lines-under waiting (suc l) plan e = go (placeLines (fitsAt w cap) clock base waiting l) refl (lines-under waiting l)
     where
       go :
           (p : Placed)
-          → placeLines (fitsAt cap) clock begun waiting l ≡ p
+          → placeLines (fitsAt w cap) clock base waiting l ≡ p
           → ((before : List Charge)
-          → placeLines (fitsAt cap) clock begun waiting l ≡ all before
+          → placeLines (fitsAt w cap) clock base waiting l ≡ all before
           → Placing [] (drawnLines waiting l) before)
           → Placing [] (drawnLines waiting (suc l)) plan
       go stuck p rest = absurd (stuck-apart (rw p at e))
@@ -130,14 +129,14 @@ module _ (cap : Caps) (clock : ℕ) (begun : List Charge) where
           record { under = under-then (a .under) (b .under); drawn = omega (arith, a .drawn, b .drawn) }
 
 -- what a round places
-pub record RoundPlaced (cap : Caps) (clock : ℕ) (begun waiting plan : List Charge) : Type 0 where
-  pub under : PlacedUnder cap clock begun [] plan
+pub record RoundPlaced (cap : Caps) (clock : ℕ) (base : List Load) (waiting plan : List Charge) : Type 0 where
+  pub under : PlacedUnder cap clock base [] plan
   pub drawn : drawnTime plan ≤ drawnTime waiting
 
 pub round-placed :
-    (cap : Caps) (clock : ℕ) (begun waiting plan : List Charge)
-    → placeLines (fitsAt cap) clock begun waiting 3 ≡ all plan
-    → RoundPlaced cap clock begun waiting plan
-round-placed cap clock begun waiting plan e =
-    let p = lines-under cap clock begun waiting 3 plan e in
+    (w : ℕ) (cap : Caps) (clock : ℕ) (base : List Load) (waiting plan : List Charge)
+    → placeLines (fitsAt w cap) clock base waiting 3 ≡ all plan
+    → RoundPlaced cap clock base waiting plan
+round-placed w cap clock base waiting plan e =
+    let p = lines-under w cap clock base waiting 3 plan e in
     record { under = p .under; drawn = omega (arith, p .drawn, drawn-lines waiting) }

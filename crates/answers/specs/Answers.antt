@@ -10,8 +10,8 @@ use Rattle.text.specs.Printed.{Printed, field, listed, lineFeed, one, two, thre
 unfoldable pub answerText : Answer → ℕ → List ℕ → List ℕ
 -- "refused "
 answerText (refused k) asked list = one (114 ∷ 101 ∷ 102 ∷ 117 ∷ 115 ∷ 101 ∷ 100 ∷ 32 ∷ []) k
--- "open 0 "
-answerText (opened bound) asked list = one (111 ∷ 112 ∷ 101 ∷ 110 ∷ 32 ∷ 48 ∷ 32 ∷ []) bound
+-- "open 0", and the bound of each feeder
+answerText (opened bounds) asked list = (111 ∷ 112 ∷ 101 ∷ 110 ∷ 32 ∷ 48 ∷ []) ++ (listed bounds ++ lineFeed)
 -- "start "
 answerText (previewed start) asked list = one (115 ∷ 116 ∷ 97 ∷ 114 ∷ 116 ∷ 32 ∷ []) start
 -- "ticket ", " start "
@@ -42,7 +42,7 @@ PrintedAlone a before at after next = (asked : ℕ) (list : List ℕ) → Printe
 -- how many numbers of the lent list are printed with an answer
 abbrev pub listedOf : Answer → ℕ → ℕ
 listedOf (refused k) asked = 0
-listedOf (opened d) asked = 0
+listedOf (opened bounds) asked = 0
 listedOf (previewed u) asked = 0
 listedOf (committed t u) asked = 0
 listedOf (moved k d) asked = 2 * k

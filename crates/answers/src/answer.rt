@@ -1,22 +1,27 @@
 // The answers as text, each with its line feed. A buffer has room for an answer where 96 bytes are left, and 21 more for each number
 // of the lent list that is printed with it.
-ghost use Prim.Native.Nat.{ℕ, _+_, _*_, _≤_};
+ghost use mathlib.Core.Path.{_≡_};
+ghost use Prim.Native.Nat.{ℕ, _+_, _*_, _≤_, min};
 ghost use mathlib.Core.List.{[]};
-ghost use lib.ListN.{length};
-ghost use Rattle.rules.specs.Calls.{refused, moved as movedAnswer, looked as lookedAnswer};
-ghost use Rattle.station.specs.Answers.{openAnswer, previewAnswer, commitAnswer, moveAnswer, planAnswer, enquiryAnswer, boardAnswer, withdrawalAnswer};
+ghost use lib.ListN.{length, take};
+ghost use Rattle.rules.specs.Calls.{refused, opened, moved as movedAnswer, looked as lookedAnswer};
+ghost use Rattle.station.specs.Opened.{openAnswer};
+ghost use Rattle.orders.specs.Shown.{previewAnswer};
+ghost use Rattle.ordering.specs.Answers.{commitAnswer};
+ghost use Rattle.planning.specs.Answers.{planAnswer};
+ghost use Rattle.site.specs.Answers.{moveAnswer, enquiryAnswer, boardAnswer, withdrawalAnswer};
 ghost use Rattle.calls.specs.Applied.{answerOf};
 ghost use Rattle.text.specs.Printed.{Printed};
 ghost use Rattle.answers.specs.Answers.{answerText, listedOf, PrintedAlone};
 use calls::Answer;
-use station::board::BoardAnswer;
-use station::clock::MoveAnswer;
-use station::enquiry::EnquiryAnswer;
+use ordering::commit::CommitAnswer;
+use orders::sought::PreviewAnswer;
+use planning::PlanAnswer;
+use site::board::BoardAnswer;
+use site::clock::MoveAnswer;
+use site::enquiry::EnquiryAnswer;
+use site::withdraw::WithdrawalAnswer;
 use station::open::OpenAnswer;
-use station::order::CommitAnswer;
-use station::order::PreviewAnswer;
-use station::plan::PlanAnswer;
-use station::withdraw::WithdrawalAnswer;
 use text::print_field;
 use text::print_four;
 use text::print_list;
@@ -160,12 +165,39 @@ fn print_withdrawal(answer: WithdrawalAnswer, buffer: &mut [u8], at: usize) -> u
     }
 }
 
+// How many bounds there are up to a count: four at most.
+fn bounds_up_to(count: usize) -> usize
+    ensures { λ r. ⌜ r ≡ min count 4 ⌝ }
+{
+    if count < 4 { count } else { 4 }
+}
+
+// The bounds D of the feeders up to the count.
+fn print_opened(count: usize, bounds: &[u32], buffer: &mut [u8], at: usize) -> usize
+    requires { ⌜ (length (now bounds) ≡ 4) × (at + 96 ≤ length (now buffer)) ⌝ }
+    ensures { λ r. ⌜ Printed (answerText (opened (take count (now (bounds .entry)))) 0 []) (now (buffer .entry)) at (now (buffer .exit)) r ⌝ }
+{
+    let up_to = bounds_up_to(count);
+    let a = print_text(b"open 0", buffer, at);
+    let b = print_list(bounds, up_to, buffer, a);
+    print_text(b"\n", buffer, b)
+}
+
 pub fn print_opening(answer: OpenAnswer, buffer: &mut [u8], at: usize) -> usize
     requires { ⌜ at + 96 ≤ length (now buffer) ⌝ }
     ensures { λ r. ⌜ Printed (answerText (openAnswer answer) 0 []) (now (buffer .entry)) at (now (buffer .exit)) r ⌝ }
 {
     match answer {
-        OpenAnswer::Opened(bound) => print_one(b"open 0 ", bound as u64, buffer, at),
+        OpenAnswer::Opened {
+            count,
+            one,
+            two,
+            three,
+            four,
+        } => {
+            let bounds = [one, two, three, four];
+            print_opened(count, &bounds, buffer, at)
+        }
         OpenAnswer::Refused(number) => print_refused(number, buffer, at),
     }
 }

@@ -1,13 +1,15 @@
-// The board: the starts of the charges that are asked for by their tickets.
+// The board: the starts of the charges that are asked for by their tickets, feeder by feeder.
 use charges::Charges;
 use charges::PLACES;
 ghost use mathlib.Core.Path.{_≡_};
 ghost use mathlib.Core.Bool.{cond, _&&_};
 ghost use Prim.Native.Nat.{_≤_};
 ghost use lib.Dec.{leb, ltb, eqb};
-ghost use lib.ListN.{getD};
+ghost use lib.ListN.{length, getD, replicate};
 ghost use Rattle.rules.specs.Basics.{firstOf};
-ghost use Rattle.rules.specs.Calls.{State, places, refusals, board as boardCall, risesFrom, notHeld};
+ghost use Rattle.rules.specs.Site.{places, State};
+ghost use Rattle.rules.specs.Calls.{refusals, board as boardCall, risesFrom, notHeld, written};
+ghost use Rattle.charges.specs.Arrays.{chargesOf};
 ghost use Rattle.boards.specs.Board.{CanBoard, Boarded};
 
 // "4,294,967,295 for one not held"
@@ -54,32 +56,46 @@ fn is_looked_at(tickets: &[u32; PLACES], held: usize, place: usize, ticket: u32)
     }
 }
 
-// The start of a charge, where it has the ticket that is asked for.
-fn shown_for(held: u32, ticket: u32, start: u32) -> u32
-    ensures { λ r. ⌜ r ≡ cond (eqb held ticket) start notHeld ⌝ }
+// The start of a charge, where it has the ticket that is asked for; else what was there.
+fn shown_for(held: u32, ticket: u32, start: u32, other: u32) -> u32
+    ensures { λ r. ⌜ r ≡ cond (eqb held ticket) start other ⌝ }
 {
-    if held == ticket { start } else { NOT_HELD }
+    if held == ticket { start } else { other }
+}
+
+// The first `count` answers, while no charge was looked at.
+pub fn none_held(answers: &mut [u32], count: usize)
+    requires { ⌜ count ≤ length (now answers) ⌝ }
+    ensures { λ r. ⌜ now (answers .exit) ≡ written (replicate count notHeld) (now (answers .entry)) ⌝ }
+{
+    for i in 0..count {
+        answers[i] = NOT_HELD;
+    }
 }
 
 // "It walks the held charges once": they and the tickets rise, so that a charge is passed with the first ticket that is not
-// below its own, and a ticket is answered at the first charge above it. The answer: how many charges were passed.
+// below its own, and a ticket is done at the first charge above it. What a feeder does not hold keeps its answer. How many
+// charges were passed is told.
 pub fn board(charges: Charges, asked: &[u32], answers: &mut [u32]) -> usize
     requires { ⌜ CanBoard charges (now asked) (now answers) ⌝ }
-    ensures { λ r. ⌜ Boarded charges (now (asked .entry)) (now (answers .entry)) (now (answers .exit)) r ⌝ }
+    ensures { λ r. ⌜ Boarded (chargesOf charges) (now (asked .entry)) (now (answers .entry)) (now (answers .exit)) r ⌝ }
 {
     let held = charges.held;
     let count = asked.len();
     let mut place = 0;
     let mut answered = 0;
-    let mut shown = NOT_HELD;
     while answered < count {
         let ticket = asked[answered];
         if is_looked_at(&charges.tickets, held, place, ticket) {
-            shown = shown_for(charges.tickets[place], ticket, charges.starts[place]);
+            let other = answers[answered];
+            answers[answered] = shown_for(
+                charges.tickets[place],
+                ticket,
+                charges.starts[place],
+                other,
+            );
             place += 1;
         } else {
-            answers[answered] = shown;
-            shown = NOT_HELD;
             answered += 1;
         }
     }

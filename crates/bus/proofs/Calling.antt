@@ -2,36 +2,32 @@
 use mathlib.Core.Path.{_≡_, refl, sym, ap, subst, _∙_}
 use Prim.Native.Nat.{ℕ, _<_}
 use native.Mathlib.Omega.{arith}
-use mathlib.Core.Bool.{Bool, true, false, cond, _&&_}
+use mathlib.Core.Bool.{Bool, true, false}
 use mathlib.Core.List.{List, [], _∷_}
 use lib.Dec.{eqb}
 use borrow.Author.Tests.{ne-eqb, eq-eqb}
-use Rattle.rules.specs.Calls.{Settings, State, Answer, refused, Result, opening, Call, replanLatest, enquire, written}
-use Rattle.layout.specs.Image.{imageOf}
-use Rattle.layout.specs.Reading.{sized, restoring}
-use Rattle.layout.specs.Blocks.{differing}
-use Rattle.layout.specs.Saving.{SaveResult, saving}
-use Rattle.layout.proofs.Refusing.{saving-written, saving-refused}
-use Rattle.station.specs.declared.Station.{Station}
-use Rattle.station.specs.View.{view}
-use Rattle.station.specs.Answers.{Gives}
+use Rattle.rules.specs.Site.{State}
+use Rattle.rules.specs.Calls.{refused, opening, Call, replanLatest, enquire, written}
+use Rattle.layout.specs.Reading.{restoring}
+use Rattle.layout.specs.Saving.{SaveResult, saveRefusal, saving}
+use Rattle.station.specs.View.{view, stationOf}
 use Rattle.image.specs.declared.restoring.Restored.{Restored}
 use Rattle.image.specs.declared.saving.Saved.{Saved}
 use Rattle.image.specs.Answers.{Restores, Saves}
 use Rattle.service.specs.declared.numbers.Numbers.{Numbers}
-use Rattle.service.specs.Left.{Told, told, counted, toldOver, leaving, left, Leaves, Whole}
+use Rattle.service.specs.Left.{Told, told, counted, Leaves}
 use Rattle.service.specs.Named.{numbersOf, toldOf, Serves}
 use Rattle.service.proofs.Telling.{told-refused, told-granted}
-use Rattle.service.proofs.Serving.{refused-left, refusal-is, state-is}
-use Rattle.bus.specs.Images.{openedOver, copying, copiedOr, copied, Opens, Copies}
+use Rattle.service.proofs.Serving.{refusal-is, state-is}
+use Rattle.bus.specs.Images.{copying, copiedOr, copied, Copies}
 use Rattle.bus.specs.Plans.{TellsPlan}
 
 -- a save that is refused leaves the list
 saving-kept : (s : State) (list : List ℕ) → (saving s list list .refusal ≡ 0 → ⊥) → saving s list list .image ≡ list
 unfolding saving
-saving-kept s list h = go (sized list && sized list) refl
+saving-kept s list h = go (eqb (saveRefusal s list list) 0) refl
   where
-    go : (b : Bool) → (sized list && sized list) ≡ b → saving s list list .image ≡ list
+    go : (b : Bool) → eqb (saveRefusal s list list) 0 ≡ b → saving s list list .image ≡ list
     go true e = absurd (h (rw e))
     go false e = rw e
 
@@ -95,14 +91,14 @@ module _ (n : Numbers) where
 
 module _ {n : Numbers} {numbers behind : List ℕ} {number : ℕ} where
   pub plan-refused : 0 < n .refusal → number ≡ n .refusal → behind ≡ numbers → TellsPlan n numbers number behind
-  plan-refused h k b = record { number-is = k; numbers-are = b ∙ refused-behind replanLatest n numbers h }
+  plan-refused h k b = record { number-is = k; numbers-are = b ∙ refused-behind (replanLatest 0) n numbers h }
 
   pub plan-told :
       n .refusal ≡ 0
       → number ≡ 0
-      → behind ≡ written (n .blocks ∷ numbersOf replanLatest n) numbers
+      → behind ≡ written (n .blocks ∷ numbersOf (replanLatest 0) n) numbers
       → TellsPlan n numbers number behind
-  plan-told h k b = record { number-is = k ∙ sym h; numbers-are = b ∙ granted-behind replanLatest n numbers h }
+  plan-told h k b = record { number-is = k ∙ sym h; numbers-are = b ∙ granted-behind (replanLatest 0) n numbers h }
 
 -- An image tested, and saved to another list
 
@@ -123,7 +119,7 @@ module _ {image : List ℕ} {restored : Restored} (r : Restores image restored) 
       record { result = rw (n, b, i, ← refusal-is r, refused, refused) refl }
 
   module _ {s : State} {list after : List ℕ} {saved : Saved} (accepted : restored .answer ≡ 0) (w : Saves s list list after saved)
-      (e : s ≡ view (restored .station)) where
+      (e : s ≡ view (stationOf (restored .one))) where
     -- what is copied, whatever the restore and the save answered
     is-copied : (blocks : ℕ) → copiedOr blocks list 0 (copying (saved .answer) (saved .blocks) after) ≡ copied blocks image list
     unfolding copied
@@ -150,67 +146,3 @@ module _ {image : List ℕ} {restored : Restored} (r : Restores image restored) 
         → listAfter ≡ after
         → Copies blocks image list k blocksAfter listAfter
     copy-saved {blocks} h n b i = record { result = rw (n, b, i) (sym (rw h refl) ∙ is-copied blocks) }
-
--- An opening
-
--- how it ends with an answer: its number, the numbers behind the references and the image
-pub record Ends (a : Answer) (s : State) (numbers image : List ℕ) (number : ℕ) (behind after : List ℕ) : Type 0 where
-  pub number-is : number ≡ told a .number
-  pub numbers-are : behind ≡ written (toldOver image a s) numbers
-  pub image-is : after ≡ cond (told a .isRefused) image (imageOf s)
-
-pub end-refused :
-    {a : Answer} {k number : ℕ} {s : State} {numbers behind image after : List ℕ}
-    → a ≡ refused k
-    → number ≡ k
-    → behind ≡ numbers
-    → after ≡ image
-    → Ends a s numbers image number behind after
-end-refused e n b i = record { number-is = rw e n; numbers-are = rw e b; image-is = rw e i }
-
--- `x` is the answer taken apart, of which the numbers can be read
-pub end-saved :
-    {a x : Answer} {s : State} {numbers behind image after : List ℕ} {number : ℕ}
-    → a ≡ x
-    → told x .isRefused ≡ false
-    → number ≡ told x .number
-    → behind ≡ written (differing image (imageOf s) ∷ told x .numbers) numbers
-    → after ≡ imageOf s
-    → Ends a s numbers image number behind after
-end-saved e f n b i = record { number-is = rw e n; numbers-are = rw (e, f) b; image-is = rw (e, f) i }
-
-ends-left :
-    {r : Result} {a : Answer} {s : Station} {numbers image behind after list : List ℕ} {number : ℕ}
-    → Gives r a s list
-    → Ends a (view s) numbers image number behind after
-    → leaving number behind after list ≡ left numbers image r
-unfolding left
-ends-left g h = rw (h .number-is, h .numbers-are, h .image-is) (ap (left _ _) (g .result))
-
-pub open-unsized :
-    {numbers behind image after : List ℕ} {x : Settings} {number : ℕ}
-    → (Whole image → ⊥)
-    → number ≡ 20
-    → behind ≡ numbers
-    → after ≡ image
-    → Opens numbers image x number behind after
-unfolding openedOver
-open-unsized {numbers} {behind} {image} {after} {x} h n b i =
-    record {
-      result =
-          rw (n, b, i) (
-          refused-left 20 numbers image [] (opening x .state) (opening x) (omega arith)
-          ∙ rw (saving-refused (opening x .state) image image (λ p q. h p))
-          );
-    }
-
-pub open-left :
-    {numbers image behind after : List ℕ} {x : Settings} {number : ℕ} {r : Result} {a : Answer} {s : Station}
-    → Whole image
-    → Gives r a s []
-    → r ≡ opening x
-    → Ends a (view s) numbers image number behind after
-    → Opens numbers image x number behind after
-unfolding openedOver
-open-left {numbers} {image} {behind} {after} {x} h g s e =
-    record { result = ends-left g e ∙ ap (left numbers image) s ∙ rw (saving-written (opening x .state) image image h h) refl }

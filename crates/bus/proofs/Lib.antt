@@ -1,3 +1,4 @@
 pub mod Calling
+pub mod Openings
 pub mod Chaining
 pub mod Returning

@@ -5,26 +5,30 @@ use Prim.Native.Nat.{ℕ, zero, suc}
 use mathlib.Core.Bool.{Bool, true, false, true≢false}
 use mathlib.Core.List.{List, []}
 use native.Mathlib.Omega.{arith}
-use lib.ListN.{length}
-use borrow.Author.Tests.{eqb-true}
+use lib.ListN.{length, getD}
+use borrow.Author.Tests.{eqb-true, eqb-false}
 use Rattle.rules.specs.Basics.{firstOf}
-use Rattle.rules.specs.Calls.{Settings, State, Answer, refused, opened, previewed, committed, moved, planned, waiting, charging, looked, withdrawn, Result, answering, opening, openRefusals, Call, lent, refusals, granted, step}
+use Rattle.rules.specs.Site.{State}
+use Rattle.rules.specs.Calls.{Asked, Answer, refused, opened, previewed, committed, moved, planned, waiting, charging, looked, withdrawn, Result, answering, settings, settingsRead, freshFeeder, opening, openRefusals, Call, lent, refusals, granted, step}
 use Rattle.rules.specs.Valid.{ValidState}
 use Rattle.rules.proofs.Granted.{refusals-none, openRefusals-numbered}
 use Rattle.rules.proofs.Tables.{firstOf-none}
 use Rattle.layout.specs.Reading.{sized, restoring}
 use Rattle.layout.specs.Saving.{SaveResult, saving}
-use Rattle.layout.proofs.Refusing.{saving-written}
+use Rattle.rules.proofs.Sites.{map-length}
+use Rattle.rules.proofs.Lists.{length-tabulate}
+use Rattle.layout.proofs.Refusing.{saving-written, saving-refused}
 use Rattle.layout.proofs.RoundTrip.{restoring-valid}
 use Rattle.guarantee.specs.Past.{isRefused}
 use Rattle.guarantee.specs.DemandOne.{NoneApplies}
 use Rattle.guarantee.proofs.DemandOne.{answer-not-refused, valid-demand-one, demand-one-opening}
 use Rattle.service.specs.Left.{told, left, called, Whole}
 use Rattle.bus.specs.Images.{openedOver}
+use Rattle.bus.proofs.Openings.{saved-one}
 
 granted-number : (a : Answer) → isRefused a ≡ false → told a .number ≡ 0
 granted-number (refused number) e = absurd (true≢false e)
-granted-number (opened bound) e = refl
+granted-number (opened bounds) e = refl
 granted-number (previewed start) e = refl
 granted-number (committed ticket start) e = refl
 granted-number (moved reported dropped) e = refl
@@ -68,29 +72,41 @@ zero-returned numbers image c =
 
 -- An opening
 
+-- what a save that is not refused says of the image and the station
 whole-saved : (s : State) (image : List ℕ) → saving s image image .refusal ≡ 0 → Whole image
-unfolding saving
 whole-saved s image e = go (sized image) refl
   where
     go : (b : Bool) → sized image ≡ b → Whole image
     go true f = eqb-true (length image) 4608 f
-    go false f = let unsized : saving s image image .refusal ≡ 20 = rw f refl in absurd (omega (arith, unsized, e))
+    go false f =
+        let unsized : saving s image image .refusal ≡ 20 = ap (λ (r : SaveResult). r .refusal) (saving-refused s image image (λ p q. eqb-false (length image) 4608 f p)) in
+        absurd (omega (arith, unsized, e))
 
-open-zero : (x : Settings) → told (opening x .answer) .number ≡ 0 → NoneApplies (openRefusals x)
+open-zero : (x : Asked) → told (opening x .answer) .number ≡ 0 → NoneApplies (openRefusals x)
 unfolding opening
 open-zero x e = firstOf-none (openRefusals x) (openRefusals-numbered x) (before-zero (firstOf (openRefusals x)) _ [] _ e)
 
+-- as many feeders as were asked for
+as-many : (x : Asked) → NoneApplies (openRefusals x) → length (opening x .state .feeders) ≡ x .count
+as-many x h =
+    ap (λ (s : State). length (s .feeders)) (demand-one-opening x .answered h .1)
+    ∙ map-length freshFeeder (settingsRead x)
+    ∙ length-tabulate (λ (i : ℕ). getD (x .settings) i (settings 0 0 0)) (x .count) 0
+
 pub zero-opened :
-    (numbers image : List ℕ) (x : Settings) → (openedOver numbers image x .number ≡ 0) ↔ (Whole image × NoneApplies (openRefusals x))
+    (numbers image : List ℕ) (x : Asked)
+    → (openedOver numbers image x .number ≡ 0) ↔ (Whole image × NoneApplies (openRefusals x) × (x .count ≡ 1))
 unfolding openedOver left
 zero-opened numbers image x =
     let s : State = opening x .state in (
       (λ e.
-          let k : saving s image image .refusal ≡ 0 = before-zero (saving s image image .refusal) s [] (opening x) e in (
-            whole-saved s image k,
-            open-zero x (sym (ap (λ (i : ℕ). told (answering i s [] (opening x) .answer) .number) k) ∙ e),
-          )),
+          let k : saving s image image .refusal ≡ 0 = before-zero (saving s image image .refusal) s [] (opening x) e in
+          let w : Whole image = whole-saved s image k in
+          let none : NoneApplies (openRefusals x) =
+          open-zero x (sym (ap (λ (i : ℕ). told (answering i s [] (opening x) .answer) .number) k) ∙ e) in
+          (w, none, sym (as-many x none) ∙ saved-one s image w k)),
       (λ h.
-          ap (λ (i : ℕ). told (answering i s [] (opening x) .answer) .number) (ap (λ (r : SaveResult). r .refusal) (saving-written s image image (h .0) (h .0)))
+          ap (λ (i : ℕ). told (answering i s [] (opening x) .answer) .number)
+          (ap (λ (r : SaveResult). r .refusal) (saving-written s image image (as-many x (h .1) ∙ h .2) (h .0) (h .0)))
           ∙ ap (λ (a : Answer). told a .number) (demand-one-opening x .answered (h .1) .0)),
     )

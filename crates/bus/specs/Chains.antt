@@ -2,15 +2,17 @@
 use Prim.Native.Nat.{ℕ}
 use mathlib.Core.Bool.{cond}
 use mathlib.Core.List.{List, [], _∷_}
-use Rattle.rules.specs.Calls.{Settings, State, Result, opening, Call, step, written}
+use Rattle.rules.specs.Site.{State}
+use Rattle.rules.specs.Calls.{Asked, refused, Result, opening, Call, step, written}
 use Rattle.layout.specs.Image.{imageOf}
+use Rattle.layout.specs.Saving.{hasOne}
 use Rattle.service.specs.Left.{Left, told, toldOver, leaving, called}
 use Rattle.bus.specs.Images.{openedOver}
 
 -- a call with the list lent to it, or an opening; and what stood behind its references before
 pub data Made : Type 0 where
   calls : List ℕ → Call → Made
-  opens : List ℕ → Settings → Made
+  opens : List ℕ → Asked → Made
 
 -- what it leaves of an image
 abbrev pub leftBy : List ℕ → Made → Left
@@ -22,10 +24,17 @@ abbrev pub chained : List ℕ → List Made → List Left
 chained image [] = []
 chained image (m ∷ ms) = let l : Left = leftBy image m in l ∷ chained (l .image) ms
 
--- an opening of a station that stands: where it is refused, the image stays, and so the station
-abbrev pub openingOver : State → Settings → Result
+-- an opening of the bus: "22 covers .. saving several feeders"
+abbrev pub openedOne : Asked → Result
+openedOne x =
+    cond (hasOne (opening x .state)) (opening x) (record { answer = refused 22; state = opening x .state; list = [] })
+
+-- an opening where a station stands: where it is refused, the image stays, and so the station
+abbrev pub openingOver : State → Asked → Result
 openingOver s x =
-    cond (told (opening x .answer) .isRefused) (record { answer = opening x .answer; state = s; list = opening x .list }) (opening x)
+    cond (told (openedOne x .answer) .isRefused)
+    (record { answer = openedOne x .answer; state = s; list = openedOne x .list })
+    (openedOne x)
 
 abbrev pub resultOf : State → Made → Result
 resultOf s (calls numbers c) = step s c

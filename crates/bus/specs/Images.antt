@@ -4,13 +4,14 @@ use mathlib.Core.Path.{_≡_}
 use mathlib.Core.Bool.{cond}
 use mathlib.Core.List.{List, []}
 use lib.Dec.{eqb}
-use Rattle.rules.specs.Calls.{Settings, answering, opening}
+use Rattle.rules.specs.Calls.{Asked, answering, opening}
 use Rattle.layout.specs.Reading.{restoring}
 use Rattle.layout.specs.Saving.{SaveResult, saving}
 use Rattle.service.specs.Left.{Left, leaving, left}
 
--- an opening: "opening reads no image: 20 only"
-unfoldable pub openedOver : List ℕ → List ℕ → Settings → Left
+-- an opening: "opening reads no image", so that 20 comes first, and "22 covers .. saving several feeders" last: beside a refused opening
+-- stands a station of one feeder
+unfoldable pub openedOver : List ℕ → List ℕ → Asked → Left
 openedOver numbers image x =
     left numbers image (answering (saving (opening x .state) image image .refusal) (opening x .state) [] (opening x))
 
@@ -29,7 +30,7 @@ copied blocks image list = copiedOr blocks list (restoring image .refusal) (savi
 
 -- What the contracts say
 
-pub record Opens (numbers image : List ℕ) (x : Settings) (number : ℕ) (behind after : List ℕ) : Type 0 where
+pub record Opens (numbers image : List ℕ) (x : Asked) (number : ℕ) (behind after : List ℕ) : Type 0 where
   pub result : leaving number behind after [] ≡ openedOver numbers image x
 
 pub record Copies (blocks : ℕ) (image list : List ℕ) (refusal blocksAfter : ℕ) (after : List ℕ) : Type 0 where

@@ -1,3 +1,4 @@
+pub mod Askings
 pub mod Images
 pub mod Plans
 pub mod Chains

@@ -3,7 +3,7 @@ ghost use mathlib.Core.Path.{_≡_};
 ghost use Rattle.layout.specs.Reading.{restoring};
 ghost use Rattle.bus.specs.Images.{Copies};
 use image::restoring::restore;
-use image::saving::save_back;
+use image::saving::save_only;
 
 #[no_mangle]
 pub extern "C" fn togbeyis_restore(image: &[u8]) -> u32
@@ -22,8 +22,8 @@ pub extern "C" fn togbeyis_save(image: &[u8], copy: &mut [u8], blocks: &mut u32)
     if 0 < refusal {
         return refusal;
     }
-    let station = restored.station;
-    let saved = save_back(station, copy);
+    let one = restored.one;
+    let saved = save_only(one, copy);
     let refused = saved.answer;
     if 0 < refused {
         return refused;

@@ -5,6 +5,7 @@ pub mod board;
 pub mod clock;
 pub mod copy;
 pub mod enquiry;
+pub mod given;
 pub mod open;
 pub mod order;
 pub mod plan;

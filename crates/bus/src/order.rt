@@ -3,11 +3,13 @@ ghost use mathlib.Core.List.{[], _∷_};
 ghost use Rattle.rules.specs.Calls.{preview as previewCall, commit as commitCall};
 ghost use Rattle.service.specs.Left.{Leaves};
 use calls::Call;
+use ordering::Order;
 use service::serve_alone;
 
 #[no_mangle]
 pub extern "C" fn togbeyis_preview(
     image: &mut [u8],
+    feeder: u32,
     line: u32,
     time: u32,
     due: u32,
@@ -15,14 +17,16 @@ pub extern "C" fn togbeyis_preview(
     start: &mut u32,
     blocks: &mut u32,
 ) -> u32
-    ensures { λ r. ⌜ Leaves (now (blocks .entry) ∷ now (start .entry) ∷ []) (now (image .entry)) (previewCall line time due rate) r (now (blocks .exit) ∷ now (start .exit) ∷ []) (now (image .exit)) [] ⌝ }
+    ensures { λ r. ⌜ Leaves (now (blocks .entry) ∷ now (start .entry) ∷ []) (now (image .entry)) (previewCall feeder line time due rate) r (now (blocks .exit) ∷ now (start .exit) ∷ []) (now (image .exit)) [] ⌝ }
 {
-    let call = Call::Preview {
+    let order = Order {
+        feeder,
         line,
         time,
         due,
         rate,
     };
+    let call = Call::Preview { order };
     let told = serve_alone(image, call);
     if 0 < told.refusal {
         return told.refusal;
@@ -35,6 +39,7 @@ pub extern "C" fn togbeyis_preview(
 #[no_mangle]
 pub extern "C" fn togbeyis_commit(
     image: &mut [u8],
+    feeder: u32,
     line: u32,
     time: u32,
     due: u32,
@@ -44,15 +49,16 @@ pub extern "C" fn togbeyis_commit(
     start: &mut u32,
     blocks: &mut u32,
 ) -> u32
-    ensures { λ r. ⌜ Leaves (now (blocks .entry) ∷ now (ticket .entry) ∷ now (start .entry) ∷ []) (now (image .entry)) (commitCall line time due rate shown) r (now (blocks .exit) ∷ now (ticket .exit) ∷ now (start .exit) ∷ []) (now (image .exit)) [] ⌝ }
+    ensures { λ r. ⌜ Leaves (now (blocks .entry) ∷ now (ticket .entry) ∷ now (start .entry) ∷ []) (now (image .entry)) (commitCall feeder line time due rate shown) r (now (blocks .exit) ∷ now (ticket .exit) ∷ now (start .exit) ∷ []) (now (image .exit)) [] ⌝ }
 {
-    let call = Call::Commit {
+    let order = Order {
+        feeder,
         line,
         time,
         due,
         rate,
-        shown,
     };
+    let call = Call::Commit { order, shown };
     let told = serve_alone(image, call);
     if 0 < told.refusal {
         return told.refusal;

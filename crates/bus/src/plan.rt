@@ -33,6 +33,7 @@ fn tell_plan(
 #[no_mangle]
 pub extern "C" fn togbeyis_offer(
     image: &mut [u8],
+    feeder: u32,
     starts: &[u32],
     cause: &mut u32,
     before: &mut u64,
@@ -40,30 +41,34 @@ pub extern "C" fn togbeyis_offer(
     rounds: &mut u32,
     blocks: &mut u32,
 ) -> u32
-    ensures { λ r. ⌜ Leaves (now (blocks .entry) ∷ now (cause .entry) ∷ now (before .entry) ∷ now (after .entry) ∷ now (rounds .entry) ∷ []) (now (image .entry)) (offerCall (now (starts .entry))) r (now (blocks .exit) ∷ now (cause .exit) ∷ now (before .exit) ∷ now (after .exit) ∷ now (rounds .exit) ∷ []) (now (image .exit)) (now (starts .entry)) ⌝ }
+    ensures { λ r. ⌜ Leaves (now (blocks .entry) ∷ now (cause .entry) ∷ now (before .entry) ∷ now (after .entry) ∷ now (rounds .entry) ∷ []) (now (image .entry)) (offerCall feeder (now (starts .entry))) r (now (blocks .exit) ∷ now (cause .exit) ∷ now (before .exit) ∷ now (after .exit) ∷ now (rounds .exit) ∷ []) (now (image .exit)) (now (starts .entry)) ⌝ }
 {
-    let offered = serve(image, Call::Offer, starts, &mut []);
+    let call = Call::Offer { feeder };
+    let offered = serve(image, call, starts, &mut []);
     tell_plan(offered, cause, before, after, rounds, blocks)
 }
 
 #[no_mangle]
 pub extern "C" fn togbeyis_latest(
     image: &mut [u8],
+    feeder: u32,
     cause: &mut u32,
     before: &mut u64,
     after: &mut u64,
     rounds: &mut u32,
     blocks: &mut u32,
 ) -> u32
-    ensures { λ r. ⌜ Leaves (now (blocks .entry) ∷ now (cause .entry) ∷ now (before .entry) ∷ now (after .entry) ∷ now (rounds .entry) ∷ []) (now (image .entry)) replanLatest r (now (blocks .exit) ∷ now (cause .exit) ∷ now (before .exit) ∷ now (after .exit) ∷ now (rounds .exit) ∷ []) (now (image .exit)) [] ⌝ }
+    ensures { λ r. ⌜ Leaves (now (blocks .entry) ∷ now (cause .entry) ∷ now (before .entry) ∷ now (after .entry) ∷ now (rounds .entry) ∷ []) (now (image .entry)) (replanLatest feeder) r (now (blocks .exit) ∷ now (cause .exit) ∷ now (before .exit) ∷ now (after .exit) ∷ now (rounds .exit) ∷ []) (now (image .exit)) [] ⌝ }
 {
-    let latest = serve_alone(image, Call::ReplanLatest);
+    let call = Call::ReplanLatest { feeder };
+    let latest = serve_alone(image, call);
     tell_plan(latest, cause, before, after, rounds, blocks)
 }
 
 #[no_mangle]
 pub extern "C" fn togbeyis_lines(
     image: &mut [u8],
+    feeder: u32,
     allowance: u32,
     cause: &mut u32,
     before: &mut u64,
@@ -71,9 +76,9 @@ pub extern "C" fn togbeyis_lines(
     rounds: &mut u32,
     blocks: &mut u32,
 ) -> u32
-    ensures { λ r. ⌜ Leaves (now (blocks .entry) ∷ now (cause .entry) ∷ now (before .entry) ∷ now (after .entry) ∷ now (rounds .entry) ∷ []) (now (image .entry)) (replanLines allowance) r (now (blocks .exit) ∷ now (cause .exit) ∷ now (before .exit) ∷ now (after .exit) ∷ now (rounds .exit) ∷ []) (now (image .exit)) [] ⌝ }
+    ensures { λ r. ⌜ Leaves (now (blocks .entry) ∷ now (cause .entry) ∷ now (before .entry) ∷ now (after .entry) ∷ now (rounds .entry) ∷ []) (now (image .entry)) (replanLines feeder allowance) r (now (blocks .exit) ∷ now (cause .exit) ∷ now (before .exit) ∷ now (after .exit) ∷ now (rounds .exit) ∷ []) (now (image .exit)) [] ⌝ }
 {
-    let call = Call::ReplanLines { allowance };
+    let call = Call::ReplanLines { feeder, allowance };
     let lines = serve_alone(image, call);
     tell_plan(lines, cause, before, after, rounds, blocks)
 }

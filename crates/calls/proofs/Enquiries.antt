@@ -1,12 +1,12 @@
 -- The answer of an enquiry, by its cases.
 use mathlib.Core.Path.{_≡_, refl}
-use mathlib.Core.List.{List, [], _∷_}
+use mathlib.Core.List.{[], _∷_}
 use mathlib.Core.Logic.{_⊎_, ⊎-elim}
 use Prim.Native.Nat.{ℕ}
 use native.Mathlib.Omega.{arith}
-use Rattle.station.specs.declared.enquiry.EnquiryAnswer.{EnquiryAnswer}
-use Rattle.station.proofs.enquiry.EnquiryAnswer.{the-type}
-use Rattle.station.specs.declared.enquiry.EnquiryAnswer.the-variants.{Waiting, Charging, Refused}
+use Rattle.site.specs.declared.enquiry.EnquiryAnswer.{EnquiryAnswer}
+use Rattle.site.proofs.enquiry.EnquiryAnswer.{the-type}
+use Rattle.site.specs.declared.enquiry.EnquiryAnswer.the-variants.{Waiting, Charging, Refused}
 use types.Run.{OneOf}
 use denote.Enum.Declared.{tagOf}
 

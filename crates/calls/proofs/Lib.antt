@@ -1,2 +1,4 @@
 pub mod Applying
+pub mod Only
+pub mod About
 pub mod Enquiries

@@ -1,24 +1,37 @@
 -- A call given as a value: the call of the rules that it is, and what applying it gives.
 use mathlib.Core.Path.{_≡_}
-use Prim.Native.Nat.{ℕ}
-use mathlib.Core.List.{List, []}
+use Prim.Native.Nat.{ℕ, _+_, _≤_, _<_}
+use mathlib.Core.Bool.{Bool, true, false}
+use mathlib.Core.List.{List, [], map}
 use Rattle.rules.specs.Calls as rules
-use Rattle.rules.specs.Calls.{State, preview, commit, move, offer, replanLatest, replanLines, enquire, board, withdraw, step}
+use Rattle.rules.specs.Load.{elsewhere}
+use Rattle.rules.specs.Charge.{loadsOf}
+use Rattle.rules.specs.Site.{State, othersOf}
+use Rattle.charges.specs.Drawn.{Draws}
+use Rattle.rules.specs.Calls.{preview, commit, move, offer, replanLatest, replanLines, enquire, board, withdraw, step}
 use Rattle.station.specs.declared.Station.{Station}
 use Rattle.calls.specs.declared.Call.{Call}
 use Rattle.calls.specs.declared.Call.the-variants.{Preview, Commit, Move, Offer, ReplanLatest, ReplanLines, Enquire, Board, Withdraw}
 use Rattle.calls.specs.declared.Answer.{Answer}
 use Rattle.calls.specs.declared.Answer.the-variants.{Preview as PreviewOf, Commit as CommitOf, Move as MoveOf, Plan as PlanOf, Enquiry as EnquiryOf, Board as BoardOf, Withdrawal as WithdrawalOf}
-use Rattle.station.specs.Answers.{Gives, previewAnswer, commitAnswer, moveAnswer, planAnswer, enquiryAnswer, boardAnswer, withdrawalAnswer}
+use Rattle.calls.specs.declared.Applied.{Applied}
+use Rattle.calls.specs.declared.yard.Parts.{Parts}
+use Rattle.station.specs.View.{view, oneAt}
+use Rattle.station.specs.Holders.{Holding}
+use Rattle.station.specs.Given.{Gives}
+use Rattle.orders.specs.Shown.{previewAnswer}
+use Rattle.ordering.specs.Answers.{commitAnswer}
+use Rattle.planning.specs.Answers.{planAnswer, besideFor}
+use Rattle.site.specs.Answers.{moveAnswer, enquiryAnswer, boardAnswer, withdrawalAnswer}
 
 -- the call of the rules, with the lists that are lent to it
 abbrev pub callOf : Call → List ℕ → List ℕ → rules.Call
-callOf (Preview line time due rate) numbers list = preview line time due rate
-callOf (Commit line time due rate shown) numbers list = commit line time due rate shown
+callOf (Preview o) numbers list = preview (o .feeder) (o .line) (o .time) (o .due) (o .rate)
+callOf (Commit o shown) numbers list = commit (o .feeder) (o .line) (o .time) (o .due) (o .rate) shown
 callOf (Move target) numbers list = move target list
-callOf Offer numbers list = offer numbers
-callOf ReplanLatest numbers list = replanLatest
-callOf (ReplanLines allowance) numbers list = replanLines allowance
+callOf (Offer feeder) numbers list = offer feeder numbers
+callOf (ReplanLatest feeder) numbers list = replanLatest feeder
+callOf (ReplanLines feeder allowance) numbers list = replanLines feeder allowance
 callOf (Enquire ticket) numbers list = enquire ticket
 callOf Board numbers list = board numbers list
 callOf (Withdraw ticket) numbers list = withdraw ticket
@@ -31,12 +44,12 @@ pub data Lends : Type 0 where
   both : Lends
 
 abbrev pub lends : Call → Lends
-lends (Preview line time due rate) = none
-lends (Commit line time due rate shown) = none
+lends (Preview o) = none
+lends (Commit o shown) = none
 lends (Move target) = writes
-lends Offer = reads
-lends ReplanLatest = none
-lends (ReplanLines allowance) = none
+lends (Offer feeder) = reads
+lends (ReplanLatest feeder) = none
+lends (ReplanLines feeder allowance) = none
 lends (Enquire ticket) = none
 lends Board = both
 lends (Withdraw ticket) = none
@@ -71,3 +84,38 @@ answerOf (WithdrawalOf a) = withdrawalAnswer a
 pub record Applies (s : State) (call : Call) (numbers before after : List ℕ) (answer : Answer) (next : Station) : Type 0 where
   pub gives : Gives (step s (callOf call numbers before)) (answerOf answer) next (listAfter call numbers after)
   pub stays : ListStays (lends call) before after
+
+-- "changes nothing": it leaves every station as it is
+abbrev pub keepsOf : Call → Bool
+keepsOf (Preview o) = true
+keepsOf (Commit o shown) = false
+keepsOf (Move target) = false
+keepsOf (Offer feeder) = false
+keepsOf (ReplanLatest feeder) = false
+keepsOf (ReplanLines feeder allowance) = false
+keepsOf (Enquire ticket) = true
+keepsOf Board = true
+keepsOf (Withdraw ticket) = false
+
+-- what `apply` hands back
+abbrev pub appliedOf : Answer → Station → Applied
+appliedOf answer s = record { answer = answer; station = s }
+
+-- Which feeder a call is about
+
+-- the place of a feeder: of that with the number, if there is one
+pub record NamedPlace (count number place : ℕ) : Type 0 where
+  pub inside : place < count
+  pub names : 1 ≤ number → number ≤ count → number ≡ place + 1
+
+-- of that which holds the ticket, if one does
+pub record HeldPlace (s : Station) (ticket place : ℕ) : Type 0 where
+  pub inside : place < s .count
+  pub holding : Holding s ticket place
+
+-- a feeder taken out, and what a plan of it stands beside
+pub record PartsOf (s : Station) (place : ℕ) (r : Parts) : Type 0 where
+  pub taken : r .one ≡ oneAt s place
+  pub draws : Draws (map elsewhere (loadsOf (othersOf (view s) (place + 1)))) (r .others)
+  pub few : r .others .held ≤ 540
+  pub beside : r .beside ≡ besideFor (r .one) (r .others .held)

@@ -1,44 +1,43 @@
 // Any call of a station that stands, given as a value, with the lists lent beside it.
+pub mod alone;
+pub mod clock;
+pub mod order;
+pub mod plan;
+pub mod ticket;
+pub mod yard;
+
+use clock::Moving;
+use order::Committing;
+use order::Previewing;
+use ordering::Order;
+use ordering::commit::CommitAnswer;
+use orders::sought::PreviewAnswer;
+use plan::Planning;
+use planning::PlanAnswer;
+use site::board::BoardAnswer;
+use site::clock::MoveAnswer;
+use site::enquiry::EnquiryAnswer;
+use site::withdraw::WithdrawalAnswer;
+use station::One;
 use station::Station;
-use station::board::BoardAnswer;
-use station::clock::MoveAnswer;
-use station::enquiry::EnquiryAnswer;
-use station::order::CommitAnswer;
-use station::order::PreviewAnswer;
-use station::plan::PlanAnswer;
-use station::withdraw::WithdrawalAnswer;
+use ticket::Boarding;
+use ticket::Enquiring;
+use ticket::Withdrawing;
+use yard::Yard;
+ghost use mathlib.Core.Path.{_≡_};
 ghost use Rattle.station.specs.View.{view, Valid};
-ghost use Rattle.calls.specs.Applied.{Applies};
+ghost use Rattle.calls.specs.Applied.{appliedOf, keepsOf, Applies};
 
 pub enum Call {
-    Preview {
-        line: u32,
-        time: u32,
-        due: u32,
-        rate: u32,
-    },
-    Commit {
-        line: u32,
-        time: u32,
-        due: u32,
-        rate: u32,
-        shown: u32,
-    },
-    Move {
-        target: u32,
-    },
-    Offer,
-    ReplanLatest,
-    ReplanLines {
-        allowance: u32,
-    },
-    Enquire {
-        ticket: u32,
-    },
+    Preview { order: Order },
+    Commit { order: Order, shown: u32 },
+    Move { target: u32 },
+    Offer { feeder: u32 },
+    ReplanLatest { feeder: u32 },
+    ReplanLines { feeder: u32, allowance: u32 },
+    Enquire { ticket: u32 },
     Board,
-    Withdraw {
-        ticket: u32,
-    },
+    Withdraw { ticket: u32 },
 }
 
 pub enum Answer {
@@ -56,104 +55,79 @@ pub struct Applied {
     pub station: Station,
 }
 
-// One call. An offer reads its starts from `numbers`, and a board its tickets; a clock move writes its report to `list`, and a
-// board its answers. No other call touches either.
+// The answer of a call, and what it leaves of a feeder.
+pub struct Made {
+    pub answer: Answer,
+    pub left: One,
+}
+
+// Whether a call only asks, and keeps every station as it is.
+pub fn keeps(call: Call) -> bool
+    ensures { λ r. ⌜ r ≡ keepsOf call ⌝ }
+{
+    match call {
+        Call::Preview { order } => true,
+        Call::Commit { order, shown } => false,
+        Call::Move { target } => false,
+        Call::Offer { feeder } => false,
+        Call::ReplanLatest { feeder } => false,
+        Call::ReplanLines { feeder, allowance } => false,
+        Call::Enquire { ticket } => true,
+        Call::Board => true,
+        Call::Withdraw { ticket } => false,
+    }
+}
+
+fn handed_back(answer: Answer, yard: Yard) -> Applied
+    ensures { λ r. ⌜ r ≡ appliedOf answer (yard .station) ⌝ }
+{
+    let station = yard.station;
+    Applied { answer, station }
+}
+
+// One call of any station, and the station after it. An offer reads its starts from `numbers`, and a board its tickets; a clock move
+// writes its report to `list`, and a board its answers. No other call touches either.
 pub fn apply(station: Station, call: Call, numbers: &[u32], list: &mut [u32]) -> Applied
     requires { ⌜ Valid station ⌝ }
     ensures { λ r. ⌜ Applies (view station) call (now (numbers .entry)) (now (list .entry)) (now (list .exit)) (r .answer) (r .station) ⌝ }
 {
+    let yard = Yard { station };
     match call {
-        Call::Preview {
-            line,
-            time,
-            due,
-            rate,
-        } => {
-            let done = station.preview(line, time, due, rate);
-            let answer = done.answer;
-            let after = done.station;
-            Applied {
-                answer: Answer::Preview(answer),
-                station: after,
-            }
+        Call::Preview { order } => {
+            let Previewing { answer, yard } = yard.preview(order);
+            handed_back(Answer::Preview(answer), yard)
         }
-        Call::Commit {
-            line,
-            time,
-            due,
-            rate,
-            shown,
-        } => {
-            let done = station.commit(line, time, due, rate, shown);
-            let answer = done.answer;
-            let after = done.station;
-            Applied {
-                answer: Answer::Commit(answer),
-                station: after,
-            }
+        Call::Commit { order, shown } => {
+            let Committing { answer, yard } = yard.commit(order, shown);
+            handed_back(Answer::Commit(answer), yard)
         }
         Call::Move { target } => {
-            let done = station.move_clock(target, list);
-            let answer = done.answer;
-            let after = done.station;
-            Applied {
-                answer: Answer::Move(answer),
-                station: after,
-            }
+            let Moving { answer, yard } = yard.move_clock(target, list);
+            handed_back(Answer::Move(answer), yard)
         }
-        Call::Offer => {
-            let done = station.offer(numbers);
-            let answer = done.answer;
-            let after = done.station;
-            Applied {
-                answer: Answer::Plan(answer),
-                station: after,
-            }
+        Call::Offer { feeder } => {
+            let Planning { answer, yard } = yard.offer(feeder, numbers);
+            handed_back(Answer::Plan(answer), yard)
         }
-        Call::ReplanLatest => {
-            let done = station.replan_latest();
-            let answer = done.answer;
-            let after = done.station;
-            Applied {
-                answer: Answer::Plan(answer),
-                station: after,
-            }
+        Call::ReplanLatest { feeder } => {
+            let Planning { answer, yard } = yard.replan_latest(feeder);
+            handed_back(Answer::Plan(answer), yard)
         }
-        Call::ReplanLines { allowance } => {
-            let done = station.replan_lines(allowance);
-            let answer = done.answer;
-            let after = done.station;
-            Applied {
-                answer: Answer::Plan(answer),
-                station: after,
-            }
+        Call::ReplanLines { feeder, allowance } => {
+            let Planning { answer, yard } = yard.replan_lines(feeder, allowance);
+            handed_back(Answer::Plan(answer), yard)
         }
         Call::Enquire { ticket } => {
-            let done = station.enquire(ticket);
-            let answer = done.answer;
-            let after = done.station;
-            Applied {
-                answer: Answer::Enquiry(answer),
-                station: after,
-            }
+            let Enquiring { answer, yard } = yard.enquire(ticket);
+            handed_back(Answer::Enquiry(answer), yard)
         }
         Call::Board => {
-            let done = station.board(numbers, list);
-            let answer = done.answer;
-            let after = done.station;
-            Applied {
-                answer: Answer::Board(answer),
-                station: after,
-            }
+            let Boarding { answer, yard } = yard.board(numbers, list);
+            handed_back(Answer::Board(answer), yard)
         }
         Call::Withdraw { ticket } => {
-            let done = station.withdraw(ticket);
-            let answer = done.answer;
-            let after = done.station;
-            Applied {
-                answer: Answer::Withdrawal(answer),
-                station: after,
-            }
+            let Withdrawing { answer, yard } = yard.withdraw(ticket);
+            handed_back(Answer::Withdrawal(answer), yard)
         }
     }
 }

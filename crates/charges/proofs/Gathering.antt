@@ -5,7 +5,7 @@ use mathlib.Core.List.{List, map}
 use native.Mathlib.Omega.{arith}
 use lib.ListN.{length, getD, set, replicate, length-append, length-replicate, List·getD-append}
 use lib.Seq.{set-at, append-snoc, getD-append-add}
-use Rattle.rules.specs.Calls.{places}
+use Rattle.rules.specs.Site.{places}
 use Rattle.rules.specs.Basics.{tabulate, keep}
 use Rattle.rules.proofs.Lists.{length-tabulate, tabulate-next, tabulate-same, map-tabulate, getD-tabulate}
 use Rattle.charges.specs.declared.Charges.{Charges}

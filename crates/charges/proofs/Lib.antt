@@ -7,5 +7,8 @@ pub mod NewStarts
 pub mod Restarting
 pub mod TicketOrder
 pub mod Collecting
+pub mod Drawing
+pub mod Joining
+pub mod Feeders
 pub mod Gathering
 pub mod Holding

@@ -5,7 +5,7 @@ use mathlib.Core.List.{List, [], _∷_, _++_}
 use native.Mathlib.Omega.{arith}
 use lib.ListN.{length, getD, set, replicate, length-set}
 use lib.Seq.{getD-set-same, getD-set-other}
-use Rattle.rules.specs.Calls.{places}
+use Rattle.rules.specs.Site.{places}
 use Rattle.rules.specs.Charge.{Charge}
 use Rattle.rules.proofs.Lists.{length-tabulate, tabulate-same, tabulate-next}
 use Rattle.charges.specs.declared.Charges.{Charges}

@@ -1,3 +1,4 @@
 pub mod Arrays
+pub mod Drawn
 pub mod Held
 pub mod Places

@@ -3,7 +3,7 @@ use crate::PLACES;
 ghost use mathlib.Core.Path.{_≡_};
 ghost use Prim.Native.Nat.{_<_};
 ghost use lib.ListN.{length, set};
-ghost use Rattle.rules.specs.Calls.{places};
+ghost use Rattle.rules.specs.Site.{places};
 
 // A number at a place of a list.
 pub fn put(list: &mut [u32; PLACES], place: usize, number: u32)

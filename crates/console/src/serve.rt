@@ -7,7 +7,6 @@ use session::turn::Session;
 use session::turn::Wants;
 use session::turn::turn;
 use station::Station;
-use station::open::Settings;
 
 // Reads once, and answers how many bytes came. A read that fails counts as the end of the input.
 fn read_some(part: &mut [u8]) -> usize
@@ -38,31 +37,26 @@ fn is_over(wants: Wants) -> bool
     }
 }
 
-// From the fresh station of 1, 100 turn by turn to the end of the input; the last session. A proved loop has to end, and
+// From the fresh station of 1, 100, with one feeder and W 720, turn by turn to the end of the input; the last session. A proved loop has to end, and
 // nothing says that the input does. So the loop counts its turns down, from a number that no run uses up.
 pub fn serve(block: &mut [u8], numbers: &mut [u32], list: &mut [u32], out: &mut [u8]) -> Session
     requires { ⌜ Room (now numbers) (now list) (now out) ⌝ }
     ensures { λ r. ⌜ Reached r (now (block .exit)) ⌝ }
 {
-    let opening = Station::open(Settings {
-        limit: 1,
-        percent: 100,
-        tail: 0,
-    });
-    let station = opening.station;
+    let station = Station::least();
     let mut session = Session {
         station,
         held: 0,
         wants: Wants::Bytes,
+        at: 0,
     };
     let mut turns = u64::MAX;
     while turns > 0 {
         let wants = session.wants;
         let count = read_wanted(wants, block, session.held);
-        let next = turn(session, count, block, numbers, list, out);
-        let at = next.at;
+        session = turn(session, count, block, numbers, list, out);
+        let at = session.at;
         io::write_all(1, &out[..at]);
-        session = next.session;
         let then = session.wants;
         if is_over(then) {
             return session;

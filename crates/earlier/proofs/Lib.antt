@@ -1,5 +1,14 @@
 pub mod Earlier
+pub mod Feeders
+pub mod Alike
+pub mod AlikeLines
 pub mod Unrated
 pub mod UnratedPlans
 pub mod RateOne
+pub mod UntailedCalls
 pub mod Untailed
+pub mod Rates
+pub mod OnePlans
+pub mod OneTest
+pub mod OneCall
+pub mod OneFeeder

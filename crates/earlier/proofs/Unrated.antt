@@ -1,14 +1,14 @@
 -- With every rate 1, counts and searches are those before N4.
-use mathlib.Core.Path.{_≡_, refl, ap, fun-ext}
+use mathlib.Core.Path.{_≡_, refl, ap, fun-ext, _∙_}
 use Prim.Native.Nat.{ℕ, suc, _+_, _-_}
 use mathlib.Core.Bool.{Bool, true, false, cond, not, _&&_}
-use mathlib.Core.List.{List, [], _∷_}
+use mathlib.Core.List.{List, [], _∷_, map}
 use native.Mathlib.Omega.{arith}
 use lib.Dec.{leb, eqb}
 use lib.ListN.{length}
 use Rattle.rules.specs.Basics.{Each, first, throughout, keep}
-use Rattle.rules.specs.Load.{Load, Draw, active, count, lastUntil, Limits, balanced, soundCounts, fromOn, sound}
-use Rattle.rules.specs.Charge.{Charge, drawOf, loadsOf}
+use Rattle.rules.specs.Load.{Load, Draw, active, count, counts, wholeOf, lastUntil, Limits, elsewhere, balanced, soundCounts, fromOn, sound}
+use Rattle.rules.specs.Charge.{Charge, loadsOf}
 use Rattle.rules.specs.Search.{added, earliest, Caps, firstUnbalanced}
 use Rattle.rules.specs.Priority.{fitsAt}
 use Rattle.earlier.specs.Unrated.{numberActive, soundBefore, earliestBefore, fitsBefore, unbalancedBefore, AtRateOne}
@@ -44,6 +44,10 @@ pub loads-one : (cs : List Charge) → AtRateOne cs → Each One (loadsOf cs)
 loads-one [] e = tt
 loads-one (c ∷ cs) e = (e .0, loads-one cs (e .1))
 
+pub elsewhere-one : (xs : List Load) → Each One xs → Each One (map elsewhere xs)
+elsewhere-one [] e = tt
+elsewhere-one (x ∷ xs) e = (e .0, elsewhere-one xs (e .1))
+
 -- The searches
 
 sound-is : (y : Limits) (clock : ℕ) (xs : List Load) → Each One xs → sound y clock xs ≡ soundBefore y clock xs
@@ -57,10 +61,16 @@ module _ (xs : List Load) (e : Each One xs) where
       ap (λ (f : ℕ → Bool). first f (suc (lastUntil xs - clock)) clock)
       (fun-ext (λ s. sound-is y clock (added xs a s) (one-more xs a s e h)))
 
-  pub fits-is : (cap : Caps) (s : ℕ) (c : Charge) → c .rate ≡ 1 → fitsAt cap xs s c ≡ fitsBefore cap xs s c
-  fits-is cap s c h =
-      ap (λ (f : ℕ → ℕ → ℕ). throughout (λ t. leb (f (c .line) t) (cap (c .line) t)) (c .activeTime) s)
-      (count-is (added xs (drawOf c) s) (one-more xs (drawOf c) s e h))
+  pub fits-is : (w : ℕ) (cap : Caps) (s : ℕ) (c : Charge) → c .rate ≡ 1 → fitsAt w cap xs s c ≡ fitsBefore w cap xs s c
+  fits-is w cap s c h =
+      ap
+      (λ (r : ℕ).
+      throughout (λ t. leb (count xs (c .line) t + r) (cap (c .line) t) && leb (wholeOf (counts xs t) + r) w) (c .activeTime) s)
+      h
+      ∙ ap
+      (λ (f : ℕ → ℕ → ℕ).
+      throughout (λ t. leb (f (c .line) t + 1) (cap (c .line) t) && leb (wholeOf (λ l. f l t) + 1) w) (c .activeTime) s)
+      (count-is xs e)
 
   pub unbalanced-is : (y : Limits) (clock : ℕ) → firstUnbalanced y clock xs ≡ unbalancedBefore y clock xs
   unfolding firstUnbalanced

@@ -1,3 +1,4 @@
 pub mod Earlier
 pub mod Unrated
 pub mod Untailed
+pub mod Single

@@ -8,11 +8,12 @@ use mathlib.Core.Bool.{Bool, not, _||_}
 use mathlib.Core.List.{List, [], _∷_, _++_, map}
 use lib.Dec.{ltb, leb, eqb}
 use lib.ListN.{length}
-use Rattle.rules.specs.Basics.{Found, firstOf, keep, Each}
-use Rattle.rules.specs.Load.{Load, draw, loadFrom}
+use Rattle.rules.specs.Basics.{Found, firstOf, keep, some, Each}
+use Rattle.rules.specs.Load.{Load, draw, loadFrom, elsewhere, Limits, limits}
 use Rattle.rules.specs.Charge.{Charge, endOf}
 use Rattle.rules.specs.Search.{earliest}
-use Rattle.rules.specs.Calls.{State, limitsOf, holding, settings, committed, moved, opened, Result, answering, boundOf, fresh, Call, preview, commit, move, offer, replanLatest, replanLines, enquire, board, withdraw, lent, isStart, orderRefusals, refusals, previewedAt, taking, reported, pairs, written, offering, replanningLatest, replanningLines, enquiring, boarding, withdrawing}
+use Rattle.rules.specs.Site.{Feeder, State, feederOf, chargesOn, siteCharges, othersOf, withCharges}
+use Rattle.rules.specs.Calls.{Asked, settingsRead, committed, moved, opened, Result, answering, boundOf, fresh, least, Call, preview, commit, move, offer, replanLatest, replanLines, enquire, board, withdraw, lent, isStart, orderRefusals, refusals, previewedAt, taking, reported, pairs, written, offering, replanningLatest, replanningLines, enquiring, boarding, withdrawing}
 
 -- Charges
 
@@ -41,10 +42,13 @@ activeFor k c =
       rate = c .rate;
     }
 
--- The station in which each charge is active for its p alone. Offers and replans read of a charge's minutes nothing but its load:
--- `loadBefore` on this station (`load-then` in proofs/Untailed.antt).
+-- The site in which each charge is active for its p alone. Offers and replans read of a charge's minutes nothing but its load:
+-- `loadBefore` on this site (`load-then` in proofs/Untailed.antt).
+abbrev pub feederBefore : Feeder → Feeder
+feederBefore g = withCharges g (map (λ c. activeFor (c .time) c) (g .charges))
+
 abbrev pub stationBefore : State → State
-stationBefore s = holding s (s .clock) (map (λ c. activeFor (c .time) c) (s .charges))
+stationBefore s = record { feeders = map feederBefore (s .feeders); site = s .site; clock = s .clock; next = s .next }
 
 -- The calls
 
@@ -61,41 +65,54 @@ newChargeBefore s line p d rate start =
       rate = rate;
     }
 
+abbrev pub limitsBefore : State → ℕ → Limits
+limitsBefore s f =
+    limits (feederOf s f .limit) (feederOf s f .bound) (s .site) (map elsewhere (loadsBefore (othersOf s f)))
+
 -- "The start is the smallest s not below the clock with which the held plan and this charge are sound together."
-abbrev pub startForBefore : State → ℕ → ℕ → ℕ → Found
-startForBefore s line p rate = earliest (limitsOf s) (s .clock) (loadsBefore (s .charges)) (draw line p rate)
+abbrev pub startForBefore : State → ℕ → ℕ → ℕ → ℕ → Found
+startForBefore s f line p rate =
+    earliest (limitsBefore s f) (s .clock) (limitsBefore s f .others ++ loadsBefore (chargesOn s f)) (draw line p rate)
 
 abbrev pub refusalsBefore : State → Call → List (Bool × ℕ)
-refusalsBefore s (preview line p d rate) = orderRefusals s line p d rate
-refusalsBefore s (commit line p d rate shown) =
-    orderRefusals s line p d rate ++ ((not (isStart (startForBefore s line p rate) shown), 16) ∷ [])
+refusalsBefore s (preview f line p d rate) = orderRefusals s f line p d rate
+refusalsBefore s (commit f line p d rate shown) =
+    orderRefusals s f line p d rate ++ ((not (isStart (startForBefore s f line p rate) shown), 16) ∷ [])
 refusalsBefore s (move target list) = refusals s (move target list)
-refusalsBefore s (offer ss) = refusals s (offer ss)
-refusalsBefore s replanLatest = refusals s replanLatest
-refusalsBefore s (replanLines allowance) = refusals s (replanLines allowance)
+refusalsBefore s (offer f ss) = refusals s (offer f ss)
+refusalsBefore s (replanLatest f) = refusals s (replanLatest f)
+refusalsBefore s (replanLines f allowance) = refusals s (replanLines f allowance)
 refusalsBefore s (enquire ticket) = refusals s (enquire ticket)
 refusalsBefore s (board asked list) = refusals s (board asked list)
 refusalsBefore s (withdraw ticket) = refusals s (withdraw ticket)
 
 -- "Then finished charges are dropped."
+abbrev pub movedBefore : State → ℕ → State
+movedBefore s target =
+    record {
+      feeders = map (λ g. withCharges g (unfinishedBefore target (g .charges))) (s .feeders);
+      site = s .site;
+      clock = target;
+      next = s .next;
+    }
+
 abbrev pub movingBefore : State → ℕ → List ℕ → Result
 movingBefore s target list =
-    let report : List Charge = reported (s .clock) target (s .charges) in
-    let left : List Charge = unfinishedBefore target (s .charges) in
+    let report : List Charge = reported (s .clock) target (siteCharges s) in
     record {
-      answer = moved (length report) (length (s .charges) - length left);
-      state = holding s target left;
+      answer = moved (length report) (length (siteCharges s) - length (siteCharges (movedBefore s target)));
+      state = movedBefore s target;
       list = written (pairs report) list;
     }
 
 abbrev pub grantedBefore : State → Call → Result
-grantedBefore s (preview line p d rate) = previewedAt s (startForBefore s line p rate)
-grantedBefore s (commit line p d rate shown) =
-    record { answer = committed (s .next) shown; state = taking s (newChargeBefore s line p d rate shown); list = [] }
+grantedBefore s (preview f line p d rate) = previewedAt s (startForBefore s f line p rate)
+grantedBefore s (commit f line p d rate shown) =
+    record { answer = committed (s .next) shown; state = taking s f (newChargeBefore s line p d rate shown); list = [] }
 grantedBefore s (move target list) = movingBefore s target list
-grantedBefore s (offer ss) = offering (stationBefore s) ss
-grantedBefore s replanLatest = replanningLatest (stationBefore s)
-grantedBefore s (replanLines allowance) = replanningLines (stationBefore s) allowance
+grantedBefore s (offer f ss) = offering (stationBefore s) f ss
+grantedBefore s (replanLatest f) = replanningLatest (stationBefore s) f
+grantedBefore s (replanLines f allowance) = replanningLines (stationBefore s) f allowance
 grantedBefore s (enquire ticket) = enquiring s ticket
 grantedBefore s (board asked list) = boarding s asked list
 grantedBefore s (withdraw ticket) = withdrawing s ticket
@@ -107,19 +124,29 @@ abbrev pub runBefore : State → List Call → List Result
 runBefore s [] = []
 runBefore s (c ∷ cs) = let r : Result = stepBefore s c in r ∷ runBefore (r .state) cs
 
--- Openings: N and c, and refusals 1 to 3
+-- Openings: without refusal 19
 
-abbrev pub openRefusalsBefore : ℕ → ℕ → List (Bool × ℕ)
-openRefusalsBefore n c = (ltb n 1 || ltb 60 n, 1) ∷ (ltb 100 c, 2) ∷ (eqb (boundOf n c) 0, 3) ∷ []
+abbrev pub openRefusalsBefore : Asked → List (Bool × ℕ)
+openRefusalsBefore a =
+    (ltb (a .count) 1 || ltb 4 (a .count), 27)
+    ∷ (some (λ x. ltb (x .limit) 1 || ltb 60 (x .limit)) (settingsRead a), 1)
+    ∷ (some (λ x. ltb 100 (x .percent)) (settingsRead a), 2)
+    ∷ (some (λ x. eqb (boundOf (x .limit) (x .percent)) 0) (settingsRead a), 3)
+    ∷ (ltb (a .site) 1 || ltb 720 (a .site), 28)
+    ∷ []
 
-abbrev pub openingBefore : ℕ → ℕ → Result
-openingBefore n c =
-    answering (firstOf (openRefusalsBefore n c)) (fresh (settings 1 100 0)) []
-    (record { answer = opened (boundOf n c); state = fresh (settings n c 0); list = [] })
+abbrev pub openingBefore : Asked → Result
+openingBefore a =
+    answering (firstOf (openRefusalsBefore a)) (fresh least) []
+    (record { answer = opened (map (λ g. g .bound) (fresh a .feeders)); state = fresh a; list = [] })
 
 -- What was there then
 
--- a station without r, in which each charge is active for its p
+-- an opening that asks for r 0 on each feeder
+abbrev pub AsksNoTail : Asked → Type 0
+AsksNoTail a = Each (λ x. x .tail ≡ 0) (settingsRead a)
+
+-- a site without r, in which each charge is active for its p
 pub record WithoutTails (s : State) : Type 0 where
-  pub none : s .tail ≡ 0
-  pub active : Each (λ c. c .activeTime ≡ c .time) (s .charges)
+  pub none : Each (λ g. g .tail ≡ 0) (s .feeders)
+  pub active : Each (λ c. c .activeTime ≡ c .time) (siteCharges s)

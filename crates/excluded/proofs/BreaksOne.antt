@@ -2,7 +2,7 @@
 use mathlib.Core.Path.{_≡_, refl}
 use mathlib.Core.Bool.{true}
 use Rattle.rules.specs.Basics.{Each}
-use Rattle.rules.specs.Load.{limited, balanced, sound}
+use Rattle.rules.specs.Load.{limited, withinSite, balanced, sound}
 use Rattle.rules.specs.Search.{earliest}
 use Rattle.rules.specs.Calls.{opening, previewing, committing, moving, boarding, withdrawing}
 use Rattle.excluded.specs.Same.{every}
@@ -14,7 +14,7 @@ use Rattle.excluded.proofs.TestsOne.{one-tested}
 
 -- the checker computes every test
 pub entries-hold : every agrees entries ≡ true
-unfolding limited balanced sound earliest opening previewing committing moving boarding withdrawing
+unfolding limited withinSite balanced sound earliest opening previewing committing moving boarding withdrawing
 entries-hold = refl
 
 -- so each wrong station and opening breaks the fields that its entry names, and no other, and the rules break none

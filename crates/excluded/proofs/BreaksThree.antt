@@ -3,11 +3,12 @@ use mathlib.Core.Path.{_≡_, refl, subst}
 use mathlib.Core.Bool.{true}
 use mathlib.Core.List.{List, [], _∷_, map}
 use Rattle.rules.specs.Basics.{Each}
-use Rattle.rules.specs.Load.{limited, balanced, sound}
+use Rattle.rules.specs.Load.{limited, withinSite, balanced, sound}
 use Rattle.rules.specs.Search.{earliest}
 use Rattle.rules.specs.Replan.{placeAll, latest}
 use Rattle.rules.specs.Judgement.{judged}
-use Rattle.rules.specs.Calls.{settings, State, Call, opening, previewing, committing, moving, offering, replanningLatest, enquiring, boarding, withdrawing, step}
+use Rattle.rules.specs.Site.{State}
+use Rattle.rules.specs.Calls.{Call, opening, previewing, committing, moving, offering, replanningLatest, enquiring, boarding, withdrawing, step}
 use Rattle.rules.proofs.Lists.{each-append, each-map}
 use Rattle.guarantee.specs.DemandThree.{DemandThree}
 use Rattle.guarantee.proofs.DemandThree.{demand-three}
@@ -15,7 +16,7 @@ use Rattle.guarantee.proofs.Each.{each-image}
 use Rattle.excluded.specs.Same.{every}
 use Rattle.excluded.specs.Breaks.{Exactly, aloneIn}
 use Rattle.excluded.specs.FieldsThree.{Field, fields, place}
-use Rattle.excluded.specs.BreaksThree.{Trial, HoldsOf, testOf, agrees, Breach, only, wrongEntries, isOpened, byRules, entries}
+use Rattle.excluded.specs.BreaksThree.{Trial, HoldsOf, testOf, agrees, Breach, only, wrongEntries, askedFor, isOpened, byRules, entries}
 use Rattle.excluded.proofs.Tests.{is-true, every-tests}
 use Rattle.excluded.proofs.Same.{same-state}
 use Rattle.excluded.proofs.Breaks.{each-exactly}
@@ -24,7 +25,7 @@ use Rattle.excluded.proofs.TestsThree.{three-tested}
 
 -- the checker computes every test on every list
 pub entries-hold : every agrees wrongEntries ≡ true
-unfolding limited balanced sound earliest placeAll latest judged opening previewing committing moving offering replanningLatest enquiring boarding withdrawing
+unfolding limited withinSite balanced sound earliest placeAll latest judged opening previewing committing moving offering replanningLatest enquiring boarding withdrawing
 entries-hold = refl
 
 first-opened : every (λ (e : Breach). isOpened (e .thing .first)) wrongEntries ≡ true
@@ -38,9 +39,8 @@ each-of P h (a ∷ l) = (h a, each-of P h l)
 -- the rules break no field, on any list of calls: that is demand 3 of them
 rules-exactly : (s : State) (calls : List Call) → isOpened s ≡ true → Exactly Trial Field HoldsOf (only step s calls [])
 rules-exactly s calls e =
-    let x = settings (s .limit) (s .percent) (s .tail) in
     let d : DemandThree step s calls =
-    subst (λ t. DemandThree step t calls) (same-state (opening x .state) s .0 e) (demand-three x calls) in
+    subst (λ t. DemandThree step t calls) (same-state (opening (askedFor s) .state) s .0 e) (demand-three (askedFor s) calls) in
     let holds = three-fields step s calls .0 d in
     record { breaks = tt; keeps = each-of (HoldsOf (record { gives = step; first = s; calls = calls })) holds fields }
 

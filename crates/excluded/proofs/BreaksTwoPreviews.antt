@@ -2,7 +2,7 @@
 use mathlib.Core.Path.{_≡_, refl}
 use mathlib.Core.Bool.{true}
 use Rattle.rules.specs.Basics.{Each}
-use Rattle.rules.specs.Load.{limited, balanced, sound}
+use Rattle.rules.specs.Load.{limited, withinSite, balanced, sound}
 use Rattle.rules.specs.Search.{earliest}
 use Rattle.rules.specs.Calls.{previewing}
 use Rattle.excluded.specs.Same.{every}
@@ -14,7 +14,7 @@ use Rattle.excluded.proofs.TestsTwoPreviews.{previews-tested}
 
 -- the checker computes every test
 pub entries-hold : every agrees entries ≡ true
-unfolding limited balanced sound earliest previewing
+unfolding limited withinSite balanced sound earliest previewing
 entries-hold = refl
 
 -- so each wrong station breaks the field that its entry names, and no other, and the rules break none

@@ -3,7 +3,7 @@ use mathlib.Core.Path.{_≡_, refl}
 use mathlib.Core.Bool.{true}
 use mathlib.Core.List.{[], _∷_}
 use Rattle.rules.specs.Basics.{Each}
-use Rattle.rules.specs.Load.{limited, balanced, sound}
+use Rattle.rules.specs.Load.{limited, withinSite, balanced, sound}
 use Rattle.rules.specs.Calls.{withdrawing}
 use Rattle.excluded.specs.Same.{every}
 use Rattle.excluded.specs.Breaks.{Exactly, aloneIn}
@@ -14,7 +14,7 @@ use Rattle.excluded.proofs.TestsTwoWithdrawals.{withdrawals-tested}
 
 -- the checker computes every test
 pub entries-hold : every agrees entries ≡ true
-unfolding limited balanced sound withdrawing
+unfolding limited withinSite balanced sound withdrawing
 entries-hold = refl
 
 -- so each wrong station breaks the fields that its entry names, and no other, and the rules break none

@@ -1,6 +1,7 @@
 -- The fields of demand 1 one by one are demand 1, of a call and of an opening.
 use mathlib.Core.Logic.{_↔_}
-use Rattle.rules.specs.Calls.{Settings, State, Result, Call}
+use Rattle.rules.specs.Site.{State}
+use Rattle.rules.specs.Calls.{Asked, Result, Call}
 use Rattle.guarantee.specs.Past.{Gives}
 use Rattle.guarantee.specs.DemandOne.{RefusedBy, NoneApplies, DemandOne, DemandOneOpening}
 use Rattle.excluded.specs.FieldsOne.{Field, number, same-station, same-list, answered, Trial, calledOn, openedBy, tried, OwnAnswer, Holds}
@@ -25,7 +26,7 @@ one-fields gives s c = (
 )
 
 pub one-opening-fields :
-    (opens : Settings → Result) (x : Settings) → DemandOneOpening opens x ↔ ((f : Field) → Holds (openedBy opens x) f)
+    (opens : Asked → Result) (x : Asked) → DemandOneOpening opens x ↔ ((f : Field) → Holds (openedBy opens x) f)
 one-opening-fields opens x = (
   (λ d. fields-of (openedBy opens x) (d .refused-by) (d .answered)),
   (λ h. record { refused-by = refused-of (openedBy opens x) h; answered = h answered }),

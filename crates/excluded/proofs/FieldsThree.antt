@@ -1,17 +1,20 @@
 -- The fields of demand 3 one by one are demand 3.
 use mathlib.Core.Logic.{_↔_}
 use mathlib.Core.List.{List}
-use Rattle.rules.specs.Calls.{State, Call}
+use Rattle.rules.specs.Site.{State}
+use Rattle.rules.specs.Calls.{Call}
 use Rattle.guarantee.specs.Past.{Gives, Order, past, stayingOrders, withdrawnOrders}
 use Rattle.guarantee.specs.DemandThree.{DemandThree}
 use Rattle.rules.proofs.Lists.{each-both}
 use Rattle.guarantee.proofs.Each.{each-in}
-use Rattle.excluded.specs.FieldsThree.{Field, limit, balance, tickets, not-early, in-time, reported, not-reported, waits, charges, finished, gone-not-reported, gone-not-held, no-other, unmoved, Holds}
+use Rattle.excluded.specs.FieldsThree.{Field, limit, balance, site, feeders, tickets, not-early, in-time, reported, not-reported, waits, charges, finished, gone-not-reported, gone-not-held, no-other, unmoved, Holds}
 
 module _ (gives : Gives) (s : State) (calls : List Call) where
   field-holds : DemandThree gives s calls → (f : Field) → Holds gives s calls f
   field-holds d limit = d .limit
   field-holds d balance = d .balance
+  field-holds d site = d .site
+  field-holds d feeders = d .feeders
   field-holds d tickets = d .tickets
   field-holds d not-early = each-in (λ o k. k .not-early) (stayingOrders (past gives s calls)) (d .orders)
   field-holds d in-time = d .in-time
@@ -32,6 +35,8 @@ module _ (gives : Gives) (s : State) (calls : List Call) where
       record {
         limit = d limit;
         balance = d balance;
+        site = d site;
+        feeders = d feeders;
         tickets = d tickets;
         orders =
             each-in

@@ -5,7 +5,8 @@ use Prim.Native.Nat.{ℕ}
 use mathlib.Core.List.{List, map}
 use native.Mathlib.Omega.{arith}
 use lib.ListN.{getD}
-use Rattle.rules.specs.Calls.{State, looked, enquire, board, written, enquiring, boarding}
+use Rattle.rules.specs.Site.{State}
+use Rattle.rules.specs.Calls.{looked, enquire, board, written, enquiring, boarding}
 use Rattle.rules.proofs.Granted.{refusals-none}
 use Rattle.guarantee.specs.Past.{Gives}
 use Rattle.guarantee.specs.DemandTwo.{shownBy, DemandTwo}

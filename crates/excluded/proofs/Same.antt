@@ -1,15 +1,16 @@
 -- The tests whether two lists, answers or stations are the same.
 use mathlib.Core.Path.{_≡_, refl, sym, ap, _∙_}
 use Prim.Native.Nat.{ℕ}
-use mathlib.Core.Bool.{Bool, cond, false≢true}
+use mathlib.Core.Bool.{Bool, cond, _&&_, false≢true}
 use mathlib.Core.List.{List, [], _∷_}
 use native.Mathlib.Omega.{arith}
 use lib.Dec.{eqb}
-use lib.ListN.{getD}
+use lib.ListN.{getD, drop}
 use Rattle.rules.specs.Charge.{Charge}
-use Rattle.rules.specs.Calls.{State, Answer, refused, opened, previewed, committed, moved, planned, waiting, charging, looked, withdrawn}
+use Rattle.rules.specs.Site.{Feeder, State}
+use Rattle.rules.specs.Calls.{Answer, refused, opened, previewed, committed, moved, planned, waiting, charging, looked, withdrawn}
 use Rattle.rules.proofs.Ranges.{and-left, and-right, and-both}
-use Rattle.excluded.specs.Same.{sameEach, sameList, inNumbers, sameAnswer, ofCharge, sameCharges, ofState, sameState}
+use Rattle.excluded.specs.Same.{sameEach, sameList, inNumbers, sameAnswer, ofCharge, sameCharges, ofFeeder, sameFeeder, ofState, sameState}
 use Rattle.excluded.proofs.Tests.{Tests, eqb-tests}
 
 pub same-each :
@@ -47,7 +48,7 @@ abbrev read : List ℕ → Answer
 read l =
     let of : ℕ → ℕ = λ i. getD l i 0 in
     cond (eqb (of 0) 0) (refused (of 1))
-    (cond (eqb (of 0) 1) (opened (of 1))
+    (cond (eqb (of 0) 1) (opened (drop 1 l))
     (cond (eqb (of 0) 2) (previewed (of 1))
     (cond (eqb (of 0) 3) (committed (of 1) (of 2))
     (cond (eqb (of 0) 4) (moved (of 1) (of 2))
@@ -57,7 +58,7 @@ read l =
 
 read-back : (a : Answer) → read (inNumbers a) ≡ a
 read-back (refused k) = refl
-read-back (opened d) = refl
+read-back (opened ds) = refl
 read-back (previewed s) = refl
 read-back (committed t s) = refl
 read-back (moved n m) = refl
@@ -88,27 +89,36 @@ pub same-charges : (cs ds : List Charge) → Tests (sameCharges cs ds) (cs ≡ d
 same-charges cs ds =
     same-each (λ c d. sameList (ofCharge c) (ofCharge d)) (same-numbers ofCharge readCharge (λ c. refl)) cs ds
 
--- the station with these numbers and charges
-abbrev readState : List ℕ → List Charge → State
-readState l cs =
-    record {
-      limit = getD l 0 0;
-      percent = getD l 1 0;
-      bound = getD l 2 0;
-      tail = getD l 3 0;
-      clock = getD l 4 0;
-      next = getD l 5 0;
-      charges = cs;
-    }
+-- what has these numbers and those members
+module _ {A : Type 0} {B : Type 0} (numbers : A → List ℕ) (members : A → List B) (read : List ℕ → List B → A)
+    (back : (a : A) → read (numbers a) (members a) ≡ a)
+    (same : B → B → Bool) (right : (b c : B) → Tests (same b c) (b ≡ c)) where
+  same-with : (a b : A) → Tests (sameList (numbers a) (numbers b) && sameEach same (members a) (members b)) (a ≡ b)
+  same-with a b = (
+    (λ e.
+        let p : numbers a ≡ numbers b
+        = same-list (numbers a) (numbers b) .0 (and-left (sameList (numbers a) (numbers b)) (sameEach same (members a) (members b)) e) in
+        let q : members a ≡ members b
+        = same-each same right (members a) (members b) .0 (and-right (sameList (numbers a) (numbers b)) (sameEach same (members a) (members b)) e) in
+        sym (back a) ∙ (ap (λ l. read l (members a)) p ∙ (ap (read (numbers b)) q ∙ back b))),
+    (λ e.
+        and-both (sameList (numbers a) (numbers b)) (sameEach same (members a) (members b))
+        (same-list (numbers a) (numbers b) .1 (ap numbers e))
+        (same-each same right (members a) (members b) .1 (ap members e))),
+  )
+
+pub same-feeder : (g h : Feeder) → Tests (sameFeeder g h) (g ≡ h)
+same-feeder =
+    same-with ofFeeder (λ (g : Feeder). g .charges)
+    (λ l cs. record { limit = getD l 0 0; percent = getD l 1 0; bound = getD l 2 0; tail = getD l 3 0; charges = cs })
+    (λ g. refl)
+    (λ c d. sameList (ofCharge c) (ofCharge d))
+    (same-numbers ofCharge readCharge (λ c. refl))
 
 pub same-state : (s t : State) → Tests (sameState s t) (s ≡ t)
-same-state s t = (
-  (λ e.
-      let p : ofState s ≡ ofState t = same-list (ofState s) (ofState t) .0 (and-left (sameList (ofState s) (ofState t)) (sameCharges (s .charges) (t .charges)) e) in
-      let q : s .charges ≡ t .charges = same-charges (s .charges) (t .charges) .0 (and-right (sameList (ofState s) (ofState t)) (sameCharges (s .charges) (t .charges)) e) in
-      ap (λ l. readState l (s .charges)) p ∙ ap (readState (ofState t)) q),
-  (λ e.
-      and-both (sameList (ofState s) (ofState t)) (sameCharges (s .charges) (t .charges))
-      (same-list (ofState s) (ofState t) .1 (ap ofState e))
-      (same-charges (s .charges) (t .charges) .1 (ap (λ (s : State). s .charges) e))),
-)
+same-state =
+    same-with ofState (λ (s : State). s .feeders)
+    (λ l gs. record { feeders = gs; site = getD l 0 0; clock = getD l 1 0; next = getD l 2 0 })
+    (λ s. refl)
+    sameFeeder
+    same-feeder

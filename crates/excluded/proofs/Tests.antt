@@ -7,7 +7,8 @@ use mathlib.Core.List.{List, [], _∷_}
 use lib.Dec.{leb, ltb, eqb}
 use borrow.Author.Tests.{leb-true, ltb-true, eqb-true, le-leb, lt-ltb, eq-eqb, not-true}
 use Rattle.rules.specs.Basics.{Each}
-use Rattle.rules.specs.Calls.{State, Call, refusals}
+use Rattle.rules.specs.Site.{State}
+use Rattle.rules.specs.Calls.{Call, refusals}
 use Rattle.rules.proofs.Ranges.{and-left, and-right, and-both}
 use Rattle.guarantee.specs.DemandOne.{NoneApplies}
 use Rattle.excluded.specs.Same.{every, where-so, sameTest}

@@ -3,7 +3,7 @@ use mathlib.Core.Logic.{_⊎_, inl, inr, _↔_}
 use mathlib.Core.Path.{_≡_, refl, sym, ap, _∙_}
 use Prim.Native.Nat.{ℕ}
 use mathlib.Core.Bool.{Bool, true, false, cond}
-use mathlib.Core.List.{List, [], _∷_}
+use mathlib.Core.List.{List, [], _∷_, map}
 use native.Mathlib.Omega.{arith}
 use Rattle.rules.specs.Calls.{Answer, refused, opened, previewed, committed, moved, planned, waiting, charging, looked, withdrawn, fresh, Call, preview, commit, move, offer, replanLatest, replanLines, enquire, board, withdraw}
 use Rattle.guarantee.specs.Past.{isRefused}
@@ -17,7 +17,7 @@ use Rattle.excluded.proofs.Same.{same-list as same-lists, same-answer, 
 
 refusal-is : (a : Answer) (k : ℕ) → refusalIn a ≡ k ∷ [] → a ≡ refused k
 refusal-is (refused j) k e = let same : j ≡ k = cc in rw same
-refusal-is (opened d) k e = let z : _≡_ {A = ℕ} 0 1 = cc in absurd (omega arith)
+refusal-is (opened ds) k e = let z : _≡_ {A = ℕ} 0 1 = cc in absurd (omega arith)
 refusal-is (previewed s) k e = let z : _≡_ {A = ℕ} 0 1 = cc in absurd (omega arith)
 refusal-is (committed t s) k e = let z : _≡_ {A = ℕ} 0 1 = cc in absurd (omega arith)
 refusal-is (moved n m) k e = let z : _≡_ {A = ℕ} 0 1 = cc in absurd (omega arith)
@@ -140,12 +140,12 @@ module _ (a : Answer) where
       back (n, e) = rw e (same-answer (looked n) (looked n) .1 refl)
 
   answers-tests : (c : Call) → Tests (answersTo c a) (AnswerTo c a)
-  answers-tests (preview line p d rate) = previewed-tests
-  answers-tests (commit line p d rate shown) = committed-tests shown
+  answers-tests (preview f line p d rate) = previewed-tests
+  answers-tests (commit f line p d rate shown) = committed-tests shown
   answers-tests (move target list) = moved-tests
-  answers-tests (offer ss) = planned-tests
-  answers-tests replanLatest = planned-tests
-  answers-tests (replanLines allowance) = planned-tests
+  answers-tests (offer f ss) = planned-tests
+  answers-tests (replanLatest f) = planned-tests
+  answers-tests (replanLines f allowance) = planned-tests
   answers-tests (enquire ticket) = either-tests waiting-tests charging-tests
   answers-tests (board asked list) = looked-tests
   answers-tests (withdraw ticket) = same-answer a withdrawn
@@ -153,7 +153,7 @@ module _ (a : Answer) where
 own-tests : (r : Trial) → Tests (ownAnswer r) (OwnAnswer r)
 own-tests (calledOn gives s c) = answers-tests (gives s c .answer) c
 own-tests (openedBy opens x) =
-    both-tests (same-answer (opens x .answer) (opened (fresh x .bound))) (same-state (opens x .state) (fresh x))
+    both-tests (same-answer (opens x .answer) (opened (map (λ g. g .bound) (fresh x .feeders)))) (same-state (opens x .state) (fresh x))
 
 -- Each field
 

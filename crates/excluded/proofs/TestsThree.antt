@@ -5,17 +5,22 @@ use mathlib.Core.Bool.{Bool, true, false, cond}
 use mathlib.Core.List.{List, [], _∷_, _++_, map}
 use native.Mathlib.Omega.{arith}
 use lib.Dec.{eqb}
+use lib.ListN.{length}
 use borrow.Author.Tests.{eqb-true, eq-eqb}
 use Rattle.rules.specs.Basics.{Each, some}
-use Rattle.rules.specs.Calls.{State, limitsOf, refused, waiting, charging, Call}
-use Rattle.rules.proofs.Ranges.{and-left, and-right, and-both}
-use Rattle.guarantee.specs.Past.{Gives, Order, Report, Past, beginning, extended, after, past, stayingOrders, withdrawnOrders, timesReported, enquiry, startOf, endOf, activeUntil, loadOf, Numbered, totalTime, lastMinute}
+use Rattle.rules.specs.Load.{IsLine}
+use Rattle.rules.specs.Site.{State, feederOf}
+use Rattle.rules.specs.Valid.{IsFeeder}
+use Rattle.rules.specs.Calls.{refused, waiting, charging, Call}
+use Rattle.rules.proofs.Ranges.{and-left, and-right, and-both, throughout-at, throughout-all}
+use Rattle.guarantee.specs.Past.{Gives, Order, Report, Past, beginning, extended, after, past, stayingOrders, withdrawnOrders, timesReported, enquiry, startOf, endOf, activeUntil, loadOf, countIn, Numbered, totalTime, lastMinute}
 use Rattle.guarantee.specs.DemandThree.{Unmoved}
 use Rattle.excluded.specs.Same.{every}
-use Rattle.excluded.specs.FieldsThree.{Field, limit, balance, tickets, not-early, in-time, reported, not-reported, waits, charges, finished, gone-not-reported, gone-not-held, no-other, unmoved, Holds}
-use Rattle.excluded.specs.TestsThree.{numbered, afterEach, unmovedFrom, tested}
-use Rattle.excluded.proofs.Tests.{Tests, leb-tests, ltb-tests, eqb-tests, every-tests, where-so-tests}
-use Rattle.excluded.proofs.TestsMinutes.{limit-tests, balance-tests}
+use Rattle.excluded.specs.Minutes.{limitFrom, balanceFrom}
+use Rattle.excluded.specs.FieldsThree.{Field, limit, balance, site, feeders, tickets, not-early, in-time, reported, not-reported, waits, charges, finished, gone-not-reported, gone-not-held, no-other, unmoved, Holds}
+use Rattle.excluded.specs.TestsThree.{numbered, afterEach, unmovedFrom, onEach, isFeeder, loadsOn, tested}
+use Rattle.excluded.proofs.Tests.{Tests, leb-tests, ltb-tests, eqb-tests, every-tests, both-tests, where-so-tests}
+use Rattle.excluded.proofs.TestsMinutes.{limit-tests, balance-tests, site-tests}
 use Rattle.excluded.proofs.Same.{same-answer}
 
 -- Tickets and reports
@@ -90,22 +95,55 @@ after-each f gives h (c ∷ calls) = (
         let r : calls ≡ part ++ rest = cc in
         rw (← same) (later part rest r)
 
+-- Feeders
+
+each-feeder :
+    (s : State) (test : ℕ → Bool) (P : ℕ → Type 0)
+    → ((f : ℕ) → Tests (test f) (P f))
+    → Tests (onEach s test) ((f : ℕ) → IsFeeder s f → P f)
+each-feeder s test P right = (
+  (λ e f h. right f .0 (throughout-at test (length (s .feeders)) 1 e f (h .low) (omega (arith, h .high)))),
+  (λ p.
+      throughout-all test (length (s .feeders)) 1
+      (λ f a b. right f .1 (p f (record { low = a; high = omega arith })))),
+)
+
+feeder-tests : (s : State) (f : ℕ) → Tests (isFeeder s f) (IsFeeder s f)
+feeder-tests s f =
+    let law = both-tests (leb-tests 1 f) (leb-tests f (length (s .feeders))) in (
+      (λ e. let p = law .0 e in record { low = p .0; high = p .1 }),
+      (λ h. law .1 (h .low, h .high)),
+    )
+
 -- Each field
 
 pub three-tested : (gives : Gives) (s : State) (calls : List Call) (f : Field) → Tests (tested gives s calls f) (Holds gives s calls f)
 three-tested gives s calls limit =
-    let law = limit-tests (limitsOf s) 0 (map (loadOf gives (past gives s calls)) (stayingOrders (past gives s calls))) in
-    ((λ e l t j. law .0 e l t j (omega arith)), (λ p. law .1 (λ l t j h. p l t j)))
+    let h : Past = past gives s calls in
+    let law = each-feeder s
+    (λ f. limitFrom (feederOf s f .limit) 0 (loadsOn gives h f))
+    (λ f. (l t : ℕ) → IsLine l → 0 ≤ t → countIn gives h f l t ≤ feederOf s f .limit)
+    (λ f. limit-tests (feederOf s f .limit) 0 (loadsOn gives h f)) in
+    ((λ e f l t i j. law .0 e f i l t j (omega arith)), (λ p. law .1 (λ f i l t j k. p f l t i j)))
 three-tested gives s calls balance =
-    let law = balance-tests (limitsOf s) 0 (map (loadOf gives (past gives s calls)) (stayingOrders (past gives s calls))) in
-    ((λ e l m t j i. law .0 e l m t j i (omega arith)), (λ p. law .1 (λ l m t j i h. p l m t j i)))
+    let h : Past = past gives s calls in
+    let law = each-feeder s
+    (λ f. balanceFrom (feederOf s f .bound) 0 (loadsOn gives h f))
+    (λ f. (l m t : ℕ) → IsLine l → IsLine m → 0 ≤ t → countIn gives h f l t ≤ countIn gives h f m t + feederOf s f .bound)
+    (λ f. balance-tests (feederOf s f .bound) 0 (loadsOn gives h f)) in
+    ((λ e f l m t i j k. law .0 e f i l m t j k (omega arith)), (λ p. law .1 (λ f i l m t j k z. p f l m t i j k)))
+three-tested gives s calls site =
+    let h : Past = past gives s calls in
+    let law = site-tests (s .site) 0 [] (map (loadOf gives h) (stayingOrders h)) in
+    ((λ e t. let p = law .0 e t (omega arith) in omega arith), (λ p. law .1 (λ t k. let q = p t in omega arith)))
+three-tested gives s calls feeders = every-tests (λ o. feeder-tests s (o .feeder)) (past gives s calls .orders)
 three-tested gives s calls tickets = tickets-tests 1 (past gives s calls .orders)
 three-tested gives s calls not-early =
     let h : Past = past gives s calls in
     every-tests (λ o. leb-tests (o .minute) (startOf gives h o)) (stayingOrders h)
 three-tested gives s calls in-time =
     let h : Past = past gives s calls in
-    every-tests (λ o. leb-tests (endOf gives h o) (lastMinute 0 (h .orders) + totalTime (h .tail) (h .orders))) (stayingOrders h)
+    every-tests (λ o. leb-tests (endOf gives h o) (lastMinute 0 (h .orders) + totalTime (h .tails) (h .orders))) (stayingOrders h)
 three-tested gives s calls reported =
     let h : Past = past gives s calls in
     every-tests

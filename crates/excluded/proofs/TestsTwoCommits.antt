@@ -10,7 +10,7 @@ use Rattle.excluded.proofs.TestsStarts.{earliest-tests}
 use Rattle.excluded.proofs.Same.{same-answer, same-state}
 
 shown-tests : (r : Trial) → Tests (earliest r) (Earliest r)
-shown-tests r = earliest-tests (r .station) (drawFor (r .station) (r .line) (r .time) (r .rate)) (r .shown)
+shown-tests r = earliest-tests (r .station) (r .feeder) (drawFor (r .station) (r .feeder) (r .line) (r .time) (r .rate)) (r .shown)
 
 claim-tested : (r : Trial) (f : Field) → Tests (test r f) (Claim r f)
 claim-tested r answer =
@@ -26,7 +26,7 @@ commits-tested r f =
 
 module _ (r : Trial) where
   abbrev Whole : Type 0
-  Whole = CommitStart (r .station) (r .line) (r .time) (r .due) (r .rate) (r .shown) (resultOf r)
+  Whole = CommitStart (r .station) (r .feeder) (r .line) (r .time) (r .due) (r .rate) (r .shown) (resultOf r)
 
   field-holds : Whole → (f : Field) → Claim r f
   field-holds o answer = o .answer

@@ -9,11 +9,12 @@ use native.Mathlib.Omega.{arith}
 use Rattle.rules.specs.Charge.{Charge, starting, begunCharges, waitingCharges, lateness}
 use Rattle.rules.specs.Replan.{Proposal, starts, none}
 use Rattle.rules.specs.Judgement.{restarted}
-use Rattle.rules.specs.Calls.{holding, Answer, planned, lent, refusals}
+use Rattle.rules.specs.Site.{holding}
+use Rattle.rules.specs.Calls.{Answer, planned, lent, refusals}
 use Rattle.guarantee.specs.DemandTwo.{Better, Taken, causeOf, Tested}
 use Rattle.excluded.specs.Same.{every, where-so, numberIn}
 use Rattle.excluded.specs.FieldsBetter.{merits, merited}
-use Rattle.excluded.specs.FieldsTwoPlans.{Field, taken, waiting-starts, begun-same, charges-same, station-same, unchanged, answer, same-list, Trial, resultOf, Given, Holds, isTaken, ofStarts, given, tested}
+use Rattle.excluded.specs.FieldsTwoPlans.{Field, taken, waiting-starts, begun-same, charges-same, station-same, unchanged, answer, same-list, Trial, heldOf, resultOf, thenOf, Given, Holds, isTaken, ofStarts, given, tested}
 use Rattle.excluded.proofs.Tests.{Tests, none-tests, free-tests, both-tests, same-tests, not-tests, where-so-tests}
 use Rattle.excluded.proofs.TestsBetter.{merits-tests}
 use Rattle.excluded.proofs.Same.{same-list as same-lists, same-answer, same-charges, same-state}
@@ -62,36 +63,36 @@ module _ (r : Trial) where
   plans-tested taken =
       same-tests (taken-tests (resultOf r .answer))
       (both-tests (none-tests (refusals (r .station) (r .call)))
-      (proposed-tests (λ ss. every (merited (record { station = r .station; list = ss })) merits)
-      (λ ss. Better (r .station) ss (restarted (r .station .clock) (r .station .charges) ss))
-      (λ ss. merits-tests (record { station = r .station; list = ss }))
+      (proposed-tests (λ ss. every (merited (record { station = r .station; feeder = r .feeder; list = ss })) merits)
+      (λ ss. Better (r .station) (r .feeder) ss (restarted (r .station .clock) (heldOf r) ss))
+      (λ ss. merits-tests (record { station = r .station; feeder = r .feeder; list = ss }))
       (r .proposal)))
   plans-tested waiting-starts =
       given-tests _ _
-      (λ ss. same-lists (map (λ (c : Charge). c .start) (waitingCharges (r .station .clock) (resultOf r .state .charges))) ss)
+      (λ ss. same-lists (map (λ (c : Charge). c .start) (waitingCharges (r .station .clock) (thenOf r))) ss)
   plans-tested begun-same =
       given-tests _ _
       (λ ss.
-      same-charges (begunCharges (r .station .clock) (resultOf r .state .charges))
-      (begunCharges (r .station .clock) (r .station .charges)))
+      same-charges (begunCharges (r .station .clock) (thenOf r))
+      (begunCharges (r .station .clock) (heldOf r)))
   plans-tested charges-same =
       given-tests _ _
       (λ ss.
-      same-charges (map (λ c. starting c 0) (resultOf r .state .charges)) (map (λ c. starting c 0) (r .station .charges)))
+      same-charges (map (λ c. starting c 0) (thenOf r)) (map (λ c. starting c 0) (heldOf r)))
   plans-tested station-same =
       given-tests _ _
-      (λ ss. same-state (resultOf r .state) (holding (r .station) (r .station .clock) (resultOf r .state .charges)))
+      (λ ss. same-state (resultOf r .state) (holding (r .station) (r .feeder) (thenOf r) (r .station .next)))
   plans-tested unchanged =
       where-so-tests (not-tests (taken-tests (resultOf r .answer))) (same-state (resultOf r .state) (r .station))
   plans-tested answer =
       free-tests (r .station) (r .call)
       (same-answer (resultOf r .answer)
-      (planned (causeOf (r .station) (r .proposal)) (lateness (r .station .charges)) (lateness (resultOf r .state .charges)) (r .rounds)))
+      (planned (causeOf (r .station) (r .feeder) (r .proposal)) (lateness (heldOf r)) (lateness (thenOf r)) (r .rounds)))
   plans-tested same-list = same-lists (resultOf r .list) (lent (r .call))
 
   -- The fields one by one
 
-  pub plan-fields : Tested (r .station) (r .call) (r .proposal) (r .rounds) (resultOf r) ↔ ((f : Field) → Holds r f)
+  pub plan-fields : Tested (r .station) (r .feeder) (r .call) (r .proposal) (r .rounds) (resultOf r) ↔ ((f : Field) → Holds r f)
   plan-fields = (
     there,
     (λ h. record {
@@ -108,7 +109,7 @@ module _ (r : Trial) where
     }),
   )
     where
-      there : Tested (r .station) (r .call) (r .proposal) (r .rounds) (resultOf r) → (f : Field) → Holds r f
+      there : Tested (r .station) (r .feeder) (r .call) (r .proposal) (r .rounds) (resultOf r) → (f : Field) → Holds r f
       there d taken = d .taken
       there d waiting-starts = λ ss e t. d .given ss e t .waiting-starts
       there d begun-same = λ ss e t. d .given ss e t .begun-same

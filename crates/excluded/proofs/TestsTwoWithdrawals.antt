@@ -4,38 +4,35 @@ use mathlib.Core.Logic.{_↔_}
 use Prim.Native.Nat.{suc}
 use lib.ListN.{length}
 use Rattle.rules.specs.Charge.{withoutTicket}
-use Rattle.rules.specs.Calls.{limitsOf, holding, withdrawn}
+use Rattle.rules.specs.Site.{chargesOn, holding}
+use Rattle.rules.specs.Calls.{withdrawn}
 use Rattle.guarantee.specs.DemandTwo.{SoundPlan, Withdrawal}
-use Rattle.excluded.specs.FieldsTwoWithdrawals.{Field, removed, others-same, place-free, unchanged, Trial, resultOf, rest, Withdrawn, Holds, isWithdrawal, waits, restSound, tested}
+use Rattle.excluded.specs.FieldsTwoWithdrawals.{Field, removed, others-same, place-free, unchanged, Trial, resultOf, feederIn, heldOf, rest, Withdrawn, Holds, isWithdrawal, waits, restSound, tested}
 use Rattle.excluded.proofs.Tests.{Tests, is-true, eqb-tests, both-tests, where-so-tests, same-tests, not-tests}
-use Rattle.excluded.proofs.TestsMinutes.{limit-tests, balance-tests}
+use Rattle.excluded.proofs.TestsMinutes.{plan-tests}
 use Rattle.excluded.proofs.Same.{same-answer, same-state}
 
 module _ (r : Trial) where
   withdrawn-tests : Tests (isWithdrawal r) (Withdrawn r)
   withdrawn-tests = same-answer (resultOf r .answer) withdrawn
 
-  rest-tests : Tests (restSound r) (SoundPlan (r .station) (rest r))
-  rest-tests =
-      let both =
-      both-tests (limit-tests (limitsOf (r .station)) (r .station .clock) (rest r))
-      (balance-tests (limitsOf (r .station)) (r .station .clock) (rest r)) in
-      ((λ e. record { limit = both .0 e .0; balance = both .0 e .1 }), (λ p. both .1 (p .limit, p .balance)))
+  rest-tests : Tests (restSound r) (SoundPlan (r .station) (feederIn r) (rest r))
+  rest-tests = plan-tests (r .station) (feederIn r) (rest r)
 
   pub withdrawals-tested : (f : Field) → Tests (tested r f) (Holds r f)
   withdrawals-tested removed = same-tests withdrawn-tests (both-tests (is-true (waits r)) rest-tests)
   withdrawals-tested others-same =
       where-so-tests withdrawn-tests
       (same-state (resultOf r .state)
-      (holding (r .station) (r .station .clock) (withoutTicket (r .ticket) (r .station .charges))))
+      (holding (r .station) (feederIn r) (withoutTicket (r .ticket) (heldOf r)) (r .station .next)))
   withdrawals-tested place-free =
-      where-so-tests withdrawn-tests (eqb-tests (suc (length (resultOf r .state .charges))) (length (r .station .charges)))
+      where-so-tests withdrawn-tests (eqb-tests (suc (length (chargesOn (resultOf r .state) (feederIn r)))) (length (heldOf r)))
   withdrawals-tested unchanged = where-so-tests (not-tests withdrawn-tests) (same-state (resultOf r .state) (r .station))
 
   -- The fields one by one
 
   abbrev Whole : Type 0
-  Whole = Withdrawal (r .station) (r .ticket) (resultOf r)
+  Whole = Withdrawal (r .station) (feederIn r) (r .ticket) (resultOf r)
 
   field-holds : Whole → (f : Field) → Holds r f
   field-holds o removed = o .removed

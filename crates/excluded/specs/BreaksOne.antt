@@ -1,12 +1,14 @@
 -- For each field of demand 1 a wrong station and a call, and a wrong opening, for which that field is false and no other.
+use Prim.Native.Nat.{ℕ}
 use mathlib.Core.Bool.{Bool}
 use mathlib.Core.List.{List, [], _∷_, _++_, map}
-use Rattle.rules.specs.Entry.{lentList}
-use Rattle.rules.specs.Calls.{settings, preview, commit, move, board, withdraw, opening, step}
-use Rattle.excluded.specs.WrongOrders.{shownAsWaiting, anySoundStart, shownIgnored}
-use Rattle.excluded.specs.WrongRefusals.{lineAccepted, lastRow, lowestNumber, anyOrderAsked, rateAboveBound, shownFirst, otherNumber, alwaysFull, hurryRefused, standstillRefused, ticketUsedUp, listCleared, ticketNotSaid, openedAsAsked, openingWrites, limitSaid, percentLost, zeroBound, smallProductRefused, roundedDown, longTailOpened, tailLookedAtFirst, refusedTailKept, tailLost}
+use Rattle.rules.specs.Entry.{lentList, oneFeeder, preview, commit}
+use Rattle.rules.specs.Calls as calls
+use Rattle.rules.specs.Calls.{Settings, settings, Asked, move, board, withdraw, opening, step}
+use Rattle.excluded.specs.WrongOrders.{shownAsWaiting, anySoundStart, shownIgnored, zeroForOne}
+use Rattle.excluded.specs.WrongRefusals.{lineAccepted, lastRow, lowestNumber, anyOrderAsked, rateAboveBound, shownFirst, otherNumber, alwaysFull, hurryRefused, standstillRefused, ticketUsedUp, listCleared, ticketNotSaid, openedAsAsked, openingWrites, limitSaid, percentLost, zeroBound, smallProductRefused, roundedDown, longTailOpened, tailLookedAtFirst, refusedTailKept, tailLost, placesOnce, fiveOpened, feederByFeeder, anySite, allOpened, refusedSiteKept}
 use Rattle.excluded.specs.WrongWithdrawals.{balanceUntested, begunWithdrawn, restLookedAtFirst, startAtClockRefused}
-use Rattle.excluded.specs.Stations.{station, stationTwo, stationF, stationH}
+use Rattle.excluded.specs.Stations.{station, stationTwo, stationF, stationH, pairFresh}
 use Rattle.excluded.specs.Breaks.{Entry, agreesBy, onlyOf}
 use Rattle.excluded.specs.FieldsOne.{Field, number, same-station, same-list, answered, fields, place, Trial, calledOn, openedBy, tested}
 
@@ -18,6 +20,13 @@ agrees = agreesBy tested
 
 abbrev only : Trial → List Field → Breach
 only = onlyOf place fields
+
+abbrev twoAsked : ℕ → Settings → Settings → Asked
+twoAsked w x y = record { count = 2; site = w; settings = x ∷ y ∷ [] }
+
+abbrev fiveAsked : Asked
+fiveAsked =
+    let x : Settings = settings 1 100 0 in record { count = 5; site = 720; settings = x ∷ x ∷ x ∷ x ∷ x ∷ [] }
 
 abbrev pub wrongCalls : List Breach
 wrongCalls =
@@ -48,23 +57,33 @@ wrongCalls =
     ∷ only (calledOn listCleared station (board (1 ∷ 2 ∷ []) (7 ∷ []))) (same-list ∷ [])
     ∷ only (calledOn shownAsWaiting station (preview 1 10 60 1)) (answered ∷ [])
     ∷ only (calledOn ticketNotSaid station (commit 1 10 60 1 0)) (answered ∷ [])
+    -- there is no feeder 0; and two feeders need 720 places
+    ∷ only (calledOn zeroForOne station (calls.commit 0 1 10 60 1 0)) (number ∷ [])
+    ∷ only (calledOn placesOnce pairFresh (move 0 lentList)) (number ∷ [])
     ∷ []
 
 abbrev pub wrongOpenings : List Breach
 wrongOpenings =
-    only (openedBy zeroBound (settings 1 50 0)) (number ∷ [])
+    only (openedBy zeroBound (oneFeeder 1 50 0)) (number ∷ [])
     -- as above, an opening that is refused where no condition applies does not answer D either
-    ∷ only (openedBy smallProductRefused (settings 9 11 0)) (number ∷ answered ∷ [])
-    ∷ only (openedBy openedAsAsked (settings 61 100 0)) (same-station ∷ [])
-    ∷ only (openedBy openingWrites (settings 61 100 0)) (same-list ∷ [])
-    ∷ only (openedBy limitSaid (settings 10 10 0)) (answered ∷ [])
-    ∷ only (openedBy percentLost (settings 10 10 0)) (answered ∷ [])
-    ∷ only (openedBy roundedDown (settings 30 5 0)) (answered ∷ [])
-    ∷ only (openedBy longTailOpened (settings 1 100 6)) (number ∷ [])
+    ∷ only (openedBy smallProductRefused (oneFeeder 9 11 0)) (number ∷ answered ∷ [])
+    ∷ only (openedBy openedAsAsked (oneFeeder 61 100 0)) (same-station ∷ [])
+    ∷ only (openedBy openingWrites (oneFeeder 61 100 0)) (same-list ∷ [])
+    ∷ only (openedBy limitSaid (oneFeeder 10 10 0)) (answered ∷ [])
+    ∷ only (openedBy percentLost (oneFeeder 10 10 0)) (answered ∷ [])
+    ∷ only (openedBy roundedDown (oneFeeder 30 5 0)) (answered ∷ [])
+    ∷ only (openedBy longTailOpened (oneFeeder 1 100 6)) (number ∷ [])
     -- D is 0, and 3 goes before 19
-    ∷ only (openedBy tailLookedAtFirst (settings 10 5 6)) (number ∷ [])
-    ∷ only (openedBy refusedTailKept (settings 61 100 5)) (same-station ∷ [])
-    ∷ only (openedBy tailLost (settings 10 10 2)) (answered ∷ [])
+    ∷ only (openedBy tailLookedAtFirst (oneFeeder 10 5 6)) (number ∷ [])
+    ∷ only (openedBy refusedTailKept (oneFeeder 61 100 5)) (same-station ∷ [])
+    ∷ only (openedBy tailLost (oneFeeder 10 10 2)) (answered ∷ [])
+    ∷ only (openedBy fiveOpened fiveAsked) (number ∷ [])
+    -- D of the first is 0 and N of the second 61: 1 goes before 3
+    ∷ only (openedBy feederByFeeder (twoAsked 720 (settings 10 5 0) (settings 61 100 0))) (number ∷ [])
+    ∷ only (openedBy anySite (twoAsked 721 (settings 1 100 0) (settings 1 100 0))) (number ∷ [])
+    -- the second is given and not asked for
+    ∷ only (openedBy allOpened (record { count = 1; site = 720; settings = settings 1 100 0 ∷ settings 2 50 0 ∷ [] })) (answered ∷ [])
+    ∷ only (openedBy refusedSiteKept (twoAsked 5 (settings 61 100 0) (settings 1 100 0))) (same-station ∷ [])
     ∷ []
 
 -- the rules themselves for the same call or opening

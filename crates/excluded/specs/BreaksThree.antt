@@ -2,17 +2,21 @@
 use Prim.Native.Nat.{ℕ}
 use mathlib.Core.Bool.{Bool}
 use mathlib.Core.List.{List, [], _∷_, _++_, map}
-use Rattle.rules.specs.Entry.{lentList}
-use Rattle.rules.specs.Calls.{settings, State, Call, preview, commit, move, offer, replanLatest, board, withdraw, opening, step}
+use lib.ListN.{length}
+use Rattle.rules.specs.Site.{State}
+use Rattle.rules.specs.Entry.{lentList, oneFeeder, preview, commit, offer, replanLatest}
+use Rattle.rules.specs.Calls as calls
+use Rattle.rules.specs.Calls.{settings, Asked, Call, move, board, withdraw, opening, step}
 use Rattle.guarantee.specs.Past.{Gives}
 use Rattle.excluded.specs.Same.{sameState}
-use Rattle.excluded.specs.WrongOrders.{ownLineOnly, neighboursOnly, limitIgnored, chargesCounted, ratesInLimitOnly, tailsLeftOut, tailsInLimitOnly, fixedStart, previewTakesTicket, shownBeforeTaken, ticketSkipped}
+use Rattle.excluded.specs.WrongOrders.{ownLineOnly, neighboursOnly, limitIgnored, chargesCounted, ratesInLimitOnly, tailsLeftOut, tailsInLimitOnly, fixedStart, previewTakesTicket, shownBeforeTaken, ticketSkipped, siteIgnored, ownFeederOnly, firstFeeder, zeroForOne}
 use Rattle.excluded.specs.WrongMoves.{startAtClockLeftOut, firstReportOnly, reportedTwice, startAtTargetReported, nobodyReported, slowClock, droppedEarly, droppedLate, droppedAtItsEnd, neverDropped, shownLate, shownBegun, shownEarly, endWithTail}
 use Rattle.excluded.specs.WrongBoards.{boardTakesTicket}
 use Rattle.excluded.specs.WrongWithdrawals.{balanceUntested, begunWithdrawn, ticketGivenAgain, withdrawnHeld}
 use Rattle.excluded.specs.WrongPlans.{untested, rateLost, begunMoved}
 use Rattle.excluded.specs.WrongRestores.{begunForgotten, ticketsGivenAgain, clockLost}
-use Rattle.excluded.specs.FieldsThree.{Field, limit, balance, tickets, not-early, in-time, reported, not-reported, waits, charges, finished, gone-not-reported, gone-not-held, no-other, unmoved, fields, place, Holds}
+use Rattle.excluded.specs.Stations.{pairOf}
+use Rattle.excluded.specs.FieldsThree.{Field, limit, balance, site, feeders, tickets, not-early, in-time, reported, not-reported, waits, charges, finished, gone-not-reported, gone-not-held, no-other, unmoved, fields, place, Holds}
 use Rattle.excluded.specs.Breaks.{Entry, agreesBy, onlyOf}
 use Rattle.excluded.specs.TestsThree.{tested}
 
@@ -39,24 +43,24 @@ only gives s calls broken = onlyOf place fields (record { gives = gives; first =
 
 -- the station of 1, 100 and that of 2, 50, both with D = 1
 abbrev pub one : State
-one = opening (settings 1 100 0) .state
+one = opening (oneFeeder 1 100 0) .state
 
 abbrev pub two : State
-two = opening (settings 2 50 0) .state
+two = opening (oneFeeder 2 50 0) .state
 
 -- the station of 2, 100 and that of 4, 50, both with D = 2
 abbrev pub twoEven : State
-twoEven = opening (settings 2 100 0) .state
+twoEven = opening (oneFeeder 2 100 0) .state
 
 abbrev pub four : State
-four = opening (settings 4 50 0) .state
+four = opening (oneFeeder 4 50 0) .state
 
 -- the station of 1, 100 and that of 2, 50, with r 2
 abbrev pub oneTailed : State
-oneTailed = opening (settings 1 100 2) .state
+oneTailed = opening (oneFeeder 1 100 2) .state
 
 abbrev pub twoTailed : State
-twoTailed = opening (settings 2 50 2) .state
+twoTailed = opening (oneFeeder 2 50 2) .state
 
 -- an order of 10 minutes with a start
 abbrev pub from : ℕ → ℕ → Call
@@ -65,6 +69,17 @@ from line start = commit line 10 60 1 start
 -- the same of rate 2
 abbrev pub fromRated : ℕ → ℕ → Call
 fromRated line start = commit line 10 60 2 start
+
+-- of a feeder
+abbrev pub fromOn : ℕ → ℕ → ℕ → Call
+fromOn f line start = calls.commit f line 10 60 1 start
+
+-- two feeders of 1, 100, under W 1 and under W 720
+abbrev pub pair : State
+pair = opening (pairOf 1 1 100) .state
+
+abbrev pub pairWide : State
+pairWide = opening (pairOf 720 1 100) .state
 
 -- one order that charges on line 1 from 0 to 10
 abbrev pub single : Call
@@ -122,11 +137,25 @@ wrongEntries =
     -- ticket 1 is dropped, ticket 2 waits for 10 and so does the next order
     ∷ only ticketsGivenAgain one (single ∷ from 1 10 ∷ to 10 ∷ from 2 10 ∷ []) (tickets ∷ [])
     ∷ only clockLost one (single ∷ to 1 ∷ to 2 ∷ []) (reported ∷ charges ∷ [])
+    -- a charge on line 1 of either feeder in minute 0, and W is 1
+    ∷ only ownFeederOnly pair (fromOn 1 1 0 ∷ fromOn 2 1 0 ∷ []) (site ∷ [])
+    ∷ only siteIgnored pair (fromOn 1 1 0 ∷ fromOn 2 1 0 ∷ []) (site ∷ [])
+    -- four orders of the second feeder, put on the first
+    ∷ only firstFeeder pairWide (fromOn 2 1 0 ∷ fromOn 2 2 0 ∷ fromOn 2 3 0 ∷ fromOn 2 1 0 ∷ []) (limit ∷ [])
+    ∷ only zeroForOne one (fromOn 0 1 0 ∷ []) (feeders ∷ [])
     ∷ []
 
--- an opening with its own N, c and r leads to this station
+-- what an opening asks for that leads to this site
+abbrev pub askedFor : State → Asked
+askedFor s =
+    record {
+      count = length (s .feeders);
+      site = s .site;
+      settings = map (λ g. settings (g .limit) (g .percent) (g .tail)) (s .feeders);
+    }
+
 abbrev pub isOpened : State → Bool
-isOpened s = sameState (opening (settings (s .limit) (s .percent) (s .tail)) .state) s
+isOpened s = sameState (opening (askedFor s) .state) s
 
 -- and the rules themselves on the same calls, where nothing breaks
 abbrev pub byRules : Breach → Breach

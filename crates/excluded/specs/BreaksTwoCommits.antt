@@ -2,11 +2,12 @@
 use Prim.Native.Nat.{ℕ}
 use mathlib.Core.Bool.{Bool}
 use mathlib.Core.List.{List, [], _∷_, _++_, map}
-use Rattle.rules.specs.Calls.{State, step}
+use Rattle.rules.specs.Site.{State}
+use Rattle.rules.specs.Calls.{step}
 use Rattle.guarantee.specs.Past.{Gives}
 use Rattle.excluded.specs.WrongRefusals.{otherNumber}
-use Rattle.excluded.specs.WrongOrders.{queued, anySoundStart, shownIgnored, shownBeforeTaken, otherTicket, othersPutOff}
-use Rattle.excluded.specs.Stations.{station, stationFive, stationH}
+use Rattle.excluded.specs.WrongOrders.{queued, anySoundStart, shownIgnored, shownBeforeTaken, otherTicket, othersPutOff, firstFeeder}
+use Rattle.excluded.specs.Stations.{station, stationFive, stationH, stationPairWide}
 use Rattle.excluded.specs.Breaks.{Entry, agreesBy, onlyOf}
 use Rattle.excluded.specs.FieldsTwoCommits.{Field, answer, refusal, others-same, fields, place, Trial, tested}
 
@@ -17,9 +18,13 @@ abbrev pub agrees : Breach → Bool
 agrees = agreesBy tested
 
 -- a commit of 10 minutes, due at 60, of rate 1
+abbrev onlyOn : Gives → State → ℕ → ℕ → ℕ → List Field → Breach
+onlyOn gives s f line shown broken =
+    onlyOf place fields
+    (record { gives = gives; station = s; feeder = f; line = line; time = 10; due = 60; rate = 1; shown = shown }) broken
+
 abbrev only : Gives → State → ℕ → ℕ → List Field → Breach
-only gives s line shown broken =
-    onlyOf place fields (record { gives = gives; station = s; line = line; time = 10; due = 60; rate = 1; shown = shown }) broken
+only gives s line shown broken = onlyOn gives s 1 line shown broken
 
 abbrev pub wrongEntries : List Breach
 wrongEntries =
@@ -33,8 +38,9 @@ wrongEntries =
     ∷ only queued stationH 2 20 (answer ∷ refusal ∷ [])
     -- the earliest one is refused
     ∷ only queued stationH 2 0 (answer ∷ others-same ∷ [])
+    ∷ onlyOn firstFeeder stationPairWide 2 1 0 (others-same ∷ [])
     ∷ []
 
 -- and the rules themselves for the same commits, where nothing breaks
 abbrev pub entries : List Breach
-entries = wrongEntries ++ map (λ e. only step (e .thing .station) (e .thing .line) (e .thing .shown) []) wrongEntries
+entries = wrongEntries ++ map (λ e. onlyOn step (e .thing .station) (e .thing .feeder) (e .thing .line) (e .thing .shown) []) wrongEntries

@@ -4,12 +4,13 @@ use Prim.Native.Nat.{ℕ}
 use mathlib.Core.Bool.{Bool}
 use mathlib.Core.List.{List, [], _∷_, _++_, map}
 use Rattle.rules.specs.Replan.{starts, latest, Replanned, byLines}
-use Rattle.rules.specs.Calls.{State, limitsOf, offer, replanLatest, replanLines, step}
+use Rattle.rules.specs.Site.{State, chargesOn, limitsOf}
+use Rattle.rules.specs.Calls.{offer, replanLatest, replanLines, step}
 use Rattle.guarantee.specs.Past.{Gives}
-use Rattle.excluded.specs.WrongPlans.{untested, neverTaken, offerCleared, takenLater, begunPutOff, lineChanged, rateLost, takenForTicket, keptForTicket, lateWithTails, alwaysKept, spentAfterNone, byLatestStartInLines, roundsInvented}
-use Rattle.excluded.specs.Stations.{station, stationFour, stationH, stationHTwo, stationShort, stationTailed, stationRated, waitingSince, begunAndWaiting}
+use Rattle.excluded.specs.WrongPlans.{untested, neverTaken, offerCleared, takenLater, begunPutOff, lineChanged, rateLost, takenForTicket, keptForTicket, lateWithTails, alwaysKept, spentAfterNone, byLatestStartInLines, roundsInvented, testedAlone, firstReplanned}
+use Rattle.excluded.specs.Stations.{station, stationFour, stationH, stationHTwo, stationShort, stationTailed, stationRated, waitingSince, begunAndWaiting, stationSite, stationBeside, stationPairH}
 use Rattle.excluded.specs.Breaks.{Entry, agreesBy, onlyOf}
-use Rattle.excluded.specs.FieldsBetter.{Merit, not-before-clock, limit, balance, no-later, less-late, merits, rank, Plan, merited}
+use Rattle.excluded.specs.FieldsBetter.{Merit, not-before-clock, limit, balance, site, no-later, less-late, merits, rank, Plan, merited}
 use Rattle.excluded.specs.FieldsTwoPlans.{Field, taken, waiting-starts, begun-same, charges-same, station-same, unchanged, answer, same-list, fields, place, Trial, tested}
 
 abbrev pub Breach : Type 0
@@ -21,23 +22,38 @@ agrees = agreesBy tested
 abbrev only : Trial → List Field → Breach
 only = onlyOf place fields
 
-abbrev offered : Gives → State → List ℕ → Trial
-offered gives s ss = record { gives = gives; station = s; call = offer ss; proposal = starts ss; rounds = 0 }
+abbrev offeredOn : Gives → State → ℕ → List ℕ → Trial
+offeredOn gives s f ss =
+    record { gives = gives; station = s; feeder = f; call = offer f ss; proposal = starts ss; rounds = 0 }
 
-abbrev byLatest : Gives → State → Trial
-byLatest gives s =
+abbrev offered : Gives → State → List ℕ → Trial
+offered gives s ss = offeredOn gives s 1 ss
+
+abbrev byLatestOn : Gives → State → ℕ → Trial
+byLatestOn gives s f =
     record {
       gives = gives;
       station = s;
-      call = replanLatest;
-      proposal = latest (limitsOf s) (s .clock) (s .charges);
+      feeder = f;
+      call = replanLatest f;
+      proposal = latest (limitsOf s f) (s .clock) (chargesOn s f);
       rounds = 0;
     }
 
+abbrev byLatest : Gives → State → Trial
+byLatest gives s = byLatestOn gives s 1
+
 abbrev byLine : Gives → State → ℕ → Trial
 byLine gives s allowance =
-    let r : Replanned = byLines (limitsOf s) (s .clock) allowance (s .charges) in
-    record { gives = gives; station = s; call = replanLines allowance; proposal = r .proposal; rounds = r .rounds }
+    let r : Replanned = byLines (limitsOf s 1) (s .clock) allowance (chargesOn s 1) in
+    record {
+      gives = gives;
+      station = s;
+      feeder = 1;
+      call = replanLines 1 allowance;
+      proposal = r .proposal;
+      rounds = r .rounds;
+    }
 
 -- the offer of case j that is taken
 abbrev pub offerJ : List ℕ
@@ -46,11 +62,12 @@ offerJ = 10 ∷ 0 ∷ []
 -- offers that are not better in one thing
 abbrev pub plans : List (Entry Plan Merit)
 plans =
-    onlyOf rank merits (record { station = waitingSince; list = 11 ∷ 0 ∷ [] }) (not-before-clock ∷ [])
-    ∷ onlyOf rank merits (record { station = stationH; list = 11 ∷ 0 ∷ [] }) (no-later ∷ [])
-    ∷ onlyOf rank merits (record { station = stationFour; list = 0 ∷ 0 ∷ 0 ∷ 0 ∷ [] }) (limit ∷ [])
-    ∷ onlyOf rank merits (record { station = stationHTwo; list = 0 ∷ 0 ∷ [] }) (balance ∷ [])
-    ∷ onlyOf rank merits (record { station = stationH; list = 0 ∷ 10 ∷ [] }) (less-late ∷ [])
+    onlyOf rank merits (record { station = waitingSince; feeder = 1; list = 11 ∷ 0 ∷ [] }) (not-before-clock ∷ [])
+    ∷ onlyOf rank merits (record { station = stationH; feeder = 1; list = 11 ∷ 0 ∷ [] }) (no-later ∷ [])
+    ∷ onlyOf rank merits (record { station = stationFour; feeder = 1; list = 0 ∷ 0 ∷ 0 ∷ 0 ∷ [] }) (limit ∷ [])
+    ∷ onlyOf rank merits (record { station = stationHTwo; feeder = 1; list = 0 ∷ 0 ∷ [] }) (balance ∷ [])
+    ∷ onlyOf rank merits (record { station = stationH; feeder = 1; list = 0 ∷ 10 ∷ [] }) (less-late ∷ [])
+    ∷ onlyOf rank merits (record { station = stationSite; feeder = 1; list = 0 ∷ 0 ∷ [] }) (site ∷ [])
     ∷ []
 
 abbrev pub agreesPlan : Entry Plan Merit → Bool
@@ -79,12 +96,16 @@ wrongEntries =
     ∷ only (byLine spentAfterNone station 1) (answer ∷ [])
     ∷ only (byLine roundsInvented station 3) (answer ∷ [])
     ∷ only (offered offerCleared stationH offerJ) (same-list ∷ [])
+    -- in minute 0 the second feeder draws all of W
+    ∷ only (offered testedAlone stationBeside (0 ∷ [])) (taken ∷ answer ∷ [])
+    -- the second feeder holds nothing, and the first one gets the plan
+    ∷ only (byLatestOn firstReplanned stationPairH 2) (taken ∷ station-same ∷ answer ∷ [])
     ∷ []
 
 -- and the rules themselves for the same calls, where nothing breaks
 abbrev byRules : Trial → Trial
 byRules r =
-    record { gives = step; station = r .station; call = r .call; proposal = r .proposal; rounds = r .rounds }
+    record { gives = step; station = r .station; feeder = r .feeder; call = r .call; proposal = r .proposal; rounds = r .rounds }
 
 abbrev pub entries : List Breach
 entries = wrongEntries ++ map (λ e. only (byRules (e .thing)) []) wrongEntries

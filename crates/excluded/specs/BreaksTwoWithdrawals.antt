@@ -2,7 +2,8 @@
 use Prim.Native.Nat.{ℕ}
 use mathlib.Core.Bool.{Bool}
 use mathlib.Core.List.{List, [], _∷_, _++_, map}
-use Rattle.rules.specs.Calls.{State, step}
+use Rattle.rules.specs.Site.{State}
+use Rattle.rules.specs.Calls.{step}
 use Rattle.guarantee.specs.Past.{Gives}
 use Rattle.excluded.specs.WrongRefusals.{ticketUsedUp}
 use Rattle.excluded.specs.WrongWithdrawals.{balanceUntested, begunWithdrawn, startAtClockRefused, othersReplanned, ticketGivenAgain, withdrawnHeld}

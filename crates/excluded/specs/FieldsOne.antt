@@ -4,8 +4,9 @@ use mathlib.Core.Logic.{_↔_}
 use mathlib.Core.Path.{_≡_}
 use Prim.Native.Nat.{ℕ}
 use mathlib.Core.Bool.{Bool, true, cond, _&&_, _||_}
-use mathlib.Core.List.{List, [], _∷_}
-use Rattle.rules.specs.Calls.{Settings, settings, State, Answer, refused, opened, previewed, committed, moved, planned, waiting, charging, looked, withdrawn, Result, fresh, openRefusals, Call, preview, commit, move, offer, replanLatest, replanLines, enquire, board, withdraw, lent, refusals}
+use mathlib.Core.List.{List, [], _∷_, map}
+use Rattle.rules.specs.Site.{State}
+use Rattle.rules.specs.Calls.{Asked, least, Answer, refused, opened, previewed, committed, moved, planned, waiting, charging, looked, withdrawn, Result, fresh, openRefusals, Call, preview, commit, move, offer, replanLatest, replanLines, enquire, board, withdraw, lent, refusals}
 use Rattle.guarantee.specs.Past.{Gives, isRefused}
 use Rattle.guarantee.specs.DemandOne.{FirstIs, NoneApplies, AnswerTo}
 use Rattle.excluded.specs.Same.{where-so, sameList, sameAnswer, numberIn, sameState}
@@ -30,7 +31,7 @@ place answered = 3
 -- one call to a station, or one opening
 pub data Trial : Type 0 where
   calledOn : Gives → State → Call → Trial
-  openedBy : (Settings → Result) → Settings → Trial
+  openedBy : (Asked → Result) → Asked → Trial
 
 -- the conditions, the station and the lent list before it, and what it gives
 pub record Tried : Type 0 where
@@ -42,12 +43,12 @@ pub record Tried : Type 0 where
 abbrev pub tried : Trial → Tried
 tried (calledOn gives s c) = record { rows = refusals s c; station = s; list = lent c; result = gives s c }
 tried (openedBy opens x) =
-    record { rows = openRefusals x; station = fresh (settings 1 100 0); list = []; result = opens x }
+    record { rows = openRefusals x; station = fresh least; list = []; result = opens x }
 
 -- an answer of its own kind
 abbrev pub OwnAnswer : Trial → Type 0
 OwnAnswer (calledOn gives s c) = AnswerTo c (gives s c .answer)
-OwnAnswer (openedBy opens x) = (opens x .answer ≡ opened (fresh x .bound)) × (opens x .state ≡ fresh x)
+OwnAnswer (openedBy opens x) = (opens x .answer ≡ opened (map (λ g. g .bound) (fresh x .feeders))) × (opens x .state ≡ fresh x)
 
 -- what a field says; all together they are demand 1 (`one-fields`, `one-opening-fields` in proofs/FieldsOne.antt)
 abbrev pub Holds : Trial → Field → Type 0
@@ -68,12 +69,12 @@ firstIn (row ∷ rows) = cond (row .0) (row .1 ∷ []) (firstIn rows)
 
 -- an answer is of a kind when it is the one of that kind with its own numbers
 abbrev pub answersTo : Call → Answer → Bool
-answersTo (preview line p d rate) a = sameAnswer a (previewed (numberIn 1 a))
-answersTo (commit line p d rate shown) a = sameAnswer a (committed (numberIn 1 a) shown)
+answersTo (preview f line p d rate) a = sameAnswer a (previewed (numberIn 1 a))
+answersTo (commit f line p d rate shown) a = sameAnswer a (committed (numberIn 1 a) shown)
 answersTo (move target list) a = sameAnswer a (moved (numberIn 1 a) (numberIn 2 a))
-answersTo (offer ss) a = sameAnswer a (planned (numberIn 1 a) (numberIn 2 a) (numberIn 3 a) (numberIn 4 a))
-answersTo replanLatest a = sameAnswer a (planned (numberIn 1 a) (numberIn 2 a) (numberIn 3 a) (numberIn 4 a))
-answersTo (replanLines allowance) a = sameAnswer a (planned (numberIn 1 a) (numberIn 2 a) (numberIn 3 a) (numberIn 4 a))
+answersTo (offer f ss) a = sameAnswer a (planned (numberIn 1 a) (numberIn 2 a) (numberIn 3 a) (numberIn 4 a))
+answersTo (replanLatest f) a = sameAnswer a (planned (numberIn 1 a) (numberIn 2 a) (numberIn 3 a) (numberIn 4 a))
+answersTo (replanLines f allowance) a = sameAnswer a (planned (numberIn 1 a) (numberIn 2 a) (numberIn 3 a) (numberIn 4 a))
 answersTo (enquire ticket) a =
     sameAnswer a (waiting (numberIn 1 a) (numberIn 2 a))
     || sameAnswer a (charging (numberIn 1 a) (numberIn 2 a) (numberIn 3 a))
@@ -83,7 +84,7 @@ answersTo (withdraw ticket) a = sameAnswer a withdrawn
 abbrev pub ownAnswer : Trial → Bool
 ownAnswer (calledOn gives s c) = answersTo c (gives s c .answer)
 ownAnswer (openedBy opens x) =
-    sameAnswer (opens x .answer) (opened (fresh x .bound)) && sameState (opens x .state) (fresh x)
+    sameAnswer (opens x .answer) (opened (map (λ g. g .bound) (fresh x .feeders))) && sameState (opens x .state) (fresh x)
 
 abbrev pub tested : Trial → Field → Bool
 tested r number = sameList (refusalIn (tried r .result .answer)) (firstIn (tried r .rows))

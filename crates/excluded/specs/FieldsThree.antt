@@ -6,14 +6,18 @@ use mathlib.Core.List.{List, [], _∷_, _++_}
 use lib.Dec.{eqb}
 use Rattle.rules.specs.Basics.{Each, some}
 use Rattle.rules.specs.Load.{IsLine}
-use Rattle.rules.specs.Calls.{State, refused, waiting, charging, Call}
-use Rattle.guarantee.specs.Past.{Gives, Order, Past, past, timesReported, enquiry, startOf, endOf, activeUntil, stayingOrders, withdrawnOrders, countIn, Numbered, totalTime, lastMinute}
+use Rattle.rules.specs.Site.{State, feederOf}
+use Rattle.rules.specs.Valid.{IsFeeder}
+use Rattle.rules.specs.Calls.{refused, waiting, charging, Call}
+use Rattle.guarantee.specs.Past.{Gives, Order, Past, past, timesReported, enquiry, startOf, endOf, activeUntil, stayingOrders, withdrawnOrders, countIn, siteIn, Numbered, totalTime, lastMinute}
 use Rattle.guarantee.specs.DemandThree.{Unmoved}
 
 -- in the order of `DemandThree`, with those of `Kept` in the place of `orders` and those of `Gone` in the place of `gone`
 pub data Field : Type 0 where
   limit : Field
   balance : Field
+  site : Field
+  feeders : Field
   tickets : Field
   not-early : Field
   reported : Field
@@ -31,6 +35,8 @@ abbrev pub fields : List Field
 fields =
     limit
     ∷ balance
+    ∷ site
+    ∷ feeders
     ∷ tickets
     ∷ not-early
     ∷ reported
@@ -49,34 +55,40 @@ fields =
 abbrev pub place : Field → ℕ
 place limit = 0
 place balance = 1
-place tickets = 2
-place not-early = 3
-place reported = 4
-place not-reported = 5
-place waits = 6
-place charges = 7
-place finished = 8
-place gone-not-reported = 9
-place gone-not-held = 10
-place in-time = 11
-place no-other = 12
-place unmoved = 13
+place site = 2
+place feeders = 3
+place tickets = 4
+place not-early = 5
+place reported = 6
+place not-reported = 7
+place waits = 8
+place charges = 9
+place finished = 10
+place gone-not-reported = 11
+place gone-not-held = 12
+place in-time = 13
+place no-other = 14
+place unmoved = 15
 
 -- what a field says; all together they are demand 3 (`three-fields` in proofs/FieldsThree.antt)
 abbrev pub Holds : Gives → State → List Call → Field → Type 0
-Holds gives s calls limit = (l t : ℕ) → IsLine l → countIn gives (past gives s calls) l t ≤ s .limit
+Holds gives s calls limit =
+    (f l t : ℕ) → IsFeeder s f → IsLine l → countIn gives (past gives s calls) f l t ≤ feederOf s f .limit
 Holds gives s calls balance =
-    (l m t : ℕ)
+    (f l m t : ℕ)
+    → IsFeeder s f
     → IsLine l
     → IsLine m
-    → countIn gives (past gives s calls) l t ≤ countIn gives (past gives s calls) m t + s .bound
+    → countIn gives (past gives s calls) f l t ≤ countIn gives (past gives s calls) f m t + feederOf s f .bound
+Holds gives s calls site = (t : ℕ) → siteIn gives (past gives s calls) t ≤ s .site
+Holds gives s calls feeders = Each (λ o. IsFeeder s (o .feeder)) (past gives s calls .orders)
 Holds gives s calls tickets = Numbered 1 (past gives s calls .orders)
 Holds gives s calls not-early =
     let h : Past = past gives s calls in
     Each (λ o. o .minute ≤ startOf gives h o) (stayingOrders h)
 Holds gives s calls in-time =
     let h : Past = past gives s calls in
-    Each (λ o. endOf gives h o ≤ lastMinute 0 (h .orders) + totalTime (h .tail) (h .orders)) (stayingOrders h)
+    Each (λ o. endOf gives h o ≤ lastMinute 0 (h .orders) + totalTime (h .tails) (h .orders)) (stayingOrders h)
 Holds gives s calls reported =
     let h : Past = past gives s calls in
     Each (λ o. startOf gives h o < h .clock → timesReported (h .reports) (o .ticket) ≡ 1) (stayingOrders h)

@@ -7,7 +7,8 @@ use mathlib.Core.List.{List, [], _∷_, map}
 use lib.Dec.{leb}
 use lib.ListN.{length}
 use Rattle.rules.specs.Basics.{keep}
-use Rattle.rules.specs.Calls.{State, Answer, looked, Result, Call, enquire, board, written}
+use Rattle.rules.specs.Site.{State, siteCharges}
+use Rattle.rules.specs.Calls.{Answer, looked, Result, Call, enquire, board, written}
 use Rattle.guarantee.specs.Past.{Gives}
 use Rattle.guarantee.specs.DemandTwo.{shownBy, highest}
 use Rattle.excluded.specs.Same.{sameList, sameAnswer, sameState}
@@ -43,7 +44,7 @@ resultOf r = r .gives (r .station) (callOf r)
 
 -- the answer and the list that demand 2 asks for
 abbrev pub answerOf : Trial → Answer
-answerOf r = looked (length (keep (λ c. leb (c .ticket) (highest (r .asked))) (r .station .charges)))
+answerOf r = looked (length (keep (λ c. leb (c .ticket) (highest (r .asked))) (siteCharges (r .station))))
 
 abbrev pub listOf : Trial → List ℕ
 listOf r = written (map (λ t. shownBy (r .gives (r .station) (enquire t) .answer)) (r .asked)) (r .list)

@@ -5,7 +5,8 @@ use mathlib.Core.Path.{_≡_}
 use Prim.Native.Nat.{ℕ}
 use mathlib.Core.Bool.{Bool, not}
 use mathlib.Core.List.{List, [], _∷_}
-use Rattle.rules.specs.Calls.{State, refused, committed, Result, Call, preview, commit, newCharge, drawFor, taking}
+use Rattle.rules.specs.Site.{State}
+use Rattle.rules.specs.Calls.{refused, committed, Result, Call, preview, commit, newCharge, drawFor, taking}
 use Rattle.guarantee.specs.Past.{Gives}
 use Rattle.guarantee.specs.DemandTwo.{EarliestStart}
 use Rattle.excluded.specs.Same.{where-so, sameTest, sameAnswer, sameState}
@@ -31,6 +32,7 @@ place others-same = 2
 pub record Trial : Type 0 where
   pub gives : Gives
   pub station : State
+  pub feeder : ℕ
   pub line : ℕ
   pub time : ℕ
   pub due : ℕ
@@ -38,19 +40,19 @@ pub record Trial : Type 0 where
   pub shown : ℕ
 
 abbrev pub resultOf : Trial → Result
-resultOf r = r .gives (r .station) (commit (r .line) (r .time) (r .due) (r .rate) (r .shown))
+resultOf r = r .gives (r .station) (commit (r .feeder) (r .line) (r .time) (r .due) (r .rate) (r .shown))
 
 -- its order, as a preview
 abbrev pub orderOf : Trial → Call
-orderOf r = preview (r .line) (r .time) (r .due) (r .rate)
+orderOf r = preview (r .feeder) (r .line) (r .time) (r .due) (r .rate)
 
 -- the start shown is the earliest
 abbrev pub Earliest : Trial → Type 0
-Earliest r = EarliestStart (r .station) (drawFor (r .station) (r .line) (r .time) (r .rate)) (r .shown)
+Earliest r = EarliestStart (r .station) (r .feeder) (drawFor (r .station) (r .feeder) (r .line) (r .time) (r .rate)) (r .shown)
 
 -- the station with the charge that it asks for
 abbrev pub taken : Trial → State
-taken r = taking (r .station) (newCharge (r .station) (r .line) (r .time) (r .due) (r .rate) (r .shown))
+taken r = taking (r .station) (r .feeder) (newCharge (r .station) (r .feeder) (r .line) (r .time) (r .due) (r .rate) (r .shown))
 
 abbrev pub Claim : Trial → Field → Type 0
 Claim r answer = (resultOf r .answer ≡ committed (r .station .next) (r .shown)) ↔ Earliest r
@@ -64,7 +66,7 @@ Holds r f = Free (r .station) (orderOf r) (Claim r f)
 -- The tests
 
 abbrev pub earliest : Trial → Bool
-earliest r = isEarliest (r .station) (drawFor (r .station) (r .line) (r .time) (r .rate)) (r .shown)
+earliest r = isEarliest (r .station) (r .feeder) (drawFor (r .station) (r .feeder) (r .line) (r .time) (r .rate)) (r .shown)
 
 abbrev pub test : Trial → Field → Bool
 test r answer = sameTest (sameAnswer (resultOf r .answer) (committed (r .station .next) (r .shown))) (earliest r)

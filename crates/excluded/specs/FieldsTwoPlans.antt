@@ -8,7 +8,8 @@ use mathlib.Core.List.{List, [], _∷_, map}
 use Rattle.rules.specs.Charge.{Charge, starting, begunCharges, waitingCharges, lateness}
 use Rattle.rules.specs.Replan.{Proposal, starts, none}
 use Rattle.rules.specs.Judgement.{restarted}
-use Rattle.rules.specs.Calls.{State, holding, Answer, planned, Result, Call, lent, refusals}
+use Rattle.rules.specs.Site.{State, chargesOn, holding}
+use Rattle.rules.specs.Calls.{Answer, planned, Result, Call, lent, refusals}
 use Rattle.guarantee.specs.Past.{Gives}
 use Rattle.guarantee.specs.DemandOne.{NoneApplies}
 use Rattle.guarantee.specs.DemandTwo.{Better, Taken, causeOf}
@@ -46,12 +47,20 @@ place same-list = 7
 pub record Trial : Type 0 where
   pub gives : Gives
   pub station : State
+  pub feeder : ℕ
   pub call : Call
   pub proposal : Proposal
   pub rounds : ℕ
 
+abbrev pub heldOf : Trial → List Charge
+heldOf r = chargesOn (r .station) (r .feeder)
+
 abbrev pub resultOf : Trial → Result
 resultOf r = r .gives (r .station) (r .call)
+
+-- what its feeder holds then
+abbrev pub thenOf : Trial → List Charge
+thenOf r = chargesOn (resultOf r .state) (r .feeder)
 
 -- "the waiting charges get these starts", and nothing else is changed
 abbrev pub Given : Trial → (List ℕ → Type 0) → Type 0
@@ -64,21 +73,21 @@ Holds r taken =
     ↔ (NoneApplies (refusals (r .station) (r .call))
     × ((ss : List ℕ)
     × (r .proposal ≡ starts ss)
-    × Better (r .station) ss (restarted (r .station .clock) (r .station .charges) ss)))
+    × Better (r .station) (r .feeder) ss (restarted (r .station .clock) (heldOf r) ss)))
 Holds r waiting-starts =
-    Given r (λ ss. map (λ (c : Charge). c .start) (waitingCharges (r .station .clock) (resultOf r .state .charges)) ≡ ss)
+    Given r (λ ss. map (λ (c : Charge). c .start) (waitingCharges (r .station .clock) (thenOf r)) ≡ ss)
 Holds r begun-same =
     Given r
-    (λ ss. begunCharges (r .station .clock) (resultOf r .state .charges) ≡ begunCharges (r .station .clock) (r .station .charges))
+    (λ ss. begunCharges (r .station .clock) (thenOf r) ≡ begunCharges (r .station .clock) (heldOf r))
 Holds r charges-same =
-    Given r (λ ss. map (λ c. starting c 0) (resultOf r .state .charges) ≡ map (λ c. starting c 0) (r .station .charges))
+    Given r (λ ss. map (λ c. starting c 0) (thenOf r) ≡ map (λ c. starting c 0) (heldOf r))
 Holds r station-same =
-    Given r (λ ss. resultOf r .state ≡ holding (r .station) (r .station .clock) (resultOf r .state .charges))
+    Given r (λ ss. resultOf r .state ≡ holding (r .station) (r .feeder) (thenOf r) (r .station .next))
 Holds r unchanged = (Taken (resultOf r .answer) → ⊥) → resultOf r .state ≡ r .station
 Holds r answer =
     Free (r .station) (r .call)
     (resultOf r .answer
-    ≡ planned (causeOf (r .station) (r .proposal)) (lateness (r .station .charges)) (lateness (resultOf r .state .charges)) (r .rounds))
+    ≡ planned (causeOf (r .station) (r .feeder) (r .proposal)) (lateness (heldOf r)) (lateness (thenOf r)) (r .rounds))
 Holds r same-list = resultOf r .list ≡ lent (r .call)
 
 abbrev pub isTaken : Answer → Bool
@@ -96,24 +105,24 @@ abbrev pub tested : Trial → Field → Bool
 tested r taken =
     sameTest (isTaken (resultOf r .answer))
     (noneApplies (refusals (r .station) (r .call))
-    && ofStarts false (λ ss. every (merited (record { station = r .station; list = ss })) merits) (r .proposal))
+    && ofStarts false (λ ss. every (merited (record { station = r .station; feeder = r .feeder; list = ss })) merits) (r .proposal))
 tested r waiting-starts =
     given r
-    (λ ss. sameList (map (λ (c : Charge). c .start) (waitingCharges (r .station .clock) (resultOf r .state .charges))) ss)
+    (λ ss. sameList (map (λ (c : Charge). c .start) (waitingCharges (r .station .clock) (thenOf r))) ss)
 tested r begun-same =
     given r
     (λ ss.
-    sameCharges (begunCharges (r .station .clock) (resultOf r .state .charges))
-    (begunCharges (r .station .clock) (r .station .charges)))
+    sameCharges (begunCharges (r .station .clock) (thenOf r))
+    (begunCharges (r .station .clock) (heldOf r)))
 tested r charges-same =
     given r
     (λ ss.
-    sameCharges (map (λ c. starting c 0) (resultOf r .state .charges)) (map (λ c. starting c 0) (r .station .charges)))
+    sameCharges (map (λ c. starting c 0) (thenOf r)) (map (λ c. starting c 0) (heldOf r)))
 tested r station-same =
-    given r (λ ss. sameState (resultOf r .state) (holding (r .station) (r .station .clock) (resultOf r .state .charges)))
+    given r (λ ss. sameState (resultOf r .state) (holding (r .station) (r .feeder) (thenOf r) (r .station .next)))
 tested r unchanged = where-so (not (isTaken (resultOf r .answer))) (sameState (resultOf r .state) (r .station))
 tested r answer =
     free (r .station) (r .call)
     (sameAnswer (resultOf r .answer)
-    (planned (causeOf (r .station) (r .proposal)) (lateness (r .station .charges)) (lateness (resultOf r .state .charges)) (r .rounds)))
+    (planned (causeOf (r .station) (r .feeder) (r .proposal)) (lateness (heldOf r)) (lateness (thenOf r)) (r .rounds)))
 tested r same-list = sameList (resultOf r .list) (lent (r .call))

@@ -8,12 +8,14 @@ use mathlib.Core.List.{List, [], _∷_}
 use lib.Dec.{eqb}
 use lib.ListN.{length}
 use Rattle.rules.specs.Basics.{some}
-use Rattle.rules.specs.Load.{Load, limitAt, balanceAt, fromOn}
-use Rattle.rules.specs.Charge.{isWaiting, loadsOf, hasTicket, withoutTicket}
-use Rattle.rules.specs.Calls.{State, limitsOf, holding, withdrawn, Result, withdraw}
+use Rattle.rules.specs.Load.{Load}
+use Rattle.rules.specs.Charge.{Charge, isWaiting, loadsOf, hasTicket, withoutTicket}
+use Rattle.rules.specs.Site.{State, chargesOn, siteCharges, holding}
+use Rattle.rules.specs.Calls.{feederWith, withdrawn, Result, withdraw}
 use Rattle.guarantee.specs.Past.{Gives}
 use Rattle.guarantee.specs.DemandTwo.{SoundPlan, Waits}
 use Rattle.excluded.specs.Same.{where-so, sameTest, sameAnswer, sameState}
+use Rattle.excluded.specs.Minutes.{planSound}
 
 -- of `Withdrawal`
 pub data Field : Type 0 where
@@ -41,20 +43,27 @@ pub record Trial : Type 0 where
 abbrev pub resultOf : Trial → Result
 resultOf r = r .gives (r .station) (withdraw (r .ticket))
 
+-- the feeder that holds the ticket, and what it holds
+abbrev pub feederIn : Trial → ℕ
+feederIn r = feederWith (r .ticket) 1 (r .station .feeders)
+
+abbrev pub heldOf : Trial → List Charge
+heldOf r = chargesOn (r .station) (feederIn r)
+
 -- the loads of the charges that remain
 abbrev pub rest : Trial → List Load
-rest r = loadsOf (withoutTicket (r .ticket) (r .station .charges))
+rest r = loadsOf (withoutTicket (r .ticket) (heldOf r))
 
 abbrev pub Withdrawn : Trial → Type 0
 Withdrawn r = resultOf r .answer ≡ withdrawn
 
 -- what a field says; all together they are what demand 2 says of a withdrawal (`withdrawal-fields` there)
 abbrev pub Holds : Trial → Field → Type 0
-Holds r removed = Withdrawn r ↔ (Waits (r .station) (r .ticket) × SoundPlan (r .station) (rest r))
+Holds r removed = Withdrawn r ↔ (Waits (r .station) (r .ticket) × SoundPlan (r .station) (feederIn r) (rest r))
 Holds r others-same =
     Withdrawn r
-    → resultOf r .state ≡ holding (r .station) (r .station .clock) (withoutTicket (r .ticket) (r .station .charges))
-Holds r place-free = Withdrawn r → suc (length (resultOf r .state .charges)) ≡ length (r .station .charges)
+    → resultOf r .state ≡ holding (r .station) (feederIn r) (withoutTicket (r .ticket) (heldOf r)) (r .station .next)
+Holds r place-free = Withdrawn r → suc (length (chargesOn (resultOf r .state) (feederIn r))) ≡ length (heldOf r)
 Holds r unchanged = (Withdrawn r → ⊥) → resultOf r .state ≡ r .station
 
 -- The tests
@@ -63,18 +72,16 @@ abbrev pub isWithdrawal : Trial → Bool
 isWithdrawal r = sameAnswer (resultOf r .answer) withdrawn
 
 abbrev pub waits : Trial → Bool
-waits r = some (λ c. hasTicket (r .ticket) c && isWaiting (r .station .clock) c) (r .station .charges)
+waits r = some (λ c. hasTicket (r .ticket) c && isWaiting (r .station .clock) c) (siteCharges (r .station))
 
 abbrev pub restSound : Trial → Bool
-restSound r =
-    fromOn (r .station .clock) (rest r) (limitAt (limitsOf (r .station)) (rest r))
-    && fromOn (r .station .clock) (rest r) (balanceAt (limitsOf (r .station)) (rest r))
+restSound r = planSound (r .station) (feederIn r) (rest r)
 
 abbrev pub tested : Trial → Field → Bool
 tested r removed = sameTest (isWithdrawal r) (waits r && restSound r)
 tested r others-same =
     where-so (isWithdrawal r)
-    (sameState (resultOf r .state) (holding (r .station) (r .station .clock) (withoutTicket (r .ticket) (r .station .charges))))
+    (sameState (resultOf r .state) (holding (r .station) (feederIn r) (withoutTicket (r .ticket) (heldOf r)) (r .station .next)))
 tested r place-free =
-    where-so (isWithdrawal r) (eqb (suc (length (resultOf r .state .charges))) (length (r .station .charges)))
+    where-so (isWithdrawal r) (eqb (suc (length (chargesOn (resultOf r .state) (feederIn r)))) (length (heldOf r)))
 tested r unchanged = where-so (not (isWithdrawal r)) (sameState (resultOf r .state) (r .station))

@@ -2,7 +2,8 @@
 use Prim.Native.Nat.{ℕ}
 use mathlib.Core.Bool.{Bool, not}
 use mathlib.Core.List.{List}
-use Rattle.rules.specs.Calls.{State, Call, refusals}
+use Rattle.rules.specs.Site.{State}
+use Rattle.rules.specs.Calls.{Call, refusals}
 use Rattle.guarantee.specs.DemandOne.{NoneApplies}
 use Rattle.excluded.specs.Same.{every, where-so}
 

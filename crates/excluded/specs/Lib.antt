@@ -8,13 +8,14 @@ pub mod WrongBoards
 pub mod WrongWithdrawals
 pub mod Same
 pub mod Free
+pub mod Minutes
+pub mod Starts
 pub mod Stations
 pub mod Breaks
 pub mod FieldsThree
 pub mod TestsThree
 pub mod FieldsOne
 pub mod BreaksOne
-pub mod Starts
 pub mod FieldsTwoPreviews
 pub mod BreaksTwoPreviews
 pub mod FieldsTwoCommits

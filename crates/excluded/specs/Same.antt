@@ -5,7 +5,8 @@ use mathlib.Core.List.{List, [], _∷_}
 use lib.Dec.{eqb}
 use lib.ListN.{getD}
 use Rattle.rules.specs.Charge.{Charge}
-use Rattle.rules.specs.Calls.{State, Answer, refused, opened, previewed, committed, moved, planned, waiting, charging, looked, withdrawn}
+use Rattle.rules.specs.Site.{Feeder, State}
+use Rattle.rules.specs.Calls.{Answer, refused, opened, previewed, committed, moved, planned, waiting, charging, looked, withdrawn}
 
 -- f holds at each member
 abbrev pub every : {A : Type 0} → (A → Bool) → List A → Bool
@@ -32,7 +33,7 @@ sameList = sameEach eqb
 -- an answer as a number for its kind and the numbers that it gives
 abbrev pub inNumbers : Answer → List ℕ
 inNumbers (refused k) = 0 ∷ k ∷ []
-inNumbers (opened d) = 1 ∷ d ∷ []
+inNumbers (opened ds) = 1 ∷ ds
 inNumbers (previewed s) = 2 ∷ s ∷ []
 inNumbers (committed t s) = 3 ∷ t ∷ s ∷ []
 inNumbers (moved n m) = 4 ∷ n ∷ m ∷ []
@@ -55,9 +56,16 @@ ofCharge c = c .ticket ∷ c .line ∷ c .orderMinute ∷ c .time ∷ c .activeT
 abbrev pub sameCharges : List Charge → List Charge → Bool
 sameCharges = sameEach (λ c d. sameList (ofCharge c) (ofCharge d))
 
--- a station without its charges
+-- a feeder without its charges
+abbrev pub ofFeeder : Feeder → List ℕ
+ofFeeder g = g .limit ∷ g .percent ∷ g .bound ∷ g .tail ∷ []
+
+abbrev pub sameFeeder : Feeder → Feeder → Bool
+sameFeeder g h = sameList (ofFeeder g) (ofFeeder h) && sameCharges (g .charges) (h .charges)
+
+-- a site without its feeders
 abbrev pub ofState : State → List ℕ
-ofState s = s .limit ∷ s .percent ∷ s .bound ∷ s .tail ∷ s .clock ∷ s .next ∷ []
+ofState s = s .site ∷ s .clock ∷ s .next ∷ []
 
 abbrev pub sameState : State → State → Bool
-sameState s t = sameList (ofState s) (ofState t) && sameCharges (s .charges) (t .charges)
+sameState s t = sameList (ofState s) (ofState t) && sameEach sameFeeder (s .feeders) (t .feeders)

@@ -3,18 +3,19 @@ use Prim.Native.Nat.{ℕ, _-_}
 use mathlib.Core.Bool.{Bool, not, _&&_}
 use lib.Dec.{leb}
 use Rattle.rules.specs.Basics.{throughout}
-use Rattle.rules.specs.Load.{Draw, sound}
+use Rattle.rules.specs.Load.{Draw}
 use Rattle.rules.specs.Charge.{loadsOf}
 use Rattle.rules.specs.Search.{added}
-use Rattle.rules.specs.Calls.{State, limitsOf}
+use Rattle.rules.specs.Site.{State, chargesOn}
+use Rattle.excluded.specs.Minutes.{planSound}
 
 -- the held plan and the load of this draw from u on are sound together
-abbrev pub soundWith : State → Draw → ℕ → Bool
-soundWith s a u = sound (limitsOf s) (s .clock) (added (loadsOf (s .charges)) a u)
+abbrev pub soundWith : State → ℕ → Draw → ℕ → Bool
+soundWith s f a u = planSound s f (added (loadsOf (chargesOn s f)) a u)
 
 -- no start from the clock on and before this one is sound
-abbrev pub noEarlier : State → Draw → ℕ → Bool
-noEarlier s a start = throughout (λ u. not (soundWith s a u)) (start - s .clock) (s .clock)
+abbrev pub noEarlier : State → ℕ → Draw → ℕ → Bool
+noEarlier s f a start = throughout (λ u. not (soundWith s f a u)) (start - s .clock) (s .clock)
 
-abbrev pub isEarliest : State → Draw → ℕ → Bool
-isEarliest s a start = leb (s .clock) start && (soundWith s a start && noEarlier s a start)
+abbrev pub isEarliest : State → ℕ → Draw → ℕ → Bool
+isEarliest s f a start = leb (s .clock) start && (soundWith s f a start && noEarlier s f a start)

@@ -3,7 +3,9 @@
 use Prim.Native.Nat.{ℕ, _+_}
 use mathlib.Core.List.{List, [], _∷_}
 use Rattle.rules.specs.Charge.{Charge}
-use Rattle.rules.specs.Calls.{State, settings, boundOf, fresh}
+use Rattle.rules.specs.Site.{State, feederOf, withCharges}
+use Rattle.rules.specs.Entry.{oneFeeder}
+use Rattle.rules.specs.Calls.{settings, Asked, boundOf, fresh}
 
 -- a charge ordered in minute 0 where r is given: ticket, line, p, d, rate, start; one with r 0, and one of rate 1 and r 0
 abbrev heldWithTail : ℕ → ℕ → ℕ → ℕ → ℕ → ℕ → ℕ → Charge
@@ -16,17 +18,22 @@ heldAt = heldWithTail 0
 abbrev held : ℕ → ℕ → ℕ → ℕ → ℕ → Charge
 held ticket line p d start = heldAt ticket line p d 1 start
 
--- r, N, c, clock, next ticket; and with r 0
+-- one feeder under W 720: r, N, c, clock, next ticket; and with r 0
 abbrev standingWithTail : ℕ → ℕ → ℕ → ℕ → ℕ → List Charge → State
 standingWithTail r n c clock next cs =
-    record { limit = n; percent = c; bound = boundOf n c; tail = r; clock = clock; next = next; charges = cs }
+    record {
+      feeders = record { limit = n; percent = c; bound = boundOf n c; tail = r; charges = cs } ∷ [];
+      site = 720;
+      clock = clock;
+      next = next;
+    }
 
 abbrev standing : ℕ → ℕ → ℕ → ℕ → List Charge → State
 standing = standingWithTail 0
 
 -- the fresh station of 1, 100, and the same moved to 5
 abbrev pub station : State
-station = fresh (settings 1 100 0)
+station = fresh (oneFeeder 1 100 0)
 
 abbrev pub stationFive : State
 stationFive = standing 1 100 5 1 []
@@ -79,3 +86,39 @@ waitingSince = standing 1 100 1 4 (held 2 1 10 60 1 ∷ held 3 1 10 11 11 ∷ []
 -- at clock 2 ticket 1 charges on line 2 from 0 to 10, tickets 3 and 4, due at 12, wait for 2 and 12
 abbrev pub begunAndWaiting : State
 begunAndWaiting = standing 1 100 2 5 (held 1 2 10 60 0 ∷ held 3 1 10 60 2 ∷ held 4 1 10 12 12 ∷ [])
+
+-- Two feeders of the same N and c, with r 0, under W
+
+abbrev pub pairOf : ℕ → ℕ → ℕ → Asked
+pairOf w n c = record { count = 2; site = w; settings = settings n c 0 ∷ settings n c 0 ∷ [] }
+
+abbrev pub pairFresh : State
+pairFresh = fresh (pairOf 720 1 100)
+
+abbrev holdingBoth : State → ℕ → List Charge → List Charge → State
+holdingBoth s next cs ds =
+    record {
+      feeders = withCharges (feederOf s 1) cs ∷ withCharges (feederOf s 2) ds ∷ [];
+      site = s .site;
+      clock = s .clock;
+      next = next;
+    }
+
+-- N = 1: a charge on line 1 of the first feeder from 0 to 10, under W 1 and under W 720
+abbrev pub stationPair : State
+stationPair = holdingBoth (fresh (pairOf 1 1 100)) 2 (held 1 1 10 60 0 ∷ []) []
+
+abbrev pub stationPairWide : State
+stationPairWide = holdingBoth (fresh (pairOf 720 1 100)) 2 (held 1 1 10 60 0 ∷ []) []
+
+-- N = 2, W = 1: the orders of case h on the first feeder, where W keeps them apart
+abbrev pub stationSite : State
+stationSite = holdingBoth (fresh (pairOf 1 2 100)) 3 heldH []
+
+-- N = 1, W = 1: the same orders, the first of them on the second feeder
+abbrev pub stationBeside : State
+stationBeside = holdingBoth (fresh (pairOf 1 1 100)) 3 (held 2 1 10 15 10 ∷ []) (held 1 1 10 60 0 ∷ [])
+
+-- N = 1, W = 720: both on the first feeder, nothing on the second
+abbrev pub stationPairH : State
+stationPairH = holdingBoth (fresh (pairOf 720 1 100)) 3 heldH []

@@ -4,12 +4,15 @@ use Prim.Native.Nat.{ℕ, suc, _+_}
 use mathlib.Core.Bool.{Bool, true, _&&_}
 use mathlib.Core.List.{List, [], _∷_, map}
 use lib.Dec.{ltb, leb, eqb}
-use Rattle.rules.specs.Basics.{some}
-use Rattle.rules.specs.Load.{Load, limitAt, balanceAt, fromOn}
-use Rattle.rules.specs.Calls.{State, limitsOf, refused, waiting, charging, Call}
-use Rattle.guarantee.specs.Past.{Gives, Order, Report, Past, beginning, extended, past, stayingOrders, withdrawnOrders, timesReported, enquiry, startOf, endOf, activeUntil, loadOf, totalTime, lastMinute}
+use lib.ListN.{length}
+use Rattle.rules.specs.Basics.{throughout, some}
+use Rattle.rules.specs.Load.{Load}
+use Rattle.rules.specs.Site.{State, feederOf}
+use Rattle.rules.specs.Calls.{refused, waiting, charging, Call}
+use Rattle.guarantee.specs.Past.{Gives, Order, Report, Past, beginning, extended, past, stayingOrders, withdrawnOrders, onFeeder, timesReported, enquiry, startOf, endOf, activeUntil, loadOf, totalTime, lastMinute}
 use Rattle.excluded.specs.Same.{every, where-so, sameAnswer}
-use Rattle.excluded.specs.FieldsThree.{Field, limit, balance, tickets, not-early, in-time, reported, not-reported, waits, charges, finished, gone-not-reported, gone-not-held, no-other, unmoved}
+use Rattle.excluded.specs.Minutes.{limitFrom, balanceFrom, siteFrom}
+use Rattle.excluded.specs.FieldsThree.{Field, limit, balance, site, feeders, tickets, not-early, in-time, reported, not-reported, waits, charges, finished, gone-not-reported, gone-not-held, no-other, unmoved}
 
 abbrev pub numbered : ℕ → List Order → Bool
 numbered i [] = true
@@ -27,16 +30,27 @@ unmovedFrom gives there here =
 abbrev pub reportedOrder : Past → Report → Bool
 reportedOrder h r = some (λ (o : Order). eqb (o .ticket) (r .ticket)) (h .orders)
 
+-- of each feeder by its number
+abbrev pub onEach : State → (ℕ → Bool) → Bool
+onEach s test = throughout test (length (s .feeders)) 1
+
+abbrev pub isFeeder : State → ℕ → Bool
+isFeeder s f = leb 1 f && leb f (length (s .feeders))
+
+-- what the orders of feeder f draw
+abbrev pub loadsOn : Gives → Past → ℕ → List Load
+loadsOn gives h f = map (loadOf gives h) (onFeeder f (stayingOrders h))
+
 -- h is what is known after the calls
 abbrev pub testedOn : Gives → State → List Call → Past → Field → Bool
-testedOn gives s calls h limit =
-    let xs : List Load = map (loadOf gives h) (stayingOrders h) in fromOn 0 xs (limitAt (limitsOf s) xs)
-testedOn gives s calls h balance =
-    let xs : List Load = map (loadOf gives h) (stayingOrders h) in fromOn 0 xs (balanceAt (limitsOf s) xs)
+testedOn gives s calls h limit = onEach s (λ f. limitFrom (feederOf s f .limit) 0 (loadsOn gives h f))
+testedOn gives s calls h balance = onEach s (λ f. balanceFrom (feederOf s f .bound) 0 (loadsOn gives h f))
+testedOn gives s calls h site = siteFrom (s .site) 0 [] (map (loadOf gives h) (stayingOrders h))
+testedOn gives s calls h feeders = every (λ o. isFeeder s (o .feeder)) (h .orders)
 testedOn gives s calls h tickets = numbered 1 (h .orders)
 testedOn gives s calls h not-early = every (λ o. leb (o .minute) (startOf gives h o)) (stayingOrders h)
 testedOn gives s calls h in-time =
-    every (λ o. leb (endOf gives h o) (lastMinute 0 (h .orders) + totalTime (h .tail) (h .orders))) (stayingOrders h)
+    every (λ o. leb (endOf gives h o) (lastMinute 0 (h .orders) + totalTime (h .tails) (h .orders))) (stayingOrders h)
 testedOn gives s calls h reported =
     every (λ o. where-so (ltb (startOf gives h o) (h .clock)) (eqb (timesReported (h .reports) (o .ticket)) 1)) (stayingOrders h)
 testedOn gives s calls h not-reported =

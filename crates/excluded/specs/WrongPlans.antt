@@ -4,12 +4,14 @@ use mathlib.Core.Bool.{not, cond}
 use mathlib.Core.List.{[]}
 use lib.Dec.{eqb}
 use Rattle.rules.specs.Basics.{firstOf, keep}
+use Rattle.rules.specs.Load.{Limits, limits}
 use Rattle.rules.specs.Charge.{isBegun}
 use Rattle.rules.specs.Replan.{latest}
 use Rattle.rules.specs.Judgement.{restarted, causes, judged}
-use Rattle.rules.specs.Calls.{kept, decided, tested, offering, replanningLatest, State, limitsOf, holding, Result}
+use Rattle.rules.specs.Site.{State, chargesOn, limitsOf}
+use Rattle.rules.specs.Calls.{kept, decided, tested, offering, replanningLatest, Result}
 use Rattle.guarantee.specs.Past.{Gives}
-use Rattle.excluded.specs.Parts.{withOffers, withReplansLatest, withReplansLines, leaving, writing, ticketing, putOff, onLine, atRate, tailCharged, chargesBy, saying}
+use Rattle.excluded.specs.Parts.{withOffers, withReplansLatest, withReplansLines, leaving, writing, ticketing, clocking, putOff, onLine, atRate, tailCharged, chargesBy, saying}
 
 -- Offers
 
@@ -17,27 +19,35 @@ use Rattle.excluded.specs.Parts.{withOffers, withReplansLatest, withRepl
 abbrev pub untested : ℕ → Gives
 untested k =
     withOffers
-    (λ s ss.
-    decided s 0 ss ss
+    (λ s f ss.
+    decided s f 0 ss ss
     (firstOf
     (keep (λ row. not (eqb (row .1) k))
-    (causes (limitsOf s) (s .clock) (s .charges) ss (restarted (s .clock) (s .charges) ss)))))
+    (causes (limitsOf s f) (s .clock) (chargesOn s f) ss (restarted (s .clock) (chargesOn s f) ss)))))
+
+-- the test with other limits
+abbrev judgingWith : (Limits → Limits) → Gives
+judgingWith h = withOffers (λ s f ss. decided s f 0 ss ss (judged (h (limitsOf s f)) (s .clock) (chargesOn s f) ss))
+
+-- an offer that is tested without what the other feeders draw
+abbrev pub testedAlone : Gives
+testedAlone = judgingWith (λ y. limits (y .limit) (y .bound) (y .site) [])
 
 -- an offer that is never taken
 abbrev pub neverTaken : Gives
-neverTaken = withOffers (λ s ss. kept s 7 0 ss)
+neverTaken = withOffers (λ s f ss. kept s f 7 0 ss)
 
 -- an offer that clears its list
 abbrev pub offerCleared : Gives
-offerCleared = withOffers (λ s ss. writing [] (offering s ss))
+offerCleared = withOffers (λ s f ss. writing [] (offering s f ss))
 
 -- an offer that leaves another station, `taken` of the right one where the plan is taken and `kept` of it where it is not
 abbrev leftBy : (State → State) → (State → State) → Gives
 leftBy taken kept =
     withOffers
-    (λ s ss.
-    let r : Result = offering s ss in
-    leaving (cond (eqb (judged (limitsOf s) (s .clock) (s .charges) ss) 0) (taken (r .state)) (kept (r .state))) r)
+    (λ s f ss.
+    let r : Result = offering s f ss in
+    leaving (cond (eqb (judged (limitsOf s f) (s .clock) (chargesOn s f) ss) 0) (taken (r .state)) (kept (r .state))) r)
 
 -- taken starts are put off by a minute
 abbrev pub takenLater : Gives
@@ -65,7 +75,7 @@ keptForTicket = leftBy (λ s. s) (λ s. ticketing (suc (s .next)) s)
 
 -- lateness up to the end of the tails
 abbrev pub lateWithTails : Gives
-lateWithTails = withOffers (λ s ss. saying (offering (chargesBy tailCharged s) ss .answer) (offering s ss))
+lateWithTails = withOffers (λ s f ss. saying (offering (chargesBy tailCharged s) f ss .answer) (offering s f ss))
 
 -- Replans
 
@@ -73,23 +83,27 @@ lateWithTails = withOffers (λ s ss. saying (offering (chargesBy tailCharged s) 
 abbrev pub begunMoved : Gives
 begunMoved =
     withReplansLatest
-    (λ s.
-    let r : Result = replanningLatest (holding s (s .clock - 1) (s .charges)) in
-    leaving (holding s (s .clock) (r .state .charges)) r)
+    (λ s f.
+    let r : Result = replanningLatest (clocking (s .clock - 1) s) f in
+    leaving (clocking (s .clock) (r .state)) r)
 
 -- a replan that always keeps
 abbrev pub alwaysKept : Gives
-alwaysKept = withReplansLatest (λ s. kept s 7 0 [])
+alwaysKept = withReplansLatest (λ s f. kept s f 7 0 [])
 
 -- allowance spent after no round
 abbrev pub spentAfterNone : Gives
-spentAfterNone = withReplansLines (λ s allowance. kept s 2 0 [])
+spentAfterNone = withReplansLines (λ s f allowance. kept s f 2 0 [])
 
 -- a replan by lines that takes the charges by latest start
 abbrev pub byLatestStartInLines : Gives
 byLatestStartInLines =
-    withReplansLines (λ s allowance. tested s 1 (latest (limitsOf s) (s .clock) (s .charges)) [])
+    withReplansLines (λ s f allowance. tested s f 1 (latest (limitsOf s f) (s .clock) (chargesOn s f)) [])
 
 -- an invented round total
 abbrev pub roundsInvented : Gives
-roundsInvented = withReplansLines (λ s allowance. kept s 7 allowance [])
+roundsInvented = withReplansLines (λ s f allowance. kept s f 7 allowance [])
+
+-- a replan that plans the first feeder, whichever it names
+abbrev pub firstReplanned : Gives
+firstReplanned = withReplansLatest (λ s f. replanningLatest s 1)

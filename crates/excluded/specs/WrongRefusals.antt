@@ -3,8 +3,11 @@ use Prim.Native.Nat.{ℕ, suc, _+_, _*_, _/_}
 use mathlib.Core.Bool.{Bool, cond, _||_}
 use mathlib.Core.List.{List, [], _∷_, _++_, map, reverse}
 use lib.Dec.{ltb, eqb}
-use Rattle.rules.specs.Basics.{firstOf, keep, sortedBy}
-use Rattle.rules.specs.Calls.{Settings, settings, State, refused, opened, waiting, Result, answering, fresh, openRefusals, opening, refusals, previewing, committing, moving, step}
+use lib.ListN.{length, getD}
+use Rattle.rules.specs.Basics.{firstOf, keep, some, sortedBy}
+use Rattle.rules.specs.Site.{State}
+use Rattle.rules.specs.Entry.{oneFeeder}
+use Rattle.rules.specs.Calls.{Settings, settings, Asked, settingsRead, freshFeeder, refused, opened, waiting, Result, answering, fresh, openRefusals, opening, preview, commit, move, offer, replanLatest, replanLines, enquire, board, withdraw, refusals, previewing, committing, moving, step}
 use Rattle.guarantee.specs.Past.{Gives, isRefused}
 use Rattle.excluded.specs.Parts.{withRefusals, withPreviews, withCommits, withMoves, unnumbered, saying, leaving, writing, ticketing, bounding}
 
@@ -22,7 +25,7 @@ lowestNumber = withRefusals (λ s c. sortedBy (λ a b. ltb (a .1) (b .1)) (refus
 
 -- a rate is compared with N alone
 abbrev pub rateAboveBound : Gives
-rateAboveBound = withRefusals (λ s c. refusals (bounding (s .limit) s) c)
+rateAboveBound = withRefusals (λ s c. refusals (bounding (λ g. g .limit) s) c)
 
 -- the start shown is looked at before all else
 abbrev pub shownFirst : Gives
@@ -44,8 +47,8 @@ alwaysFull = withRefusals (λ s c. map (λ row. (eqb (row .1) 13 || row .0, row 
 abbrev pub hurryRefused : Gives
 hurryRefused =
     withPreviews
-    (λ s line p d rate.
-    cond (ltb d (s .clock + p)) (record { answer = refused 7; state = s; list = [] }) (previewing s line p d rate))
+    (λ s f line p d rate.
+    cond (ltb d (s .clock + p)) (record { answer = refused 7; state = s; list = [] }) (previewing s f line p d rate))
 
 -- a refusal that no condition names: a move to the clock itself
 abbrev pub standstillRefused : Gives
@@ -68,59 +71,111 @@ listCleared s c =
 
 -- a commit answered as an enquiry is, without a ticket
 abbrev pub ticketNotSaid : Gives
-ticketNotSaid = withCommits (λ s line p d rate shown. saying (waiting shown rate) (committing s line p d rate shown))
+ticketNotSaid = withCommits (λ s f line p d rate shown. saying (waiting shown rate) (committing s f line p d rate shown))
+
+-- a site looks for 360 places in all, and not for each feeder
+abbrev pub placesOnce : Gives
+placesOnce s (move target list) =
+    answering
+    (firstOf ((ltb 1000000 target, 8) ∷ (ltb (length list) 360, 9) ∷ (ltb target (s .clock), 12) ∷ []))
+    s list (moving s target list)
+placesOnce s (preview f line p d rate) = step s (preview f line p d rate)
+placesOnce s (commit f line p d rate shown) = step s (commit f line p d rate shown)
+placesOnce s (offer f ss) = step s (offer f ss)
+placesOnce s (replanLatest f) = step s (replanLatest f)
+placesOnce s (replanLines f allowance) = step s (replanLines f allowance)
+placesOnce s (enquire ticket) = step s (enquire ticket)
+placesOnce s (board asked list) = step s (board asked list)
+placesOnce s (withdraw ticket) = step s (withdraw ticket)
 
 -- Openings
 
--- by these conditions, with r beside a refusal, the D answered and the station opened
-abbrev openedWith : List (Bool × ℕ) → ℕ → ℕ → State → Result
-openedWith rows r d s = answering (firstOf rows) (fresh (settings 1 100 r)) [] (record { answer = opened d; state = s; list = [] })
+-- what is asked for each feeder, changed
+abbrev settingBy : (Settings → Settings) → Asked → Asked
+settingBy h a = record { count = a .count; site = a .site; settings = map h (a .settings) }
 
-abbrev openedBy : List (Bool × ℕ) → ℕ → State → Result
-openedBy rows d s = openedWith rows 0 d s
+-- the bounds of a site
+abbrev boundsOf : State → List ℕ
+boundsOf s = map (λ g. g .bound) (s .feeders)
+
+-- by these conditions, with r beside a refusal, what is answered and the site opened
+abbrev openedWith : List (Bool × ℕ) → ℕ → List ℕ → State → Result
+openedWith rows r ds s = answering (firstOf rows) (fresh (oneFeeder 1 100 r)) [] (record { answer = opened ds; state = s; list = [] })
+
+abbrev openedBy : List (Bool × ℕ) → State → Result
+openedBy rows s = openedWith rows 0 (boundsOf s) s
 
 -- a D of 0 is accepted
-abbrev pub zeroBound : Settings → Result
-zeroBound x = openedBy (unnumbered 3 (openRefusals x)) (fresh x .bound) (fresh x)
+abbrev pub zeroBound : Asked → Result
+zeroBound a = openedBy (unnumbered 3 (openRefusals a)) (fresh a)
 
 -- c × N below 100 is refused, where D may be 1
-abbrev pub smallProductRefused : Settings → Result
-smallProductRefused x = openedBy ((ltb (x .percent * x .limit) 100, 3) ∷ openRefusals x) (fresh x .bound) (fresh x)
+abbrev pub smallProductRefused : Asked → Result
+smallProductRefused a = openedBy ((some (λ x. ltb (x .percent * x .limit) 100) (settingsRead a), 3) ∷ openRefusals a) (fresh a)
 
 -- beside a refused opening stands what was asked for
-abbrev pub openedAsAsked : Settings → Result
-openedAsAsked x = leaving (fresh x) (opening x)
+abbrev pub openedAsAsked : Asked → Result
+openedAsAsked a = leaving (fresh a) (opening a)
 
 -- an opening that writes a list
-abbrev pub openingWrites : Settings → Result
-openingWrites x = writing (0 ∷ []) (opening x)
+abbrev pub openingWrites : Asked → Result
+openingWrites a = writing (0 ∷ []) (opening a)
 
 -- N said for D
-abbrev pub limitSaid : Settings → Result
-limitSaid x = openedBy (openRefusals x) (x .limit) (fresh x)
+abbrev pub limitSaid : Asked → Result
+limitSaid a = openedWith (openRefusals a) 0 (map (λ x. x .limit) (settingsRead a)) (fresh a)
 
 -- the percentage is not kept
-abbrev pub percentLost : Settings → Result
-percentLost x = openedBy (openRefusals x) (fresh x .bound) (fresh (settings (x .limit) 100 (x .tail)))
+abbrev pub percentLost : Asked → Result
+percentLost a =
+    openedWith (openRefusals a) 0 (boundsOf (fresh a)) (fresh (settingBy (λ x. settings (x .limit) 100 (x .tail)) a))
 
 -- c × N / 100 rounded down
-abbrev pub roundedDown : Settings → Result
-roundedDown x =
-    let d : ℕ = x .percent * x .limit / 100 in
-    openedBy (openRefusals x) d (bounding d (fresh x))
+abbrev pub roundedDown : Asked → Result
+roundedDown a = openedBy (openRefusals a) (bounding (λ g. g .percent * g .limit / 100) (fresh a))
 
 -- any r is accepted
-abbrev pub longTailOpened : Settings → Result
-longTailOpened x = openedBy (unnumbered 19 (openRefusals x)) (fresh x .bound) (fresh x)
+abbrev pub longTailOpened : Asked → Result
+longTailOpened a = openedBy (unnumbered 19 (openRefusals a)) (fresh a)
 
 -- r is looked at before D
-abbrev pub tailLookedAtFirst : Settings → Result
-tailLookedAtFirst x = openedBy ((ltb 5 (x .tail), 19) ∷ openRefusals x) (fresh x .bound) (fresh x)
+abbrev pub tailLookedAtFirst : Asked → Result
+tailLookedAtFirst a = openedBy ((some (λ x. ltb 5 (x .tail)) (settingsRead a), 19) ∷ openRefusals a) (fresh a)
 
 -- r of the refused opening is kept
-abbrev pub refusedTailKept : Settings → Result
-refusedTailKept x = openedWith (openRefusals x) (x .tail) (fresh x .bound) (fresh x)
+abbrev pub refusedTailKept : Asked → Result
+refusedTailKept a =
+    openedWith (openRefusals a) (getD (map (λ x. x .tail) (settingsRead a)) 0 0) (boundsOf (fresh a)) (fresh a)
 
 -- r is not kept
-abbrev pub tailLost : Settings → Result
-tailLost x = openedBy (openRefusals x) (fresh x .bound) (fresh (settings (x .limit) (x .percent) 0))
+abbrev pub tailLost : Asked → Result
+tailLost a = openedBy (openRefusals a) (fresh (settingBy (λ x. settings (x .limit) (x .percent) 0) a))
+
+-- five feeders are opened
+abbrev pub fiveOpened : Asked → Result
+fiveOpened a = openedBy (unnumbered 27 (openRefusals a)) (fresh a)
+
+-- the first feeder is looked at whole before the second: its 3 before 1 of the second
+abbrev pub feederByFeeder : Asked → Result
+feederByFeeder a =
+    openedBy
+    (openRefusals (record { count = 1; site = a .site; settings = a .settings }) ++ openRefusals a)
+    (fresh a)
+
+-- any W is accepted
+abbrev pub anySite : Asked → Result
+anySite a = openedBy (unnumbered 28 (openRefusals a)) (fresh a)
+
+-- all settings given are opened, past the count too
+abbrev pub allOpened : Asked → Result
+allOpened a =
+    let s : State = record { feeders = map freshFeeder (a .settings); site = a .site; clock = 0; next = 1 } in
+    openedBy (openRefusals a) s
+
+-- W of the refused opening is kept
+abbrev pub refusedSiteKept : Asked → Result
+refusedSiteKept a =
+    answering (firstOf (openRefusals a))
+    (fresh (record { count = 1; site = a .site; settings = settings 1 100 0 ∷ [] }))
+    []
+    (record { answer = opened (boundsOf (fresh a)); state = fresh a; list = [] })

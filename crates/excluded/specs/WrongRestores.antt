@@ -3,9 +3,10 @@
 use Prim.Native.Nat.{suc}
 use lib.ListN.{length}
 use Rattle.rules.specs.Charge.{waitingCharges}
-use Rattle.rules.specs.Calls.{State, holding, step}
+use Rattle.rules.specs.Site.{State, siteCharges, withCharges}
+use Rattle.rules.specs.Calls.{step}
 use Rattle.guarantee.specs.Past.{Gives}
-use Rattle.excluded.specs.Parts.{ticketing}
+use Rattle.excluded.specs.Parts.{ticketing, clocking, feedersBy}
 
 -- `reads` is what a restore gives for the image of a station
 abbrev restoredBy : (State → State) → Gives
@@ -13,12 +14,12 @@ restoredBy reads s c = step (reads s) c
 
 -- the charges that have begun are forgotten
 abbrev pub begunForgotten : Gives
-begunForgotten = restoredBy (λ s. holding s (s .clock) (waitingCharges (s .clock) (s .charges)))
+begunForgotten = restoredBy (λ s. feedersBy (λ g. withCharges g (waitingCharges (s .clock) (g .charges))) s)
 
 -- the next ticket is told by how many are held, so that tickets are given again
 abbrev pub ticketsGivenAgain : Gives
-ticketsGivenAgain = restoredBy (λ s. ticketing (suc (length (s .charges))) s)
+ticketsGivenAgain = restoredBy (λ s. ticketing (suc (length (siteCharges s))) s)
 
 -- the clock begins at 0 again
 abbrev pub clockLost : Gives
-clockLost = restoredBy (λ s. holding s 0 (s .charges))
+clockLost = restoredBy (λ s. clocking 0 s)

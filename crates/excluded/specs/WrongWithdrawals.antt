@@ -5,7 +5,8 @@ use mathlib.Core.List.{[], _++_}
 use lib.Dec.{leb, eqb}
 use Rattle.rules.specs.Basics.{keep, some}
 use Rattle.rules.specs.Charge.{starting, isBegun, hasTicket}
-use Rattle.rules.specs.Calls.{State, refused, Result, refusals, withdrawing}
+use Rattle.rules.specs.Site.{State, siteCharges}
+use Rattle.rules.specs.Calls.{refused, Result, refusals, withdrawing}
 use Rattle.guarantee.specs.Past.{Gives}
 use Rattle.excluded.specs.Parts.{withRefusals, withWithdrawals, unnumbered, leaving, ticketing, chargesBy}
 
@@ -28,7 +29,7 @@ abbrev pub startAtClockRefused : Gives
 startAtClockRefused =
     withWithdrawals
     (λ s ticket.
-    cond (some (λ c. hasTicket ticket c && leb (c .start) (s .clock)) (s .charges))
+    cond (some (λ c. hasTicket ticket c && leb (c .start) (s .clock)) (siteCharges s))
     (record { answer = refused 25; state = s; list = [] })
     (withdrawing s ticket))
 

@@ -9,15 +9,18 @@ use lib.ListN.{length, getD}
 use borrow.Author.Tests.{leb-true, leb-false, le-leb, lt-leb}
 use Rattle.rules.specs.Basics.{keep, some, Each, firstOf}
 use Rattle.rules.specs.Charge.{Charge, isBegun}
-use Rattle.rules.specs.Calls.{State, limitsOf, answering, board, enquire, refusals, told, written, startOrNotHeld, isLookedAt, boarding, step}
-use Rattle.rules.specs.Valid.{ValidCharge, ValidState}
+use Rattle.rules.specs.Site.{State, chargesOn, siteCharges}
+use Rattle.rules.specs.Calls.{answering, board, enquire, refusals, told, written, startOrNotHeld, isLookedAt, boarding, step}
+use Rattle.rules.specs.Valid.{ValidState}
 use Rattle.rules.proofs.Ranges.{same-test}
-use Rattle.rules.proofs.Lists.{each-map}
 use Rattle.rules.proofs.Tables.{none-firstOf}
 use Rattle.rules.proofs.OnTheBoard.{place-shown}
+use Rattle.rules.proofs.Sites.{by-place}
+use Rattle.rules.proofs.Distinct.{each-joined}
 use Rattle.guarantee.specs.DemandOne.{NoneApplies}
 use Rattle.guarantee.specs.DemandTwo.{shownBy, highest, BoardShown}
-use Rattle.guarantee.proofs.Tickets.{enquiry-told}
+use Rattle.guarantee.proofs.Each.{each-in}
+use Rattle.guarantee.proofs.Enquiries.{enquiry-told}
 
 -- The places
 
@@ -76,27 +79,28 @@ pub place-enquired :
 place-enquired s asked list i q h =
     rw (none-firstOf (refusals s (board asked list)) q)
     (place-shown s asked list i h
-    ∙ told-shows (s .clock) (getD asked i 0) (s .charges)
+    ∙ told-shows (s .clock) (getD asked i 0) (siteCharges s)
     ∙ sym (ap shownBy (enquiry-told s (getD asked i 0))))
 
 pub board-shown : (s : State) (asked list : List ℕ) → ValidState s → BoardShown step s asked list (step s (board asked list))
 unfolding boarding
 board-shown s asked list v =
     record {
-      answer = λ q. rw (none-firstOf (refusals s (board asked list)) q, looked-highest asked (s .charges) tickets);
+      answer = λ q. rw (none-firstOf (refusals s (board asked list)) q, looked-highest asked (siteCharges s) tickets);
       shown =
           λ q.
           rw (none-firstOf (refusals s (board asked list)) q)
           (ap (λ xs. written xs list)
-          (map-same (startOrNotHeld (s .charges)) (λ t. shownBy (step s (enquire t) .answer))
-          (λ t. told-shows (s .clock) t (s .charges) ∙ sym (ap shownBy (enquiry-told s t))) asked));
+          (map-same (startOrNotHeld (siteCharges s)) (λ t. shownBy (step s (enquire t) .answer))
+          (λ t. told-shows (s .clock) t (siteCharges s) ∙ sym (ap shownBy (enquiry-told s t))) asked));
       same-station = stays (firstOf (refusals s (board asked list)));
     }
   where
-    tickets : Each (λ c. 1 ≤ c .ticket) (s .charges)
+    tickets : Each (λ c. 1 ≤ c .ticket) (siteCharges s)
     tickets =
-        each-map (ValidCharge (limitsOf s) (s .tail) (s .clock) (s .next)) (λ c. 1 ≤ c .ticket) (λ c h. h .ticket-low) (s .charges)
-        (v .each)
+        each-joined (λ c. 1 ≤ c .ticket) (s .feeders)
+        (by-place s (λ g. Each (λ c. 1 ≤ c .ticket) (g .charges))
+        (λ f h. each-in (λ c w. w .ticket-low) (chargesOn s f) (v .plan f h .each)))
 
     stays : (i : ℕ) → answering i s list (boarding s asked list) .state ≡ s
     stays zero = refl

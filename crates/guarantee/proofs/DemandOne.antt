@@ -3,14 +3,15 @@ use mathlib.Core.Logic.{inl, inr}
 use mathlib.Core.Path.{_≡_, refl, sym, ap, subst, _∙_}
 use Prim.Native.Nat.{ℕ, zero, suc}
 use mathlib.Core.Bool.{Bool, true, false, _||_, true≢false}
-use mathlib.Core.List.{List, [], _∷_}
+use mathlib.Core.List.{List, [], _∷_, map}
 use native.Mathlib.Omega.{arith}
 use lib.Dec.{eqb}
 use Rattle.rules.specs.Basics.{some, firstOf}
 use Rattle.rules.specs.Charge.{Charge, endOf, isBegun, hasTicket}
 use Rattle.rules.specs.Replan.{Proposal, starts, none, latest, Replanned, byLines}
 use Rattle.rules.specs.Judgement.{judged}
-use Rattle.rules.specs.Calls.{Settings, settings, State, limitsOf, Answer, refused, opened, planned, Result, answering, fresh, openRefusals, opening, Call, preview, commit, move, offer, replanLatest, replanLines, enquire, board, withdraw, lent, refusals, previewing, committing, moving, decided, tested, offering, replanningLatest, replanningLines, told, enquiring, boarding, withdrawing, granted, step}
+use Rattle.rules.specs.Site.{State, chargesOn, siteCharges, limitsOf}
+use Rattle.rules.specs.Calls.{Asked, Answer, refused, opened, planned, Result, answering, fresh, least, openRefusals, opening, Call, preview, commit, move, offer, replanLatest, replanLines, enquire, board, withdraw, lent, refusals, previewing, committing, moving, decided, tested, offering, replanningLatest, replanningLines, told, enquiring, boarding, withdrawing, granted, step}
 use Rattle.rules.specs.Valid.{ValidState}
 use Rattle.rules.proofs.Tables.{Numbered, firstOf-none, none-firstOf}
 use Rattle.rules.proofs.Granted.{refusals-numbered, openRefusals-numbered, order-granted, enquire-granted}
@@ -61,12 +62,12 @@ refused-by rows kept list r numbered plain = go (firstOf rows) refl
 
 -- an answer of a call's own kind is no refusal
 pub answer-not-refused : (c : Call) (a : Answer) → AnswerTo c a → isRefused a ≡ false
-answer-not-refused (preview line p d rate) a (s, e) = rw e
-answer-not-refused (commit line p d rate shown) a (t, e) = rw e
+answer-not-refused (preview f line p d rate) a (s, e) = rw e
+answer-not-refused (commit f line p d rate shown) a (t, e) = rw e
 answer-not-refused (move target list) a (n, m, e) = rw e
-answer-not-refused (offer ss) a (i, b, c, n, e) = rw e
-answer-not-refused replanLatest a (i, b, c, n, e) = rw e
-answer-not-refused (replanLines allowance) a (i, b, c, n, e) = rw e
+answer-not-refused (offer f ss) a (i, b, c, n, e) = rw e
+answer-not-refused (replanLatest f) a (i, b, c, n, e) = rw e
+answer-not-refused (replanLines f allowance) a (i, b, c, n, e) = rw e
 answer-not-refused (enquire ticket) a (inl (s, w, e)) = rw e
 answer-not-refused (enquire ticket) a (inr (s, u, w, e)) = rw e
 answer-not-refused (board asked list) a (n, e) = rw e
@@ -77,14 +78,14 @@ abbrev Planned : Answer → Type 0
 Planned a = (i : ℕ) × (b : ℕ) × (c : ℕ) × (n : ℕ) × (a ≡ planned i b c n)
 
 decided-planned :
-    (s : State) (rounds : ℕ) (ss list : List ℕ) (j : ℕ) → Planned (decided s rounds ss list j .answer)
-decided-planned s rounds ss list zero = (_, _, _, _, refl)
-decided-planned s rounds ss list (suc j) = (_, _, _, _, refl)
+    (s : State) (f rounds : ℕ) (ss list : List ℕ) (j : ℕ) → Planned (decided s f rounds ss list j .answer)
+decided-planned s f rounds ss list zero = (_, _, _, _, refl)
+decided-planned s f rounds ss list (suc j) = (_, _, _, _, refl)
 
-tested-planned : (s : State) (rounds : ℕ) (p : Proposal) (list : List ℕ) → Planned (tested s rounds p list .answer)
-tested-planned s rounds (starts ss) list =
-    decided-planned s rounds ss list (judged (limitsOf s) (s .clock) (s .charges) ss)
-tested-planned s rounds (none cause) list = (_, _, _, _, refl)
+tested-planned : (s : State) (f rounds : ℕ) (p : Proposal) (list : List ℕ) → Planned (tested s f rounds p list .answer)
+tested-planned s f rounds (starts ss) list =
+    decided-planned s f rounds ss list (judged (limitsOf s f) (s .clock) (chargesOn s f) ss)
+tested-planned s f rounds (none cause) list = (_, _, _, _, refl)
 
 -- a held charge is told of
 told-held :
@@ -108,17 +109,18 @@ told-held k t (c ∷ cs) e = go (eqb (c .ticket) t) refl (isBegun k c) refl e (t
 
 granted-answer : (s : State) (c : Call) → ValidState s → NoneApplies (refusals s c) → AnswerTo c (granted s c .answer)
 unfolding previewing committing moving offering replanningLatest replanningLines enquiring boarding withdrawing
-granted-answer s (preview line p d rate) v q =
-    let f = order-found s line p d rate v (order-granted s line p d rate q) in (f .0, rw (f .1))
-granted-answer s (commit line p d rate shown) v q = (s .next, refl)
+granted-answer s (preview f line p d rate) v q =
+    let found = order-found s f line p d rate v (order-granted s f line p d rate q) in (found .0, rw (found .1))
+granted-answer s (commit f line p d rate shown) v q = (s .next, refl)
 granted-answer s (move target list) v q = (_, _, refl)
-granted-answer s (offer ss) v q = tested-planned s 0 (starts ss) ss
-granted-answer s replanLatest v q = tested-planned s 0 (latest (limitsOf s) (s .clock) (s .charges)) []
-granted-answer s (replanLines allowance) v q =
-    let r : Replanned = byLines (limitsOf s) (s .clock) allowance (s .charges) in
-    tested-planned s (r .rounds) (r .proposal) []
+granted-answer s (offer f ss) v q = tested-planned s f 0 (starts ss) ss
+granted-answer s (replanLatest f) v q =
+    tested-planned s f 0 (latest (limitsOf s f) (s .clock) (chargesOn s f)) []
+granted-answer s (replanLines f allowance) v q =
+    let r : Replanned = byLines (limitsOf s f) (s .clock) allowance (chargesOn s f) in
+    tested-planned s f (r .rounds) (r .proposal) []
 granted-answer s (enquire ticket) v q =
-    told-held (s .clock) ticket (s .charges) (enquire-granted s ticket q)
+    told-held (s .clock) ticket (siteCharges s) (enquire-granted s ticket q)
 granted-answer s (board asked list) v q = (_, refl)
 granted-answer s (withdraw ticket) v q = refl
 
@@ -142,20 +144,20 @@ pub after-valid : (calls : List Call) (h : Past) → ValidState (h .station) →
 after-valid [] h v = v
 after-valid (x ∷ calls) h v = after-valid calls (extended h x (step (h .station) x)) (step-valid (h .station) x v)
 
-pub reached-valid : (x : Settings) (calls : List Call) → ValidState (reached x calls)
-reached-valid x calls = after-valid calls (beginning (opening x .state)) (opening-valid x)
+pub reached-valid : (a : Asked) (calls : List Call) → ValidState (reached a calls)
+reached-valid a calls = after-valid calls (beginning (opening a .state)) (opening-valid a)
 
-pub demand-one : (x : Settings) (calls : List Call) (call : Call) → DemandOne step (reached x calls) call
-demand-one x calls call = valid-demand-one (reached x calls) (reached-valid x calls) call
+pub demand-one : (a : Asked) (calls : List Call) (call : Call) → DemandOne step (reached a calls) call
+demand-one a calls call = valid-demand-one (reached a calls) (reached-valid a calls) call
 
-pub demand-one-opening : (x : Settings) → DemandOneOpening opening x
+pub demand-one-opening : (a : Asked) → DemandOneOpening opening a
 unfolding opening
-demand-one-opening x =
+demand-one-opening a =
     record {
       refused-by =
-          refused-by (openRefusals x) (fresh (settings 1 100 0)) []
-          (record { answer = opened (fresh x .bound); state = fresh x; list = [] })
-          (openRefusals-numbered x)
+          refused-by (openRefusals a) (fresh least) []
+          (record { answer = opened (map (λ g. g .bound) (fresh a .feeders)); state = fresh a; list = [] })
+          (openRefusals-numbered a)
           (λ q. refl);
-      answered = λ q. rw (none-firstOf (openRefusals x) q) (refl, refl);
+      answered = λ q. rw (none-firstOf (openRefusals a) q) (refl, refl);
     }

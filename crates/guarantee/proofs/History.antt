@@ -1,128 +1,79 @@
--- The history: all accepted orders as charges with their present starts, the dropped ones too. What the calls do to it.
-use mathlib.Core.Path.{_≡_, refl}
-use Prim.Native.Nat.{ℕ, _+_, _≤_, _<_}
-use mathlib.Core.Bool.{Bool, true, false, cond, not}
-use mathlib.Core.List.{List, [], _∷_}
+-- The history: all accepted orders as charges with their present starts, the dropped ones too, each with the feeder that it names.
+use mathlib.Core.Path.{_≡_}
+use Prim.Native.Nat.{ℕ, _+_, _≤_}
+use mathlib.Core.Bool.{Bool}
+use mathlib.Core.List.{List, _++_, map}
 use native.Mathlib.Omega.{arith}
-use borrow.Author.Tests.{ltb-false, leb-true, leb-false, lt-leb}
+use lib.Dec.{eqb}
 use Rattle.rules.specs.Basics.{Each, keep}
-use Rattle.rules.specs.Load.{count, lastUntil}
-use Rattle.rules.specs.Charge.{Charge, starting, endOf, activeUntil, loadOf, loadsOf, isBegun, isFinished, unfinishedCharges, lastEnd}
-use Rattle.rules.specs.Judgement.{restarted}
-use Rattle.rules.proofs.Lists.{each-map, each-keep}
-use Rattle.rules.proofs.Counts.{draws-before}
-use Rattle.rules.proofs.Ends.{lastEnd-each}
-use Rattle.rules.proofs.Restarts.{Restarted, empty, same, other}
-use Rattle.guarantee.specs.Past.{ordersOf}
+use Rattle.rules.specs.Load.{IsLine}
+use Rattle.rules.specs.Charge.{Charge, isBegun}
+use Rattle.rules.specs.Site.{State, feederOf}
+use Rattle.rules.specs.Valid.{IsFeeder}
+use Rattle.rules.proofs.Lists.{map-append, keep-append, keep-each}
+use Rattle.guarantee.specs.Past.{Order, orderOf}
+use Rattle.guarantee.proofs.Each.{each-in, each-image}
 
--- what holds of each charge of the history at clock k; r is that of the station
-pub record Fit (r k : ℕ) (c : Charge) : Type 0 where
-  pub lasts : 1 ≤ c .time
-  pub active : c .activeTime ≡ c .time + r
-  pub known : c .orderMinute ≤ k
-  pub not-early : c .orderMinute ≤ c .start
+pub record Booked : Type 0 where
+  pub feeder : ℕ
+  pub charge : Charge
 
--- Unfinished charges
+abbrev pub booked : ℕ → Charge → Booked
+booked f c = record { feeder = f; charge = c }
 
--- what is unfinished at a later clock
-pub unfinished-later :
-    (k m : ℕ) (cs : List Charge) → k ≤ m → unfinishedCharges m (unfinishedCharges k cs) ≡ unfinishedCharges m cs
-unfinished-later k m [] h = refl
-unfinished-later k m (c ∷ cs) h = go (isFinished k c) (isFinished m c) refl refl (unfinished-later k m cs h)
-  where
-    go :
-        (a b : Bool)
-        → isFinished k c ≡ a
-        → isFinished m c ≡ b
-        → unfinishedCharges m (unfinishedCharges k cs) ≡ unfinishedCharges m cs
-        → unfinishedCharges m (unfinishedCharges k (c ∷ cs)) ≡ unfinishedCharges m (c ∷ cs)
-    go true true p q ih = rw (p, q, ih)
-    go true false p q ih =
-        let i : activeUntil c ≤ k = leb-true (activeUntil c) k p in
-        let j : m < activeUntil c = leb-false (activeUntil c) m q in
-        absurd (omega arith)
-    go false true p q ih = rw (p, q, ih)
-    go false false p q ih = rw (p, q, ih)
+abbrev pub orderIn : Booked → Order
+orderIn b = orderOf (b .feeder) (b .charge)
 
-pub lastEnd-keep :
-    (f : Charge → Bool) (b : ℕ) (cs : List Charge) → Each (λ c. endOf c ≤ b) cs → lastEnd (keep f cs) ≤ b
-lastEnd-keep f b cs e =
-    lastEnd-each b (keep f cs)
-    (each-map (λ c. (endOf c ≤ b) × (f c ≡ true)) (λ c. endOf c ≤ b) (λ c p. p .0) (keep f cs)
-    (each-keep (λ c. endOf c ≤ b) f cs e))
+abbrev pub ordersIn : List Booked → List Order
+ordersIn bs = map orderIn bs
 
--- the last end of the unfinished charges bounds the end of each
-pub unfinished-lastEnd :
-    (k b : ℕ) (cs : List Charge) → lastEnd (unfinishedCharges k cs) ≤ b → Each (λ c. k < activeUntil c → endOf c ≤ b) cs
-unfinished-lastEnd k b [] h = tt
-unfinished-lastEnd k b (c ∷ cs) h = go (isFinished k c) refl h (unfinished-lastEnd k b cs)
-  where
-    go :
-        (x : Bool)
-        → isFinished k c ≡ x
-        → lastEnd (cond (not x) (c ∷ unfinishedCharges k cs) (unfinishedCharges k cs)) ≤ b
-        → (lastEnd (unfinishedCharges k cs) ≤ b → Each (λ c. k < activeUntil c → endOf c ≤ b) cs)
-        → (k < activeUntil c → endOf c ≤ b) × Each (λ c. k < activeUntil c → endOf c ≤ b) cs
-    go true p u ih = let q : activeUntil c ≤ k = leb-true (activeUntil c) k p in ((λ j. absurd (omega arith)), ih u)
-    go false p u ih = ((λ j. omega arith), ih (omega arith))
+abbrev pub chargesIn : List Booked → List Charge
+chargesIn bs = map (λ b. b .charge) bs
 
-pub each-until : (b : ℕ) (cs : List Charge) → lastUntil (loadsOf cs) ≤ b → Each (λ c. activeUntil c ≤ b) cs
-each-until b [] h = tt
-each-until b (c ∷ cs) h = (omega arith, each-until b cs (omega arith))
+abbrev pub isOn : ℕ → Booked → Bool
+isOn f b = eqb (b .feeder) f
 
--- New starts for waiting charges
+-- the charges of feeder f
+abbrev pub bookedOn : ℕ → List Booked → List Charge
+bookedOn f bs = chargesIn (keep (isOn f) bs)
 
-restarted-nothing : (k : ℕ) (cs : List Charge) → restarted k cs [] ≡ cs
-restarted-nothing k [] = refl
-restarted-nothing k (c ∷ cs) = refl
+abbrev pub begunIn : ℕ → List Booked → List Booked
+begunIn k bs = keep (λ b. isBegun k (b .charge)) bs
 
-pub restarted-orders : {k : ℕ} {cs ds : List Charge} → Restarted k cs ds → ordersOf ds ≡ ordersOf cs
-restarted-orders empty = refl
-restarted-orders (same r) = rw (restarted-orders r)
-restarted-orders (other h j r) = rw (restarted-orders r)
+-- what holds of each at clock k; s is the site that the list of calls began with
+pub record Fit (s : State) (k : ℕ) (b : Booked) : Type 0 where
+  pub is-feeder : IsFeeder s (b .feeder)
+  pub line : IsLine (b .charge .line)
+  pub lasts : 1 ≤ b .charge .time
+  pub active : b .charge .activeTime ≡ b .charge .time + feederOf s (b .feeder) .tail
+  pub known : b .charge .orderMinute ≤ k
+  pub not-early : b .charge .orderMinute ≤ b .charge .start
 
--- minutes gone are not touched
-pub restarted-count :
-    {k : ℕ} {cs ds : List Charge}
-    → Restarted k cs ds
-    → (l t : ℕ)
-    → t < k
-    → count (loadsOf ds) l t ≡ count (loadsOf cs) l t
-restarted-count empty l t h = refl
-restarted-count (same r) l t h = rw (restarted-count r l t h)
-restarted-count (other {c = c} {s = s} i j r) l t h =
-    rw (
-      restarted-count r l t h,
-      draws-before (loadOf c) l t (omega arith),
-      draws-before (loadOf (starting c s)) l t (omega arith),
-    )
+-- it draws in some minute
+abbrev pub Lasts : Charge → Type 0
+Lasts c = 1 ≤ c .activeTime
 
--- new starts for the held charges are new starts for the history
-pub restarted-unfinished :
-    (r k : ℕ) (cs : List Charge) (ss : List ℕ)
-    → Each (Fit r k) cs
-    → Each (λ s. k ≤ s) ss
-    → restarted k (unfinishedCharges k cs) ss ≡ unfinishedCharges k (restarted k cs ss)
-restarted-unfinished r k [] ss f e = refl
-restarted-unfinished r k (c ∷ cs) [] f e = restarted-nothing k (unfinishedCharges k (c ∷ cs))
-restarted-unfinished r k (c ∷ cs) (s ∷ ss) f e =
-    go (isFinished k c) (isBegun k c) refl refl
-    (restarted-unfinished r k cs (s ∷ ss) (f .1) e)
-    (restarted-unfinished r k cs ss (f .1) (e .1))
-  where
-    go :
-        (b d : Bool)
-        → isFinished k c ≡ b
-        → isBegun k c ≡ d
-        → restarted k (unfinishedCharges k cs) (s ∷ ss) ≡ unfinishedCharges k (restarted k cs (s ∷ ss))
-        → restarted k (unfinishedCharges k cs) ss ≡ unfinishedCharges k (restarted k cs ss)
-        → restarted k (unfinishedCharges k (c ∷ cs)) (s ∷ ss) ≡ unfinishedCharges k (restarted k (c ∷ cs) (s ∷ ss))
-    go true true p q u v = rw (p, q, p, u)
-    go true false p q u v =
-        let j : activeUntil c ≤ k = leb-true (activeUntil c) k p in
-        let i : k ≤ c .start = ltb-false (c .start) k q in
-        absurd (omega (arith, f .0 .lasts, f .0 .active))
-    go false true p q u v = rw (p, q, p, u)
-    go false false p q u v =
-        let j : k ≤ s = e .0 in
-        rw (p, q, lt-leb (s + c .activeTime) k (omega (arith, f .0 .lasts, f .0 .active)), v)
+-- Charges of the history
+
+pub charges-each :
+    {P : Booked → Type 0} (Q : Charge → Type 0)
+    → ((b : Booked) → P b → Q (b .charge))
+    → (bs : List Booked)
+    → Each P bs
+    → Each Q (chargesIn bs)
+charges-each Q g bs e = each-image Q (λ (b : Booked). b .charge) bs (each-in g bs e)
+
+pub on-each :
+    {P : Booked → Type 0} (Q : Charge → Type 0)
+    → ((b : Booked) → P b → Q (b .charge))
+    → (f : ℕ) (bs : List Booked)
+    → Each P bs
+    → Each Q (bookedOn f bs)
+on-each {P = P} Q g f bs e = charges-each Q g (keep (isOn f) bs) (keep-each P (isOn f) bs e)
+
+pub fit-lasts : (s : State) (k : ℕ) (b : Booked) → Fit s k b → Lasts (b .charge)
+fit-lasts s k b f = omega (arith, f .lasts, f .active)
+
+pub on-append : (f : ℕ) (bs ds : List Booked) → bookedOn f (bs ++ ds) ≡ bookedOn f bs ++ bookedOn f ds
+on-append f bs ds =
+    rw (keep-append (isOn f) bs ds, map-append (λ (b : Booked). b .charge) (keep (isOn f) bs) (keep (isOn f) ds))

@@ -7,11 +7,11 @@ use native.Mathlib.Omega.{arith}
 use lib.ListN.{length}
 use borrow.Author.Tests.{le-ltb}
 use Rattle.rules.specs.Basics.{Each, Found, at, nothing}
-use Rattle.rules.specs.Load.{Limits, counts}
+use Rattle.rules.specs.Load.{Load, Limits, counts}
 use Rattle.rules.specs.Charge.{Charge, starting, loadsOf, isBegun, begunCharges, waitingCharges}
 use Rattle.rules.specs.Search.{Caps, firstUnbalanced}
 use Rattle.rules.specs.Priority.{fitsAt}
-use Rattle.rules.specs.Replan.{Proposal, starts, none, Placed, all, stuck, placeAll, proposed, soundStart, byLatestStart, latest, placeLines, largestLine, smallestLine, lowered, placedActive, Outcome, ends, lowers, unbalancedIn, afterRound, round, goOn, roundsFrom, byLines}
+use Rattle.rules.specs.Replan.{Proposal, starts, none, Placed, all, stuck, placeAll, proposed, soundStart, standing, byLatestStart, latest, placeLines, largestLine, smallestLine, lowered, placedActive, Outcome, ends, lowers, unbalancedIn, afterRound, round, goOn, roundsFrom, byLines}
 use Rattle.rules.specs.Judgement.{restarted}
 use Rattle.rules.proofs.Restarts.{Restarted, empty, same, other}
 
@@ -35,19 +35,19 @@ pub latest-proper :
 unfolding latest
 latest-proper y k held =
     proposed-proper (waitingCharges k held)
-    (placeAll (soundStart y k (begunCharges k held)) [] (byLatestStart (waitingCharges k held)))
+    (placeAll (soundStart y k (standing y k held)) [] (byLatestStart (waitingCharges k held)))
 
 abbrev ProperOutcome : ℕ → Outcome → Type 0
 ProperOutcome n (ends p) = Proper n p
 ProperOutcome n (lowers i t v) = Unit {0}
 
 unbalanced-proper :
-    (n : ℕ) (y : Limits) (begun placed : List Charge) (t : ℕ) → ProperOutcome n (unbalancedIn y begun placed t)
-unbalanced-proper n y begun placed t =
+    (n : ℕ) (y : Limits) (base : List Load) (placed : List Charge) (t : ℕ) → ProperOutcome n (unbalancedIn y base placed t)
+unbalanced-proper n y base placed t =
     go (placedActive placed (largestLine f) t) (largestLine f) (f (smallestLine f) + y .bound)
   where
     f : ℕ → ℕ
-    f = counts (loadsOf (begun ++ placed)) t
+    f = counts (base ++ loadsOf placed) t
 
     go : (b : Bool) (i v : ℕ) → ProperOutcome n (cond b (lowers i t v) (ends (none 1)))
     go true i v = tt
@@ -57,15 +57,15 @@ afterRound-proper :
     (y : Limits) (k : ℕ) (held : List Charge) (p : Placed)
     → ProperOutcome (length (waitingCharges k held)) (afterRound y k held p)
 afterRound-proper y k held stuck = omega arith
-afterRound-proper y k held (all placed) = go (firstUnbalanced y k (loadsOf (begunCharges k held ++ placed))) refl
+afterRound-proper y k held (all placed) = go (firstUnbalanced y k (standing y k held ++ loadsOf placed)) refl
   where
     go :
         (f : Found)
-        → firstUnbalanced y k (loadsOf (begunCharges k held ++ placed)) ≡ f
+        → firstUnbalanced y k (standing y k held ++ loadsOf placed) ≡ f
         → ProperOutcome (length (waitingCharges k held)) (afterRound y k held (all placed))
     go nothing e = rw (e, afterRound) (length-map _ (waitingCharges k held))
     go (at t) e =
-        rw (e, afterRound) (unbalanced-proper (length (waitingCharges k held)) y (begunCharges k held) placed t)
+        rw (e, afterRound) (unbalanced-proper (length (waitingCharges k held)) y (standing y k held) placed t)
 
 roundsFrom-proper :
     (n : ℕ) (play : Caps → Outcome)
@@ -100,7 +100,7 @@ lines-proper y k allowance held =
     roundsFrom-proper (length (waitingCharges k held)) (round y k held)
     (λ cap.
     afterRound-proper y k held
-    (placeLines (fitsAt cap) k (begunCharges k held) (waitingCharges k held) 3))
+    (placeLines (fitsAt (y .site) cap) k (standing y k held) (waitingCharges k held) 3))
     (allowance - 1)
     1
     (λ l t. y .limit)

@@ -1,18 +1,18 @@
 -- What the clock moves have reported is the begun part of the history, each charge once: a sum over the reports of any number
 -- made of ticket and start is the sum over the begun charges.
-use mathlib.Core.Path.{_≡_, refl, _∙_}
+use mathlib.Core.Path.{_≡_, refl, sym, _∙_}
 use Prim.Native.Nat.{ℕ, _+_, _≤_, _<_}
 use mathlib.Core.Bool.{Bool, true, false, cond}
-use mathlib.Core.List.{List, [], _∷_, _++_}
+use mathlib.Core.List.{List, [], _∷_, _++_, map}
 use native.Mathlib.Omega.{arith}
 use lib.ListN.{length}
-use borrow.Author.Tests.{ltb-true, ltb-false, leb-true, le-ltb, le-leb, lt-leb}
-use Rattle.rules.specs.Basics.{Each, keep, insertBy, sortedBy}
-use Rattle.rules.specs.Charge.{Charge, activeUntil, isBegun, isFinished, unfinishedCharges}
+use borrow.Author.Tests.{ltb-true, ltb-false, leb-true, le-leb, lt-leb}
+use Rattle.rules.specs.Basics.{Each, keep, sortedBy}
+use Rattle.rules.specs.Charge.{Charge, activeUntil, isBegun, begunCharges, isFinished, unfinishedCharges}
 use Rattle.rules.specs.Calls.{isPassed, pairs}
-use Rattle.rules.proofs.Restarts.{Restarted, empty, same, other}
-use Rattle.guarantee.specs.Past.{Report, firstPairs}
-use Rattle.guarantee.proofs.History.{Fit}
+use Rattle.rules.proofs.Sorting.{sorted-rearranged, Inserted, here, later, Rearranged, none, more}
+use Rattle.guarantee.specs.Past.{Report, firstPairs, reportOf}
+use Rattle.guarantee.proofs.History.{Lasts}
 
 -- a number made of ticket and start
 abbrev pub Worth : Type 0
@@ -26,41 +26,58 @@ abbrev pub sumCharges : Worth → List Charge → ℕ
 sumCharges f [] = 0
 sumCharges f (c ∷ cs) = f (c .ticket) (c .start) + sumCharges f cs
 
--- over those begun at clock k
+-- over those begun at clock k, charge by charge
 abbrev pub sumBegun : Worth → ℕ → List Charge → ℕ
 sumBegun f k [] = 0
 sumBegun f k (c ∷ cs) = cond (isBegun k c) (f (c .ticket) (c .start)) 0 + sumBegun f k cs
+
+sum-kept-more :
+    (f : Worth) (p : Charge → Bool) (c : Charge) (l : List Charge)
+    → sumCharges f (keep p (c ∷ l)) ≡ cond (p c) (f (c .ticket) (c .start)) 0 + sumCharges f (keep p l)
+sum-kept-more f p c l = go (p c)
+  where
+    go :
+        (b : Bool)
+        → sumCharges f (cond b (c ∷ keep p l) (keep p l)) ≡ cond b (f (c .ticket) (c .start)) 0 + sumCharges f (keep p l)
+    go true = refl
+    go false = omega arith
+
+pub sum-begun : (f : Worth) (k : ℕ) (cs : List Charge) → sumBegun f k cs ≡ sumCharges f (begunCharges k cs)
+sum-begun f k [] = refl
+sum-begun f k (c ∷ cs) = omega (arith, sum-kept-more f (isBegun k) c cs, sum-begun f k cs)
 
 pub sumReports-append :
     (f : Worth) (xs ys : List Report) → sumReports f (xs ++ ys) ≡ sumReports f xs + sumReports f ys
 sumReports-append f [] ys = omega arith
 sumReports-append f (x ∷ xs) ys = rw (sumReports-append f xs ys) (omega arith)
 
-pub sumBegun-append :
-    (f : Worth) (k : ℕ) (xs ys : List Charge) → sumBegun f k (xs ++ ys) ≡ sumBegun f k xs + sumBegun f k ys
-sumBegun-append f k [] ys = omega arith
-sumBegun-append f k (x ∷ xs) ys = rw (sumBegun-append f k xs ys) (omega arith)
-
--- sorting keeps the sum
+-- another order of the charges changes no sum
 sum-inserted :
-    (f : Worth) (before : Charge → Charge → Bool) (c : Charge) (xs : List Charge)
-    → sumCharges f (insertBy before c xs) ≡ f (c .ticket) (c .start) + sumCharges f xs
-sum-inserted f before c [] = refl
-sum-inserted f before c (x ∷ xs) = go (before c x) (sum-inserted f before c xs)
-  where
-    go :
-        (b : Bool)
-        → sumCharges f (insertBy before c xs) ≡ f (c .ticket) (c .start) + sumCharges f xs
-        → sumCharges f (cond b (c ∷ x ∷ xs) (x ∷ insertBy before c xs))
-        ≡ f (c .ticket) (c .start) + (f (x .ticket) (x .start) + sumCharges f xs)
-    go true ih = refl
-    go false ih = rw ih (omega arith)
+    (f : Worth) (p : Charge → Bool) {c : Charge} {l m : List Charge}
+    → Inserted c l m
+    → sumCharges f (keep p m) ≡ cond (p c) (f (c .ticket) (c .start)) 0 + sumCharges f (keep p l)
+sum-inserted f p {c = c} (here {l = l}) = sum-kept-more f p c l
+sum-inserted f p (later {b = b} {l = l} {m = m} i) =
+    omega (arith, sum-kept-more f p b m, sum-kept-more f p b l, sum-inserted f p i)
 
+pub sum-kept :
+    (f : Worth) (p : Charge → Bool) {l m : List Charge}
+    → Rearranged l m
+    → sumCharges f (keep p m) ≡ sumCharges f (keep p l)
+sum-kept f p none = refl
+sum-kept f p (more {a = a} {l = l} {m = m} r i) =
+    omega (arith, sum-inserted f p i, sum-kept-more f p a l, sum-kept f p r)
+
+-- sorting is one
 pub sum-sorted :
     (f : Worth) (before : Charge → Charge → Bool) (xs : List Charge)
     → sumCharges f (sortedBy before xs) ≡ sumCharges f xs
-sum-sorted f before [] = refl
-sum-sorted f before (x ∷ xs) = sum-inserted f before x (sortedBy before xs) ∙ rw (sum-sorted f before xs)
+sum-sorted f before xs =
+    sym (all (sortedBy before xs)) ∙ sum-kept f (λ c. true) (sorted-rearranged before xs) ∙ all xs
+  where
+    all : (l : List Charge) → sumCharges f (keep (λ c. true) l) ≡ sumCharges f l
+    all [] = refl
+    all (c ∷ l) = rw (all l)
 
 -- the first places of the report list are read back
 pub sum-pairs :
@@ -71,13 +88,13 @@ sum-pairs f (x ∷ xs) rest = rw (sum-pairs f xs rest)
 
 -- a clock move reports what it passes
 pub sum-passed :
-    (f : Worth) (r k m : ℕ) (cs : List Charge)
+    (f : Worth) (k m : ℕ) (cs : List Charge)
     → k ≤ m
-    → Each (Fit r k) cs
+    → Each Lasts cs
     → sumBegun f k cs + sumCharges f (keep (isPassed k m) (unfinishedCharges k cs)) ≡ sumBegun f m cs
-sum-passed f r k m [] h e = refl
-sum-passed f r k m (c ∷ cs) h e =
-    go (isBegun k c) (isBegun m c) (isFinished k c) refl refl refl (sum-passed f r k m cs h (e .1))
+sum-passed f k m [] h e = refl
+sum-passed f k m (c ∷ cs) h e =
+    go (isBegun k c) (isBegun m c) (isFinished k c) refl refl refl (sum-passed f k m cs h (e .1))
   where
     go :
         (a b d : Bool)
@@ -100,11 +117,9 @@ sum-passed f r k m (c ∷ cs) h e =
     go false b true p q u ih =
         let i : k ≤ c .start = ltb-false (c .start) k p in
         let j : activeUntil c ≤ k = leb-true (activeUntil c) k u in
-        absurd (omega (arith, e .0 .lasts, e .0 .active))
+        absurd (omega (arith, e .0))
 
--- a taken plan changes nothing that is begun
-pub sum-restarted : (f : Worth) {k : ℕ} {cs ds : List Charge} → Restarted k cs ds → sumBegun f k ds ≡ sumBegun f k cs
-sum-restarted f empty = refl
-sum-restarted f (same r) = rw (sum-restarted f r)
-sum-restarted f {k} (other {c = c} {s = s} h j r) =
-    rw (sum-restarted f r, le-ltb (c .start) k h, le-ltb s k j)
+-- reports of charges
+pub sum-reports : (f : Worth) (cs : List Charge) → sumReports f (map reportOf cs) ≡ sumCharges f cs
+sum-reports f [] = refl
+sum-reports f (c ∷ cs) = rw (sum-reports f cs)

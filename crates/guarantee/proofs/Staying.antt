@@ -2,20 +2,24 @@
 -- charge has.
 use mathlib.Core.Path.{_≡_, refl, sym, ap, _∙_}
 use Prim.Native.Nat.{ℕ, _+_, _<_}
-use mathlib.Core.Bool.{Bool, true, false, cond, not, _||_, true≢false}
+use mathlib.Core.Bool.{Bool, true, false, cond, not, _&&_, _||_, true≢false}
 use mathlib.Core.List.{List, [], _∷_, _++_}
 use native.Mathlib.Omega.{arith}
 use lib.Dec.{eqb}
 use borrow.Author.Tests.{eqb-true, ne-eqb, not-true}
 use Rattle.rules.specs.Basics.{Each, keep, some}
-use Rattle.rules.specs.Charge.{Charge, isBegun, isFinished, unfinishedCharges, hasTicket, withoutTicket}
+use Rattle.rules.specs.Charge.{Charge, isBegun, isFinished, unfinishedCharges, hasTicket}
 use Rattle.rules.specs.Calls.{told, refused}
 use Rattle.rules.proofs.Ranges.{fails}
 use Rattle.rules.proofs.Lists.{keep-append, some-append, each-map, kept-pass, keep-each}
 use Rattle.rules.proofs.Withdrawing.{NoneHas, none-some}
-use Rattle.guarantee.specs.Past.{Order, orderOf, ordersOf, isWithdrawn, staying}
+use Rattle.guarantee.specs.Past.{Order, isWithdrawn, staying}
+use Rattle.guarantee.proofs.Each.{keep-image}
+use Rattle.guarantee.proofs.History.{Booked, orderIn, ordersIn, chargesIn, charges-each}
+use Rattle.guarantee.proofs.Tickets.{isTicket}
+use Rattle.guarantee.proofs.Enquiries.{told-not-held}
+use Rattle.guarantee.proofs.Withdrawals.{withoutIn}
 use Rattle.guarantee.proofs.Reports.{sumBegun}
-use Rattle.guarantee.proofs.Tickets.{isTicket, told-not-held}
 
 -- Members of a list
 
@@ -37,6 +41,27 @@ found P f (a ∷ l) e p = go (f a) refl e (λ q. found P f l q (p .1))
     go true q u rest = (a, (p .0, q))
     go false q u rest = rest u
 
+-- one of those that pass a test passes both
+pub some-both :
+    {A : Type 0} (f g : A → Bool) (l : List A) → some f (keep g l) ≡ some (λ a. f a && g a) l
+some-both f g [] = refl
+some-both f g (a ∷ l) = go (g a) (some-both f g l)
+  where
+    go :
+        (b : Bool)
+        → some f (keep g l) ≡ some (λ a. f a && g a) l
+        → some f (cond b (a ∷ keep g l) (keep g l)) ≡ (f a && b) || some (λ a. f a && g a) l
+    go true ih = either (f a)
+      where
+        either : (x : Bool) → x || some f (keep g l) ≡ (x && true) || some (λ a. f a && g a) l
+        either true = refl
+        either false = ih
+    go false ih = either (f a)
+      where
+        either : (x : Bool) → some f (keep g l) ≡ (x && false) || some (λ a. f a && g a) l
+        either true = ih
+        either false = ih
+
 pub some-kept : {A : Type 0} (f g : A → Bool) (l : List A) → some f (keep g l) ≡ true → some f l ≡ true
 some-kept f g [] e = e
 some-kept f g (a ∷ l) e = go (f a) (g a) refl e (some-kept f g l)
@@ -52,20 +77,6 @@ some-kept f g (a ∷ l) e = go (f a) (g a) refl e (some-kept f g l)
     go false false p u ih = ih u
 
 -- One ticket more
-
-left-orders :
-    (t : ℕ) (hs : List Charge) → ordersOf (withoutTicket t hs) ≡ keep (λ o. not (eqb (o .ticket) t)) (ordersOf hs)
-left-orders t [] = refl
-left-orders t (c ∷ hs) = go (hasTicket t c) (left-orders t hs)
-  where
-    go :
-        (x : Bool)
-        → ordersOf (withoutTicket t hs) ≡ keep (λ o. not (eqb (o .ticket) t)) (ordersOf hs)
-        → ordersOf (cond (not x) (c ∷ withoutTicket t hs) (withoutTicket t hs))
-        ≡ cond (not x) (orderOf c ∷ keep (λ o. not (eqb (o .ticket) t)) (ordersOf hs))
-        (keep (λ o. not (eqb (o .ticket) t)) (ordersOf hs))
-    go true ih = ih
-    go false ih = rw ih
 
 one-more :
     (t : ℕ) (ws : List ℕ) (os : List Order)
@@ -86,11 +97,13 @@ one-more t ws (o ∷ os) =
     go false false p q e ih = rw (e, p, q) (ap (λ (l : List Order). o ∷ l) ih)
 
 pub left-staying :
-    (t : ℕ) (ws : List ℕ) (os : List Order) (hs : List Charge)
-    → ordersOf hs ≡ staying ws os
-    → ordersOf (withoutTicket t hs) ≡ staying (ws ++ (t ∷ [])) os
+    (t : ℕ) (ws : List ℕ) (os : List Order) (hs : List Booked)
+    → ordersIn hs ≡ staying ws os
+    → ordersIn (withoutIn t hs) ≡ staying (ws ++ (t ∷ [])) os
 left-staying t ws os hs e =
-    left-orders t hs ∙ ap (λ (l : List Order). keep (λ o. not (eqb (o .ticket) t)) l) e ∙ one-more t ws os
+    sym (keep-image orderIn (λ o. not (eqb (o .ticket) t)) hs)
+    ∙ ap (λ (l : List Order). keep (λ o. not (eqb (o .ticket) t)) l) e
+    ∙ one-more t ws os
 
 -- One order more: a new ticket is not among those withdrawn
 
@@ -118,16 +131,16 @@ stays-not-withdrawn ws os =
 
 -- no charge of the history has one
 pub withdrawn-none :
-    (ws : List ℕ) (o : Order) (hs : List Charge)
-    → Each (λ c. isWithdrawn ws (orderOf c) ≡ false) hs
+    (ws : List ℕ) (o : Order) (hs : List Booked)
+    → Each (λ b. isWithdrawn ws (orderIn b) ≡ false) hs
     → isWithdrawn ws o ≡ true
-    → NoneHas (o .ticket) hs
+    → NoneHas (o .ticket) (chargesIn hs)
 withdrawn-none ws o hs e h =
-    each-map (λ c. isWithdrawn ws (orderOf c) ≡ false) (λ c. hasTicket (o .ticket) c ≡ false)
-    (λ c q.
-    fails (hasTicket (o .ticket) c)
+    charges-each (λ c. hasTicket (o .ticket) c ≡ false)
+    (λ b q.
+    fails (hasTicket (o .ticket) (b .charge))
     (λ p.
-    let same : c .ticket ≡ o .ticket = eqb-true (c .ticket) (o .ticket) p in
+    let same : b .charge .ticket ≡ o .ticket = eqb-true (b .charge .ticket) (o .ticket) p in
     true≢false (sym h ∙ ap (λ (t : ℕ). some (eqb t) ws) (sym same) ∙ q)))
     hs e
 

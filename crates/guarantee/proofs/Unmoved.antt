@@ -6,7 +6,8 @@ use mathlib.Core.List.{List, [], _∷_, _++_, append-assoc, append-nil}
 use native.Mathlib.Omega.{arith}
 use lib.Dec.{eqb}
 use Rattle.rules.specs.Basics.{Each}
-use Rattle.rules.specs.Calls.{State, Result, Call}
+use Rattle.rules.specs.Site.{State}
+use Rattle.rules.specs.Calls.{Result, Call}
 use Rattle.guarantee.specs.Past.{Gives, Order, Report, Past, learnt, beginning, extended, after, past, stayingOrders, timesReported, reportedStart, startIn, enquiry, startOf}
 use Rattle.guarantee.specs.DemandThree.{Unmoved, NoneMoved}
 use Rattle.guarantee.proofs.Each.{each-in}

@@ -1,105 +1,98 @@
--- A withdrawal: a waiting charge leaves the held charges and the history, and nothing else changes.
-use mathlib.Core.Path.{_≡_, refl, sym, _∙_}
-use Prim.Native.Nat.{ℕ, suc, _+_, _≤_, _<_}
-use mathlib.Core.Bool.{Bool, true, false, cond, not, _&&_, _||_, true≢false}
+-- A withdrawal: a waiting charge leaves the history, and nothing else changes.
+use mathlib.Core.Path.{_≡_, refl, sym, ap, _∙_}
+use Prim.Native.Nat.{ℕ}
+use mathlib.Core.Bool.{Bool, true, false, not, _&&_, _||_, true≢false}
 use mathlib.Core.List.{List, [], _∷_}
-use native.Mathlib.Omega.{arith}
-use borrow.Author.Tests.{ltb-false, le-ltb}
-use Rattle.rules.specs.Basics.{Each, some}
-use Rattle.rules.specs.Load.{count, draws}
-use Rattle.rules.specs.Charge.{Charge, loadOf, loadsOf, isBegun, isFinished, unfinishedCharges, hasTicket, withoutTicket}
-use Rattle.rules.specs.Valid.{Rising}
-use Rattle.rules.proofs.Ranges.{or-left, or-right}
-use Rattle.rules.proofs.Lists.{each-map, keep-each}
-use Rattle.rules.proofs.Counts.{draws-before}
-use Rattle.rules.proofs.Withdrawing.{NoneHas, none-some, none-behind}
-use Rattle.guarantee.proofs.Reports.{Worth, sumBegun}
+use borrow.Author.Tests.{eqb-true, ne-eqb}
+use Rattle.rules.specs.Basics.{Each, keep, some}
+use Rattle.rules.specs.Charge.{Charge, isBegun, isWaiting, isFinished, unfinishedCharges, hasTicket, withoutTicket}
+use Rattle.rules.proofs.Ranges.{fails}
+use Rattle.rules.proofs.Lists.{keep-all, keep-keep, each-keep}
+use Rattle.rules.proofs.Withdrawing.{none-some}
+use Rattle.rules.proofs.Queues.{Distinct}
+use Rattle.guarantee.proofs.Each.{each-in, image-each, keep-image}
+use Rattle.guarantee.proofs.History.{Booked, chargesIn, isOn, bookedOn, begunIn}
 
--- whoever leaves waits
-abbrev pub Leaves : ℕ → ℕ → Charge → Type 0
-Leaves k t c = hasTicket t c ≡ true → k ≤ c .start
+-- the history without the charge of a ticket
+abbrev pub withoutIn : ℕ → List Booked → List Booked
+withoutIn t bs = keep (λ b. not (hasTicket t (b .charge))) bs
 
--- a ticket stands once in the history, so that no finished charge has that of a held one
-pub leaves-waiting :
-    (k t i : ℕ) (hs : List Charge)
-    → Rising i hs
-    → some (hasTicket t) (unfinishedCharges k hs) ≡ true
-    → some (λ c. hasTicket t c && isBegun k c) (unfinishedCharges k hs) ≡ false
-    → Each (Leaves k t) hs
-leaves-waiting k t i [] r h b = tt
-leaves-waiting k t i (c ∷ hs) r h b =
-    go (hasTicket t c) (isFinished k c) refl h b (leaves-waiting k t (suc (c .ticket)) hs (r .1))
+-- whoever has the ticket passes the test
+abbrev pub Only : ℕ → (Booked → Bool) → List Booked → Type 0
+Only t f bs = Each (λ b. hasTicket t (b .charge) ≡ true → f b ≡ true) bs
+
+-- a ticket stands once in the history: what is found of it holds wherever it stands
+pub found-only :
+    (t : ℕ) (f : Booked → Bool) (bs : List Booked)
+    → Distinct (chargesIn bs)
+    → some (λ b. hasTicket t (b .charge) && f b) bs ≡ true
+    → Only t f bs
+found-only t f [] d h = tt
+found-only t f (b ∷ bs) d h = go (hasTicket t (b .charge)) refl (f b) refl h (found-only t f bs (d .1))
   where
-    none : hasTicket t c ≡ true → NoneHas t hs
-    none p = none-behind t c hs (r .1) p
-
-    rest : hasTicket t c ≡ true → Each (Leaves k t) hs
-    rest p =
-        each-map (λ d. hasTicket t d ≡ false) (Leaves k t) (λ d q e. absurd (true≢false (sym e ∙ q))) hs (none p)
+    behind : hasTicket t (b .charge) ≡ true → Each (λ x. hasTicket t (x .charge) ≡ false) bs
+    behind p =
+        each-in
+        (λ x n. ne-eqb (x .charge .ticket) t (λ q. n (eqb-true (b .charge .ticket) t p ∙ sym q)))
+        bs
+        (image-each (λ c. b .charge .ticket ≡ c .ticket → ⊥) (λ (x : Booked). x .charge) bs (d .0))
 
     go :
-        (x y : Bool)
-        → hasTicket t c ≡ x
-        → some (hasTicket t) (cond (not y) (c ∷ unfinishedCharges k hs) (unfinishedCharges k hs)) ≡ true
-        → some (λ c. hasTicket t c && isBegun k c) (cond (not y) (c ∷ unfinishedCharges k hs) (unfinishedCharges k hs))
-        ≡ false
-        → (some (hasTicket t) (unfinishedCharges k hs) ≡ true
-        → some (λ c. hasTicket t c && isBegun k c) (unfinishedCharges k hs) ≡ false
-        → Each (Leaves k t) hs)
-        → Leaves k t c × Each (Leaves k t) hs
-    go true true p u v ih =
+        (x : Bool)
+        → hasTicket t (b .charge) ≡ x
+        → (y : Bool)
+        → f b ≡ y
+        → (x && y) || some (λ b. hasTicket t (b .charge) && f b) bs ≡ true
+        → (some (λ b. hasTicket t (b .charge) && f b) bs ≡ true → Only t f bs)
+        → (hasTicket t (b .charge) ≡ true → f b ≡ true) × Only t f bs
+    go true p true q u ih = ((λ e. q), each-in (λ x n e. absurd (true≢false (sym e ∙ n))) bs (behind p))
+    go true p false q u ih =
         absurd (true≢false
         (sym u
-        ∙ none-some (hasTicket t) (unfinishedCharges k hs)
-        (keep-each (λ d. hasTicket t d ≡ false) (λ d. not (isFinished k d)) hs (none p))))
-    go true false p u v ih = (
-      (λ e.
-          ltb-false (c .start) k
-          (let w : (hasTicket t c && isBegun k c) || some (λ d. hasTicket t d && isBegun k d) (unfinishedCharges k hs) ≡ false
-          = v in
-          or-left (isBegun k c) (some (λ d. hasTicket t d && isBegun k d) (unfinishedCharges k hs)) (rw p at w))),
-      rest p,
-    )
-    go false true p u v ih = ((λ e. absurd (true≢false (sym e ∙ p))), ih u v)
-    go false false p u v ih = (
-      (λ e. absurd (true≢false (sym e ∙ p))),
-      ih
-          (let w : hasTicket t c || some (hasTicket t) (unfinishedCharges k hs) ≡ true = u in rw p at w)
-          (or-right (hasTicket t c && isBegun k c) (some (λ d. hasTicket t d && isBegun k d) (unfinishedCharges k hs)) v),
-    )
+        ∙ none-some (λ b. hasTicket t (b .charge) && f b) bs (each-in (λ x n. rw n) bs (behind p))))
+    go false p y q u ih = ((λ e. absurd (true≢false (sym e ∙ p))), ih u)
 
--- minutes gone are not touched
-pub left-count :
-    (k t : ℕ) (hs : List Charge)
-    → Each (Leaves k t) hs
-    → (l u : ℕ)
-    → u < k
-    → count (loadsOf (withoutTicket t hs)) l u ≡ count (loadsOf hs) l u
-left-count k t [] e l u h = refl
-left-count k t (c ∷ hs) e l u h = go (hasTicket t c) refl (left-count k t hs (e .1) l u h)
-  where
-    go :
-        (x : Bool)
-        → hasTicket t c ≡ x
-        → count (loadsOf (withoutTicket t hs)) l u ≡ count (loadsOf hs) l u
-        → count (loadsOf (cond (not x) (c ∷ withoutTicket t hs) (withoutTicket t hs))) l u
-        ≡ draws (loadOf c) l u + count (loadsOf hs) l u
-    go true p ih =
-        let w : k ≤ c .start = e .0 p in rw (ih, draws-before (loadOf c) l u (omega arith)) (omega arith)
-    go false p ih = rw ih
+-- those who do not have it stay
+stay :
+    (t : ℕ) (f : Booked → Bool) (bs : List Booked)
+    → Each (λ b. hasTicket t (b .charge) ≡ true → f b ≡ false) bs
+    → keep f (withoutIn t bs) ≡ keep f bs
+stay t f bs e =
+    keep-keep f (λ b. not (hasTicket t (b .charge))) bs
+    ∙ keep-all (λ b. not (hasTicket t (b .charge))) (keep f bs)
+    (each-in
+    (λ b p.
+    let n : hasTicket t (b .charge) ≡ false = fails (hasTicket t (b .charge)) (λ q. true≢false (sym (p .1) ∙ p .0 q)) in
+    rw n)
+    (keep f bs)
+    (each-keep (λ b. hasTicket t (b .charge) ≡ true → f b ≡ false) f bs e))
 
--- nor what is begun
-pub left-sum :
-    (f : Worth) (k t : ℕ) (hs : List Charge)
-    → Each (Leaves k t) hs
-    → sumBegun f k (withoutTicket t hs) ≡ sumBegun f k hs
-left-sum f k t [] e = refl
-left-sum f k t (c ∷ hs) e = go (hasTicket t c) refl (left-sum f k t hs (e .1))
+-- the others' charges, and what has begun
+pub left-others :
+    (t f g : ℕ) (bs : List Booked)
+    → Only t (isOn f) bs
+    → (g ≡ f → ⊥)
+    → bookedOn g (withoutIn t bs) ≡ bookedOn g bs
+left-others t f g bs e d =
+    ap (λ (l : List Booked). chargesIn l)
+    (stay t (isOn g) bs
+    (each-in (λ b p q. ne-eqb (b .feeder) g (λ z. d (sym z ∙ eqb-true (b .feeder) f (p q)))) bs e))
+
+pub left-begun :
+    (t k : ℕ) (bs : List Booked) → Only t (λ b. isWaiting k (b .charge)) bs → begunIn k (withoutIn t bs) ≡ begunIn k bs
+left-begun t k bs e =
+    stay t (λ b. isBegun k (b .charge)) bs (each-in (λ b p q. waits (isBegun k (b .charge)) (p q)) bs e)
   where
-    go :
-        (x : Bool)
-        → hasTicket t c ≡ x
-        → sumBegun f k (withoutTicket t hs) ≡ sumBegun f k hs
-        → sumBegun f k (cond (not x) (c ∷ withoutTicket t hs) (withoutTicket t hs)) ≡ sumBegun f k (c ∷ hs)
-    go true p ih = rw (ih, le-ltb (c .start) k (e .0 p)) (omega arith)
-    go false p ih = rw ih
+    waits : (x : Bool) → not x ≡ true → x ≡ false
+    waits true e = sym e
+    waits false e = refl
+
+-- the feeder's own
+pub left-own :
+    (t k f : ℕ) (bs : List Booked)
+    → unfinishedCharges k (bookedOn f (withoutIn t bs)) ≡ withoutTicket t (unfinishedCharges k (bookedOn f bs))
+left-own t k f bs =
+    ap (λ (l : List Charge). unfinishedCharges k l)
+    (ap (λ (l : List Booked). chargesIn l) (keep-keep (isOn f) (λ b. not (hasTicket t (b .charge))) bs)
+    ∙ sym (keep-image (λ (b : Booked). b .charge) (λ c. not (hasTicket t c)) (keep (isOn f) bs)))
+    ∙ keep-keep (λ c. not (isFinished k c)) (λ c. not (hasTicket t c)) (bookedOn f bs)

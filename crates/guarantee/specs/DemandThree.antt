@@ -6,8 +6,10 @@ use mathlib.Core.List.{List, _++_}
 use lib.Dec.{eqb}
 use Rattle.rules.specs.Basics.{Each, some}
 use Rattle.rules.specs.Load.{IsLine}
-use Rattle.rules.specs.Calls.{State, refused, waiting, charging, Call}
-use Rattle.guarantee.specs.Past.{Gives, Order, Past, past, timesReported, enquiry, startOf, endOf, activeUntil, countIn, ordersOf, stayingOrders, withdrawnOrders, Numbered, totalTime, lastMinute}
+use Rattle.rules.specs.Site.{State, feederOf}
+use Rattle.rules.specs.Valid.{IsFeeder}
+use Rattle.rules.specs.Calls.{refused, waiting, charging, Call}
+use Rattle.guarantee.specs.Past.{Gives, Order, Past, past, timesReported, enquiry, startOf, endOf, activeUntil, countIn, siteIn, ordersOf, stayingOrders, withdrawnOrders, Numbered, totalTime, lastMinute}
 
 -- What is claimed of one accepted order, wherever the list began: "For someone who stays, every assurance holds".
 pub record Kept (gives : Gives) (h : Past) (o : Order) : Type 0 where
@@ -39,7 +41,7 @@ Unmoved gives here there o = startOf gives here o < here .clock → startOf give
 -- "No charge ends later than the last minute in which an order was accepted plus the charging times of all accepted orders",
 -- with r for each of these, withdrawn ones too: a withdrawn order's "time still counts in the ceiling on ends", and so does its minute
 abbrev pub InTime : Gives → Past → Order → Type 0
-InTime gives h o = endOf gives h o ≤ lastMinute 0 (h .orders) + totalTime (h .tail) (h .orders)
+InTime gives h o = endOf gives h o ≤ lastMinute 0 (h .orders) + totalTime (h .tails) (h .orders)
 
 -- "No ticket but theirs has been reported."
 abbrev pub NoOther : Past → Type 0
@@ -56,14 +58,19 @@ NoneMoved gives s calls =
 -- The whole claim, for the station that an opening gave, the list of calls made from it, and what a call gives.
 pub record DemandThree (gives : Gives) (s : State) (calls : List Call) : Type 0 where
   -- "in every minute, gone or to come under the plan held, no line has more than its limit charging", of the weighted counts and
-  -- with the tails counted
-  pub limit : (l t : ℕ) → IsLine l → countIn gives (past gives s calls) l t ≤ s .limit
+  -- with the tails counted, on each feeder
+  pub limit : (f l t : ℕ) → IsFeeder s f → IsLine l → countIn gives (past gives s calls) f l t ≤ feederOf s f .limit
   -- "and no two lines differ by more than the bound"
   pub balance :
-      (l m t : ℕ)
+      (f l m t : ℕ)
+      → IsFeeder s f
       → IsLine l
       → IsLine m
-      → countIn gives (past gives s calls) l t ≤ countIn gives (past gives s calls) m t + s .bound
+      → countIn gives (past gives s calls) f l t ≤ countIn gives (past gives s calls) f m t + feederOf s f .bound
+  -- "with W .. taken over the site"
+  pub site : (t : ℕ) → siteIn gives (past gives s calls) t ≤ s .site
+  -- each accepted order is counted on a feeder
+  pub feeders : Each (λ o. IsFeeder s (o .feeder)) (past gives s calls .orders)
   -- "Each accepted order has exactly one charge": "tickets are 1, 2, 3 and so on in the order of acceptance", those withdrawn among
   -- them, so that none is given again
   pub tickets : Numbered 1 (past gives s calls .orders)
@@ -81,16 +88,19 @@ Since s t = s .clock ≤ t
 -- from its clock on, with the charges it holds counted too, their lines, times and rates, and the starts of those begun, as it
 -- has them" (`beginning`). What went before is not known, so no ceiling on ends is claimed.
 pub record DemandThreeFrom (gives : Gives) (s : State) (calls : List Call) : Type 0 where
-  pub limit : (l t : ℕ) → IsLine l → Since s t → countIn gives (past gives s calls) l t ≤ s .limit
+  pub limit : (f l t : ℕ) → IsFeeder s f → IsLine l → Since s t → countIn gives (past gives s calls) f l t ≤ feederOf s f .limit
   pub balance :
-      (l m t : ℕ)
+      (f l m t : ℕ)
+      → IsFeeder s f
       → IsLine l
       → IsLine m
       → Since s t
-      → countIn gives (past gives s calls) l t ≤ countIn gives (past gives s calls) m t + s .bound
+      → countIn gives (past gives s calls) f l t ≤ countIn gives (past gives s calls) f m t + feederOf s f .bound
+  pub site : (t : ℕ) → Since s t → siteIn gives (past gives s calls) t ≤ s .site
+  pub feeders : Each (λ o. IsFeeder s (o .feeder)) (past gives s calls .orders)
   -- the orders accepted by the calls get the tickets from its next one on
   pub tickets :
-      (new : List Order) × (past gives s calls .orders ≡ ordersOf (s .charges) ++ new) × Numbered (s .next) new
+      (new : List Order) × (past gives s calls .orders ≡ ordersOf s ++ new) × Numbered (s .next) new
   pub orders : Each (Kept gives (past gives s calls)) (stayingOrders (past gives s calls))
   pub gone : Each (Gone gives (past gives s calls)) (withdrawnOrders (past gives s calls))
   pub no-other : NoOther (past gives s calls)

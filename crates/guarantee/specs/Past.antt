@@ -1,19 +1,22 @@
 -- What is known after a list of calls, read off the calls, their answers and the lists afterwards
 -- (docs/RULES.md, section 6).
 use mathlib.Core.Path.{_≡_}
-use Prim.Native.Nat.{ℕ, zero, suc, _+_}
+use Prim.Native.Nat.{ℕ, zero, suc, _+_, _-_}
 use mathlib.Core.Bool.{Bool, true, false, cond, not}
 use mathlib.Core.List.{List, [], _∷_, _++_, map}
 use lib.Dec.{eqb}
+use lib.ListN.{getD}
 use Rattle.rules.specs.Basics.{keep, some}
-use Rattle.rules.specs.Load.{draw, Load, loadFrom, count}
+use Rattle.rules.specs.Load.{draw, Load, loadFrom, count, drawn}
 use Rattle.rules.specs.Charge.{Charge, begunCharges}
-use Rattle.rules.specs.Calls.{State, Answer, refused, opened, previewed, committed, moved, planned, waiting, charging, looked, withdrawn, Result, Call, preview, commit, move, offer, replanLatest, replanLines, enquire, board, withdraw}
+use Rattle.rules.specs.Site.{Feeder, State, siteCharges}
+use Rattle.rules.specs.Calls.{Answer, refused, opened, previewed, committed, moved, planned, waiting, charging, looked, withdrawn, Result, Call, preview, commit, move, offer, replanLatest, replanLines, enquire, board, withdraw}
 
 -- An accepted order: its ticket is that of the answer. "Its order minute is the clock at that moment; its line and p are
--- those passed in", and so is its rate.
+-- those passed in", and so are its feeder and its rate.
 pub record Order : Type 0 where
   pub ticket : ℕ
+  pub feeder : ℕ
   pub line : ℕ
   pub minute : ℕ
   pub time : ℕ
@@ -84,19 +87,19 @@ nothingNew clock = record { clock = clock; orders = []; withdrawn = []; reports 
 -- "The clock is the target of the last move not refused." "An order is accepted when it is answered with a ticket":
 -- "an order is accepted at its commit". A call with its answer and its list afterwards, made at some clock.
 abbrev pub learnt : ℕ → Call → Answer → List ℕ → Learnt
-learnt clock (preview line p d rate) a list = nothingNew clock
-learnt clock (commit line p d rate shown) a list =
+learnt clock (preview f line p d rate) a list = nothingNew clock
+learnt clock (commit f line p d rate shown) a list =
     record {
       clock = clock;
-      orders = map (λ t. record { ticket = t; line = line; minute = clock; time = p; rate = rate }) (ticketIn a);
+      orders = map (λ t. record { ticket = t; feeder = f; line = line; minute = clock; time = p; rate = rate }) (ticketIn a);
       withdrawn = [];
       reports = [];
     }
 learnt clock (move target lent) a list =
     record { clock = cond (isRefused a) clock target; orders = []; withdrawn = []; reports = firstPairs (reportedIn a) list }
-learnt clock (offer ss) a list = nothingNew clock
-learnt clock replanLatest a list = nothingNew clock
-learnt clock (replanLines allowance) a list = nothingNew clock
+learnt clock (offer f ss) a list = nothingNew clock
+learnt clock (replanLatest f) a list = nothingNew clock
+learnt clock (replanLines f allowance) a list = nothingNew clock
 learnt clock (enquire ticket) a list = nothingNew clock
 learnt clock (board asked lent) a list = nothingNew clock
 -- an order is withdrawn by a withdrawal of its ticket that is not refused
@@ -109,23 +112,28 @@ learnt clock (withdraw ticket) a list =
 abbrev pub Gives : Type 0
 Gives = State → Call → Result
 
--- r as it was opened with, the clock, all accepted orders, all tickets withdrawn and all reports, in the order of the calls, behind
+-- r of each feeder as it was opened with, the clock, all accepted orders, all tickets withdrawn and all reports, in the order of the calls, behind
 -- what the station held at the beginning;
 -- the station left serves for the next call and for enquiries only
 pub record Past : Type 0 where
-  pub tail : ℕ
+  pub tails : List ℕ
   pub clock : ℕ
   pub orders : List Order
   pub withdrawn : List ℕ
   pub reports : List Report
   pub station : State
 
--- the order that a charge stands for, and the pair that reports it
-abbrev pub orderOf : Charge → Order
-orderOf c = record { ticket = c .ticket; line = c .line; minute = c .orderMinute; time = c .time; rate = c .rate }
+-- the order that a charge of feeder f stands for, and the pair that reports it
+abbrev pub orderOf : ℕ → Charge → Order
+orderOf f c = record { ticket = c .ticket; feeder = f; line = c .line; minute = c .orderMinute; time = c .time; rate = c .rate }
 
-abbrev pub ordersOf : List Charge → List Order
-ordersOf cs = map orderOf cs
+-- those of some feeders, the first of them being number i
+abbrev pub ordersFrom : ℕ → List Feeder → List Order
+ordersFrom i [] = []
+ordersFrom i (g ∷ gs) = map (orderOf i) (g .charges) ++ ordersFrom (suc i) gs
+
+abbrev pub ordersOf : State → List Order
+ordersOf s = ordersFrom 1 (s .feeders)
 
 abbrev pub reportOf : Charge → Report
 reportOf c = record { ticket = c .ticket; start = c .start }
@@ -136,11 +144,11 @@ reportOf c = record { ticket = c .ticket; start = c .start }
 abbrev pub beginning : State → Past
 beginning s =
     record {
-      tail = s .tail;
+      tails = map (λ g. g .tail) (s .feeders);
       clock = s .clock;
-      orders = ordersOf (s .charges);
+      orders = ordersOf s;
       withdrawn = [];
-      reports = map reportOf (begunCharges (s .clock) (s .charges));
+      reports = map reportOf (begunCharges (s .clock) (siteCharges s));
       station = s;
     }
 
@@ -148,7 +156,7 @@ abbrev pub extended : Past → Call → Result → Past
 extended h c r =
     let new : Learnt = learnt (h .clock) c (r .answer) (r .list) in
     record {
-      tail = h .tail;
+      tails = h .tails;
       clock = new .clock;
       orders = h .orders ++ new .orders;
       withdrawn = h .withdrawn ++ new .withdrawn;
@@ -180,6 +188,10 @@ stayingOrders h = staying (h .withdrawn) (h .orders)
 abbrev pub withdrawnOrders : Past → List Order
 withdrawnOrders h = keep (isWithdrawn (h .withdrawn)) (h .orders)
 
+-- the orders that name feeder f
+abbrev pub onFeeder : ℕ → List Order → List Order
+onFeeder f os = keep (λ o. eqb (o .feeder) f) os
+
 -- Reports, starts and counts
 
 abbrev pub timesReported : List Report → ℕ → ℕ
@@ -204,29 +216,38 @@ startOf gives h o = reportedStart (h .reports) (o .ticket) (startIn (enquiry giv
 abbrev pub endOf : Gives → Past → Order → ℕ
 endOf gives h o = startOf gives h o + o .time
 
+-- r of an order: that of its feeder
+abbrev pub tailOf : List ℕ → Order → ℕ
+tailOf tails o = getD tails (o .feeder - 1) 0
+
 -- s + p + r, from which on it draws nothing: it "is finished when s + p + r is at or below the clock"
 abbrev pub activeUntil : Gives → Past → Order → ℕ
-activeUntil gives h o = endOf gives h o + h .tail
+activeUntil gives h o = endOf gives h o + tailOf (h .tails) o
 
 -- "each active from its start as above", unbroken for its full time and "for r minutes after its end"
 abbrev pub loadOf : Gives → Past → Order → Load
-loadOf gives h o = loadFrom (draw (o .line) (o .time + h .tail) (o .rate)) (startOf gives h o)
+loadOf gives h o = loadFrom (draw (o .line) (o .time + tailOf (h .tails) o) (o .rate)) (startOf gives h o)
 
 -- "A line's count in a minute takes all accepted orders of the list, dropped ones too", each with its rate: "What members were
 -- promised for every minute is from then on a promise about these weighted counts." "A withdrawn order has no charge".
-abbrev pub countIn : Gives → Past → ℕ → ℕ → ℕ
-countIn gives h l t = count (map (loadOf gives h) (stayingOrders h)) l t
+-- The lines are those of feeder f.
+abbrev pub countIn : Gives → Past → ℕ → ℕ → ℕ → ℕ
+countIn gives h f l t = count (map (loadOf gives h) (onFeeder f (stayingOrders h))) l t
+
+-- "the weighted count of all lines in a minute", of all feeders
+abbrev pub siteIn : Gives → Past → ℕ → ℕ
+siteIn gives h t = drawn (map (loadOf gives h) (stayingOrders h)) t
 
 -- "tickets are 1, 2, 3 and so on in the order of acceptance": here from i on
 abbrev pub Numbered : ℕ → List Order → Type 0
 Numbered i [] = Unit {0}
 Numbered i (o ∷ os) = (o .ticket ≡ i) × Numbered (suc i) os
 
--- "the charging times of all accepted orders": "The ceiling on ends gains r for each accepted order." Of a withdrawn order "its time
+-- "the charging times of all accepted orders": "The ceiling on ends gains r for each accepted order", that of its feeder. Of a withdrawn order "its time
 -- still counts in the ceiling on ends".
-abbrev pub totalTime : ℕ → List Order → ℕ
-totalTime r [] = 0
-totalTime r (o ∷ os) = o .time + r + totalTime r os
+abbrev pub totalTime : List ℕ → List Order → ℕ
+totalTime tails [] = 0
+totalTime tails (o ∷ os) = o .time + tailOf tails o + totalTime tails os
 
 -- "the order minute of the last accepted order", m without one
 abbrev pub lastMinute : ℕ → List Order → ℕ

@@ -1,51 +1,33 @@
--- What saving and restoring give, way by way.
+-- What restoring gives, way by way.
 use mathlib.Core.Path.{_≡_, refl, ap, sym, _∙_}
 use Prim.Native.Nat.{ℕ, _≤_, _<_}
 use mathlib.Core.Bool.{Bool, true, false, true≢false}
-use mathlib.Core.List.{List, []}
+use mathlib.Core.List.{List}
 use native.Mathlib.Omega.{arith}
 use lib.Dec.{eqb, leb}
 use lib.ListN.{length, getD}
 use borrow.Author.Tests.{leb-true, le-leb}
-use Rattle.rules.specs.Calls.{State, Answer, Result, boundOf, settings, fresh, opening}
+use Rattle.rules.specs.Site.{State}
+use Rattle.rules.specs.Calls.{boundOf, fresh, least}
 use Rattle.rules.proofs.Ranges.{and-right, fails}
 use Rattle.rules.proofs.Lists.{length-tabulate}
-use Rattle.station.specs.declared.Station.{Station}
-use Rattle.station.specs.View.{view, Valid}
-use Rattle.station.specs.Answers.{giving}
-use Rattle.layout.specs.Image.{imageOf}
+use Rattle.station.specs.declared.One.{One}
+use Rattle.station.specs.View.{view, stationOf, Alone}
+use Rattle.station.proofs.Ones.{only-formed}
+use Rattle.layout.specs.Image.{only}
 use Rattle.layout.specs.Validity.{settingsRanged, boundRight, isValid}
 use Rattle.layout.specs.Lists.{every}
 use Rattle.layout.specs.Reading.{headerAt, stateIn, checked, isOf, restoreRefusal, restoring}
-use Rattle.layout.specs.Blocks.{differing}
 use Rattle.layout.proofs.Testing.{Tested, valid-tested}
-use Rattle.layout.proofs.Validity.{valid-by-test}
-use Rattle.layout.proofs.Refusing.{saving-written, saving-refused, refused-contents, not-refused}
+use Rattle.layout.proofs.Refusing.{refused-contents, not-refused}
 use Rattle.layout.proofs.RoundTrip.{restoring-valid}
-use Rattle.validity.specs.Settled.{settingsValid, Settled}
+use Rattle.validity.specs.Settled.{settingsValid}
 use Rattle.blocks.specs.Contents.{contentsIn, samePart}
 use Rattle.records.specs.Contents.{contentsOf, chargeFrom, stateFrom, headerRight}
 use Rattle.records.specs.Columns.{ReadFrom}
-use Rattle.image.specs.Answers.{Saves, isFrom, restored, Restores}
+use Rattle.image.specs.Answers.{isFrom, restored, Restores}
 use Rattle.image.specs.declared.restoring.Restored.{Restored}
 use Rattle.image.proofs.Imaging.{state-taken, right-taken}
-
--- Saving
-
-module _ (s : State) (previous xs : List ℕ) where
-  pub saves-refused :
-      (n : ℕ) → (length previous ≡ 4608 → length xs ≡ 4608 → ⊥) → n ≡ 20 → Saves s previous xs xs (record { answer = n; blocks = 0 })
-  saves-refused n h e = record { result = rw e (sym (saving-refused s previous xs h)) }
-
-  pub saves-done :
-      (ps ys : List ℕ) (n : ℕ)
-      → length previous ≡ 4608
-      → length xs ≡ 4608
-      → ps ≡ previous
-      → ys ≡ imageOf s
-      → n ≡ differing ps ys
-      → Saves s previous xs ys (record { answer = 0; blocks = n })
-  saves-done ps ys n h l p w e = record { result = rw (e, p, w) (sym (saving-written s previous xs h l)) }
 
 -- Contents
 
@@ -58,18 +40,15 @@ module _ (xs : List ℕ) (s : State) (b : Bool) where
   unfolding isFrom
   of-told ys r p q e h = rw (← p, q, ← e) h
 
-pub tested-valid : (s : Station) (b : Bool) → Settled s → b ≡ isValid (view s) → b ≡ true → Valid s
-tested-valid s b h p q = record { columns = h .columns; state = valid-by-test (view s) (sym p ∙ q) }
-
 -- where block 0 is not right, the station that the contents would be of is not valid
 module _ (xs : List ℕ) where
-  held-in : length (stateFrom xs .charges) ≡ headerAt xs 20
+  held-in : length (only (stateFrom xs) .charges) ≡ headerAt xs 20
   unfolding stateFrom
   held-in = length-tabulate (chargeFrom xs (headerAt xs 8)) (headerAt xs 20) 0
 
   ranged-in :
       Tested (stateFrom xs)
-      → settingsRanged (headerAt xs 0) (headerAt xs 4) (headerAt xs 8) (headerAt xs 12) (headerAt xs 16) ≡ true
+      → settingsRanged (headerAt xs 0) (headerAt xs 4) (headerAt xs 8) (headerAt xs 12) (headerAt xs 16) (headerAt xs 24) ≡ true
   unfolding stateFrom
   ranged-in t = t .settings-ranged
 
@@ -111,35 +90,40 @@ module _ (xs cs : List ℕ) (long : length xs ≡ 4608) (small : (k : ℕ) → g
   pub contents-right : isFrom cs (stateFrom cs) ≡ true → restoreRefusal xs ≡ 0
   contents-right e = not-refused xs long checks (of-taken ∙ e)
 
-pub open-least : (a : Answer) (s : Station) → giving a s [] ≡ opening (settings 1 100 0) → view s ≡ fresh (settings 1 100 0)
-unfolding opening
-open-least a s e = ap (λ (r : Result). r .state) e
-
 module _ (xs : List ℕ) where
   pub restores-refused :
       (n k : ℕ) (r : Restored)
       → eqb n 0 ≡ false
-      → (r .answer ≡ k) × (view (r .station) ≡ fresh (settings 1 100 0)) × Valid (r .station)
+      → (r .answer ≡ k) × (view (stationOf (r .one)) ≡ fresh least) × Alone (r .one)
       → k ≡ n
       → restoreRefusal xs ≡ n
       → Restores xs r
-  restores-refused n k r z p d e = record { result = rw (p .0, d, p .1, e, z); valid = p .2 }
+  restores-refused n k r z p d e = record { result = rw (p .0, d, p .1, e, z); alone = p .2 }
 
   pub restores-accepted :
-      (s : Station) (cs : List ℕ)
+      (o : One) (cs : List ℕ)
       → length xs ≡ 4608
       → cs ≡ contentsIn xs
-      → ReadFrom cs s
+      → ReadFrom cs o
       → restoreRefusal xs ≡ 0
-      → Restores xs (record { answer = 0; station = s })
-  restores-accepted s cs l c p e =
+      → Restores xs (record { answer = 0; one = o })
+  restores-accepted o cs l c p e =
       record {
         result = whole;
-        valid = record { columns = p .settled .columns; state = rw (ap (λ z. z .state) whole) (restoring-valid xs) };
+        alone =
+            record {
+              valid =
+                  record {
+                    formed = only-formed o (p .settled .columns);
+                    state = rw (ap (λ z. z .state) whole) (restoring-valid xs);
+                  };
+              single = p .single;
+              first = p .first;
+            };
       }
     where
-      state-is : view s ≡ stateIn xs
+      state-is : view (stationOf o) ≡ stateIn xs
       state-is = p .state ∙ ap stateFrom c ∙ state-taken xs l
 
-      whole : restored (record { answer = 0; station = s }) ≡ restoring xs
+      whole : restored (record { answer = 0; one = o }) ≡ restoring xs
       whole = rw (e, state-is)

@@ -1,13 +1,13 @@
 -- An image and its contents say the same once its checks are right.
 use mathlib.Core.Logic.{_⊎_, inl, inr}
-use mathlib.Core.Path.{_≡_, refl, ap, sym, _∙_}
+use mathlib.Core.Path.{_≡_, ap, sym, _∙_}
 use Prim.Native.Nat.{ℕ, zero, suc, _+_, _-_, _*_, _/_, _%_, _≤_, _<_}
 use mathlib.Core.Bool.{true}
 use mathlib.Core.List.{List}
 use native.Mathlib.Omega.{arith}
 use lib.ListN.{length, getD, List·getD-eq-default}
 use borrow.Author.Tests.{lt-ltb, le-ltb, eq-eqb, eqb-true}
-use Rattle.rules.specs.Calls.{State}
+use Rattle.rules.specs.Site.{State}
 use Rattle.rules.proofs.Ranges.{below-or-not, same-test}
 use Rattle.rules.proofs.Lists.{tabulate-same}
 use Rattle.layout.specs.Lists.{every}
@@ -149,7 +149,7 @@ module _ (xs : List ℕ) (long : length xs ≡ 4608) where
 
   -- What is read from either
 
-  header-taken : (a : ℕ) → a + 4 ≤ 24 → headerAt (contentsIn xs) a ≡ headerAt xs a
+  header-taken : (a : ℕ) → a + 4 ≤ 28 → headerAt (contentsIn xs) a ≡ headerAt xs a
   unfolding headerAt
   header-taken a h =
       number-same (λ i. getD (contentsIn xs) i 0) (λ i. getD xs i 0) a 4
@@ -187,6 +187,7 @@ module _ (xs : List ℕ) (long : length xs ≡ 4608) where
         header-taken 12 (omega arith),
         header-taken 16 (omega arith),
         header-taken 20 (omega arith),
+        header-taken 24 (omega arith),
         tabulate-same (chargeFrom (contentsIn xs) (headerAt xs 8)) (chargeIn xs) (headerAt xs 20) 0 (λ q p l. charge-taken q),
       )
 

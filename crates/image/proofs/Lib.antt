@@ -1,2 +1,3 @@
 pub mod Imaging
+pub mod SavedImages
 pub mod Answering

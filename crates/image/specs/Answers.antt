@@ -3,11 +3,13 @@ use Prim.Native.Nat.{ℕ}
 use mathlib.Core.Path.{_≡_}
 use mathlib.Core.Bool.{Bool, _&&_}
 use mathlib.Core.List.{List}
-use Rattle.rules.specs.Calls.{State}
-use Rattle.station.specs.View.{view, Valid}
+use lib.Dec.{eqb}
+use Rattle.rules.specs.Basics.{firstOf}
+use Rattle.rules.specs.Site.{State}
+use Rattle.station.specs.View.{view, stationOf, Alone}
 use Rattle.layout.specs.Validity.{isValid}
-use Rattle.layout.specs.Reading.{RestoreResult, restoring}
-use Rattle.layout.specs.Saving.{SaveResult, saving}
+use Rattle.layout.specs.Reading.{sized, RestoreResult, restoring}
+use Rattle.layout.specs.Saving.{saveRows, SaveResult, saving}
 use Rattle.blocks.specs.Contents.{samePart}
 use Rattle.records.specs.Contents.{contentsOf}
 use Rattle.image.specs.declared.restoring.Restored.{Restored}
@@ -17,6 +19,10 @@ use Rattle.image.specs.declared.saving.Saved.{Saved}
 abbrev pub saved : Saved → List ℕ → SaveResult
 saved r image = record { refusal = r .answer; blocks = r .blocks; image = image }
 
+-- the refusal of saving, by the number of feeders
+unfoldable pub countRefusal : ℕ → List ℕ → List ℕ → ℕ
+countRefusal count previous list = firstOf (saveRows (sized previous && sized list) (eqb count 1))
+
 pub record Saves (s : State) (previous before after : List ℕ) (r : Saved) : Type 0 where
   pub result : saved r after ≡ saving s previous before
 
@@ -25,9 +31,9 @@ unfoldable pub isFrom : List ℕ → State → Bool
 isFrom contents s = isValid s && samePart contents (contentsOf s) 0 4572
 
 abbrev pub restored : Restored → RestoreResult
-restored r = record { refusal = r .answer; state = view (r .station) }
+restored r = record { refusal = r .answer; state = view (stationOf (r .one)) }
 
--- the answer and the station beside it, which is valid, so that calls may follow
+-- the answer and the only feeder of the station beside it, which is valid, so that calls may follow
 pub record Restores (image : List ℕ) (r : Restored) : Type 0 where
   pub result : restored r ≡ restoring image
-  pub valid : Valid (r .station)
+  pub alone : Alone (r .one)

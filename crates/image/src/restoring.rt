@@ -5,46 +5,40 @@ use blocks::contents::take_blocks;
 use records::reading::header_right;
 use records::reading::read;
 use records::writing::contents_of;
-use station::Station;
-use station::open::Settings;
+use station::One;
 use validity::is_valid;
 ghost use mathlib.Core.Path.{_≡_};
 ghost use lib.ListN.{length};
-ghost use Rattle.rules.specs.Calls.{settings, fresh};
-ghost use Rattle.station.specs.View.{view, Valid};
+ghost use Rattle.rules.specs.Calls.{fresh, least};
+ghost use Rattle.station.specs.View.{view, stationOf, Alone};
 ghost use Rattle.validity.specs.Settled.{Settled};
 ghost use Rattle.image.specs.Answers.{isFrom, Restores};
 
-// 0 or the refusal, and the station beside it.
+// 0 or the refusal, and the only feeder of the station beside it. No whole station is made of it: an image is of one feeder, and a
+// copy of the places of four costs more than most calls.
 pub struct Restored {
     pub answer: u32,
-    pub station: Station,
+    pub one: One,
 }
 
-// Whether the contents are those of this station, and the station valid: "All else is zero" is found by writing them again.
-fn is_of(contents: &[u8], station: Station) -> bool
-    requires { ⌜ (length (now contents) ≡ 4572) × Settled station ⌝ }
-    ensures { λ r. ⌜ r ≡ isFrom (now (contents .entry)) (view station) ⌝ }
+// Whether the contents are those of this feeder's station, and the station valid: "All else is zero" is found by writing them again.
+fn is_of(contents: &[u8], one: One) -> bool
+    requires { ⌜ (length (now contents) ≡ 4572) × Settled one ⌝ }
+    ensures { λ r. ⌜ r ≡ isFrom (now (contents .entry)) (view (stationOf one)) ⌝ }
 {
-    if !is_valid(station) {
+    if !is_valid(one) {
         return false;
     }
-    let again = contents_of(station);
+    let again = contents_of(one);
     same_part(contents, &again, 0, CONTENTS)
 }
 
-// "Beside a refused restore stands the fresh station of 1, 100 and r = 0."
+// "Beside a refused restore stands the fresh station of 1, 100 and r = 0": "one feeder and W 720".
 fn refused(answer: u32) -> Restored
-    ensures { λ r. ⌜ (r .answer ≡ answer) × (view (r .station) ≡ fresh (settings 1 100 0)) × Valid (r .station) ⌝ }
+    ensures { λ r. ⌜ (r .answer ≡ answer) × (view (stationOf (r .one)) ≡ fresh least) × Alone (r .one) ⌝ }
 {
-    let least = Settings {
-        limit: 1,
-        percent: 100,
-        tail: 0,
-    };
-    let opening = Station::open(least);
-    let station = opening.station;
-    Restored { answer, station }
+    let one = One::least();
+    Restored { answer, one }
 }
 
 pub fn restore(image: &[u8]) -> Restored
@@ -60,9 +54,9 @@ pub fn restore(image: &[u8]) -> Restored
     if !header_right(&contents) {
         return refused(22);
     }
-    let station = read(&contents);
-    if !is_of(&contents, station) {
+    let one = read(&contents);
+    if !is_of(&contents, one) {
         return refused(22);
     }
-    Restored { answer: 0, station }
+    Restored { answer: 0, one }
 }

@@ -8,7 +8,7 @@ use native.Mathlib.Numerals.{add-one}
 use lib.ListN.{length, getD}
 use lib.Seq.{ext-getD}
 use borrow.Author.Tests.{eq-eqb, eqb-true}
-use Rattle.rules.specs.Calls.{State}
+use Rattle.rules.specs.Site.{State}
 use Rattle.rules.proofs.Ranges.{and-left, and-right, and-both}
 use Rattle.layout.specs.Lists.{every}
 use Rattle.layout.specs.Image.{imageOf}
@@ -18,7 +18,7 @@ use Rattle.layout.specs.Saving.{saving}
 use Rattle.layout.proofs.Listing.{every-all, every-at}
 use Rattle.layout.proofs.Imaging.{image-length}
 use Rattle.layout.proofs.Refusing.{saving-written, accepted}
-use Rattle.layout.proofs.RoundTrip.{accepted-saves}
+use Rattle.layout.proofs.RoundTrip.{accepted-saves, restoring-one}
 
 -- How often a test fails
 
@@ -95,16 +95,17 @@ pub accepted-same :
     → length list ≡ 4608
     → saving (restoring xs .state) xs list ≡ record { refusal = 0; blocks = 0; image = xs }
 accepted-same xs list e h =
-    saving-written (restoring xs .state) xs list (accepted xs e .size) h ∙ rw (accepted-saves xs e, none-differs xs)
+    saving-written (restoring xs .state) xs list (restoring-one xs) (accepted xs e .size) h ∙ rw (accepted-saves xs e, none-differs xs)
 
 -- 0 blocks answered: what is written is the previous image
 pub none-written :
     (s : State) (previous list : List ℕ)
+    → length (s .feeders) ≡ 1
     → length previous ≡ 4608
     → length list ≡ 4608
     → saving s previous list .blocks ≡ 0
     → saving s previous list .image ≡ previous
-none-written s previous list h l e =
-    let w = saving-written s previous list h l in
+none-written s previous list one h l e =
+    let w = saving-written s previous list one h l in
     let d : differing previous (imageOf s) ≡ 0 = sym (ap (λ r. r .blocks) w) ∙ e in
     ap (λ r. r .image) w ∙ sym (equal-images previous (imageOf s) h (image-length s) d)

@@ -6,22 +6,22 @@ use lib.Dec.{ltb, eqb}
 use mathlib.Core.Bool.{cond}
 use lib.ListN.{length}
 use borrow.Author.Tests.{lt-ltb, le-ltb, ne-eqb}
-use Rattle.rules.specs.Calls.{State}
+use Rattle.rules.specs.Site.{State}
 use Rattle.layout.specs.Bytes.{byteOf, packed}
 use Rattle.layout.specs.Arrangement.{perBlock, recordOf, byteIn}
-use Rattle.layout.specs.Image.{heldAt, headerOf, fieldsOf, recordByte, numbered, content, checkOf, byteAt}
+use Rattle.layout.specs.Image.{only, heldAt, headerOf, fieldsOf, recordByte, numbered, content, checkOf, byteAt}
 use Rattle.layout.proofs.Numbers.{cond-small, packed-small}
 
 module _ (s : State) where
   -- Records
 
-  pub record-held : (q j : ℕ) → q < length (s .charges) → recordByte s q j ≡ packed (fieldsOf (heldAt s q)) j
+  pub record-held : (q j : ℕ) → q < length (only s .charges) → recordByte s q j ≡ packed (fieldsOf (heldAt s q)) j
   unfolding recordByte
-  record-held q j h = rw (lt-ltb q (length (s .charges)) h)
+  record-held q j h = rw (lt-ltb q (length (only s .charges)) h)
 
-  pub record-none : (q j : ℕ) → length (s .charges) ≤ q → _≡_ {A = ℕ} (recordByte s q j) 0
+  pub record-none : (q j : ℕ) → length (only s .charges) ≤ q → _≡_ {A = ℕ} (recordByte s q j) 0
   unfolding recordByte
-  record-none q j h = rw (le-ltb q (length (s .charges)) h)
+  record-none q j h = rw (le-ltb q (length (only s .charges)) h)
 
   pub numbered-in : (z : ℕ) → z < 4000 → numbered s z ≡ recordByte s (recordOf z) (byteIn z)
   unfolding numbered
@@ -68,7 +68,7 @@ module _ (s : State) where
   pub record-small : (q j : ℕ) → recordByte s q j < 256
   unfolding recordByte
   record-small q j =
-      cond-small (ltb q (length (s .charges))) (packed (fieldsOf (heldAt s q)) j) 0 (packed-small (fieldsOf (heldAt s q)) j)
+      cond-small (ltb q (length (only s .charges))) (packed (fieldsOf (heldAt s q)) j) 0 (packed-small (fieldsOf (heldAt s q)) j)
       (omega arith)
 
   pub numbered-small : (z : ℕ) → numbered s z < 256

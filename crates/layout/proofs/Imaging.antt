@@ -6,11 +6,11 @@ use mathlib.Core.List.{List}
 use native.Mathlib.Omega.{arith}
 use lib.ListN.{length, getD}
 use borrow.Author.Tests.{eq-eqb}
-use Rattle.rules.specs.Calls.{State}
+use Rattle.rules.specs.Site.{State}
 use Rattle.layout.specs.Lists.{every}
 use Rattle.layout.specs.Bytes.{byteOf, numberAt, packed}
 use Rattle.layout.specs.Arrangement.{perBlock, numberOf, placeOf}
-use Rattle.layout.specs.Image.{heldAt, headerOf, fieldsOf, recordByte, numbered, content, checkOf, byteAt, imageOf}
+use Rattle.layout.specs.Image.{only, heldAt, headerOf, fieldsOf, recordByte, numbered, content, checkOf, byteAt, imageOf}
 use Rattle.layout.specs.Reading.{inBlock, inRecord, headerAt, fieldAt, checked, same, samePlace}
 use Rattle.layout.proofs.Listing.{length-listed, getD-listed, every-all}
 use Rattle.layout.proofs.Numbers.{four, number-same}
@@ -47,14 +47,14 @@ module _ (s : State) where
 
   -- Numbers read from it
 
-  pub header-number : (a : ℕ) → a + 4 ≤ 24 → headerAt (imageOf s) a ≡ numberAt (packed (headerOf s)) a 4
+  pub header-number : (a : ℕ) → a + 4 ≤ 28 → headerAt (imageOf s) a ≡ numberAt (packed (headerOf s)) a 4
   unfolding headerAt
   header-number a h = number-same (λ i. getD (imageOf s) i 0) (packed (headerOf s)) a 4 (λ i p q. in-header i (omega arith))
 
   pub record-number :
       (q from width : ℕ)
-      → q < length (s .charges)
-      → length (s .charges) ≤ 180
+      → q < length (only s .charges)
+      → length (only s .charges) ≤ 180
       → from + width ≤ 20
       → fieldAt (imageOf s) from width q ≡ numberAt (packed (fieldsOf (heldAt s q))) from width
   unfolding fieldAt

@@ -5,11 +5,15 @@ pub mod Checks
 pub mod Laying
 pub mod Contents
 pub mod Imaging
+pub mod Single
+pub mod Calling
 pub mod Rising
 pub mod Judging
 pub mod Testing
+pub mod Holding
 pub mod Validity
 pub mod Refusing
+pub mod Wholes
 pub mod ReadBack
 pub mod RoundTrip
 pub mod Examples

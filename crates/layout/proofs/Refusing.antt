@@ -8,7 +8,8 @@ use lib.ListN.{length, getD}
 use lib.Seq.{ext-getD}
 use borrow.Author.Tests.{eqb-true, eq-eqb, ne-eqb}
 use Rattle.rules.specs.Basics.{firstOf}
-use Rattle.rules.specs.Calls.{settings, State, opening, fresh}
+use Rattle.rules.specs.Site.{State}
+use Rattle.rules.specs.Calls.{opening, fresh, least}
 use Rattle.rules.specs.Valid.{ValidState}
 use Rattle.rules.proofs.Ranges.{and-left, and-right, fails}
 use Rattle.rules.proofs.Validity.{opening-valid}
@@ -17,7 +18,7 @@ use Rattle.layout.specs.Image.{imageOf}
 use Rattle.layout.specs.Validity.{isValid}
 use Rattle.layout.specs.Reading.{stateIn, sized, checked, samePlace, same, isOf, restoreRows, restoreRefusal, restoring}
 use Rattle.layout.specs.Blocks.{differing}
-use Rattle.layout.specs.Saving.{saving}
+use Rattle.layout.specs.Saving.{saveRefusal, saving}
 use Rattle.layout.proofs.Listing.{every-at}
 use Rattle.layout.proofs.Imaging.{image-length}
 use Rattle.layout.proofs.Validity.{valid-by-test}
@@ -32,16 +33,28 @@ same-equal xs ys p q e =
 
 module _ (s : State) (previous list : List ℕ) where
   pub saving-written :
-      length previous ≡ 4608
+      length (s .feeders) ≡ 1
+      → length previous ≡ 4608
       → length list ≡ 4608
       → saving s previous list ≡ record { refusal = 0; blocks = differing previous (imageOf s); image = imageOf s }
-  unfolding saving
-  saving-written h l = rw (eq-eqb (length previous) 4608 h, eq-eqb (length list) 4608 l)
+  unfolding saveRefusal saving
+  saving-written one h l =
+      rw (eq-eqb (length previous) 4608 h, eq-eqb (length list) 4608 l, eq-eqb (length (s .feeders)) 1 one)
 
-  -- either list of another size
+  -- "saving several feeders"
+  pub saving-several :
+      (length (s .feeders) ≡ 1 → ⊥)
+      → length previous ≡ 4608
+      → length list ≡ 4608
+      → saving s previous list ≡ record { refusal = 22; blocks = 0; image = list }
+  unfolding saveRefusal saving
+  saving-several n h l =
+      rw (eq-eqb (length previous) 4608 h, eq-eqb (length list) 4608 l, ne-eqb (length (s .feeders)) 1 n)
+
+  -- either list of another size, and then it does not matter how many feeders there are
   pub saving-refused :
       (length previous ≡ 4608 → length list ≡ 4608 → ⊥) → saving s previous list ≡ record { refusal = 20; blocks = 0; image = list }
-  unfolding saving
+  unfolding saveRefusal saving
   saving-refused n = rw (fails (sized previous && sized list) (λ e. n (size previous (and-left _ (sized list) e)) (size list (and-right (sized previous) _ e))))
     where
       size : (xs : List ℕ) → sized xs ≡ true → length xs ≡ 4608
@@ -73,6 +86,7 @@ module _ (xs : List ℕ) where
   pub record Accepted : Type 0 where
     pub size : length xs ≡ 4608
     pub checks : every (checked xs) 9 ≡ true
+    pub one : length (stateIn xs .feeders) ≡ 1
     pub valid : ValidState (stateIn xs)
     pub saved : imageOf (stateIn xs) ≡ xs
 
@@ -92,6 +106,11 @@ module _ (xs : List ℕ) where
   unfolding isOf
   is-of-parts s e = (and-left (isValid s) (same xs (imageOf s)) e, and-right (isValid s) (same xs (imageOf s)) e)
 
+  -- an image is of one feeder
+  pub one-read : length (stateIn xs .feeders) ≡ 1
+  unfolding stateIn
+  one-read = refl
+
   pub accepted : restoreRefusal xs ≡ 0 → Accepted
   accepted e =
       let p = passed e in
@@ -100,7 +119,8 @@ module _ (xs : List ℕ) where
       record {
         size = l;
         checks = p .1;
-        valid = valid-by-test (stateIn xs) (c .0);
+        one = one-read;
+        valid = valid-by-test (stateIn xs) one-read (c .0);
         saved = sym (same-equal xs (imageOf (stateIn xs)) l (image-length (stateIn xs)) (c .1));
       }
 
@@ -109,9 +129,9 @@ module _ (xs : List ℕ) where
   pub accepted-state : restoreRefusal xs ≡ 0 → restoring xs .state ≡ stateIn xs
   accepted-state e = rw e
 
-  pub refused-state : (restoreRefusal xs ≡ 0 → ⊥) → restoring xs .state ≡ fresh (settings 1 100 0)
+  pub refused-state : (restoreRefusal xs ≡ 0 → ⊥) → restoring xs .state ≡ fresh least
   refused-state n = rw (ne-eqb (restoreRefusal xs) 0 n)
 
-pub fresh-valid : ValidState (fresh (settings 1 100 0))
+pub fresh-valid : ValidState (fresh least)
 unfolding opening
-fresh-valid = opening-valid (settings 1 100 0)
+fresh-valid = opening-valid least

@@ -8,7 +8,8 @@ use native.Mathlib.Omega.{arith}
 use lib.Dec.{eqb}
 use lib.ListN.{length}
 use borrow.Author.Tests.{ne-eqb}
-use Rattle.rules.specs.Calls.{State, settings, fresh}
+use Rattle.rules.specs.Site.{State}
+use Rattle.rules.specs.Calls.{fresh, least}
 use Rattle.rules.specs.Valid.{ValidState}
 use Rattle.rules.proofs.Ranges.{and-both, fails}
 use Rattle.layout.specs.Lists.{every}
@@ -23,25 +24,25 @@ use Rattle.layout.proofs.ReadBack.{state-back}
 
 -- Saved, then restored
 
-image-is-of : (s : State) → ValidState s → isOf (imageOf s) s ≡ true
-unfolding isOf
-image-is-of s v = and-both (isValid s) (same (imageOf s) (imageOf s)) (test-of-valid s v) (same-self (imageOf s))
+module _ (s : State) (one : length (s .feeders) ≡ 1) (v : ValidState s) where
+  image-is-of : isOf (imageOf s) s ≡ true
+  unfolding isOf
+  image-is-of = and-both (isValid s) (same (imageOf s) (imageOf s)) (test-of-valid s one v) (same-self (imageOf s))
 
-pub image-accepted : (s : State) → ValidState s → restoreRefusal (imageOf s) ≡ 0
-image-accepted s v =
-    not-refused (imageOf s) (image-length s) (all-checked s) (ap (isOf (imageOf s)) (state-back s v) ∙ image-is-of s v)
+  pub image-accepted : restoreRefusal (imageOf s) ≡ 0
+  image-accepted =
+      not-refused (imageOf s) (image-length s) (all-checked s) (ap (isOf (imageOf s)) (state-back s one v) ∙ image-is-of)
 
--- "Saving and restoring give the same station"
-pub restored-saved : (s : State) → ValidState s → restoring (imageOf s) ≡ record { refusal = 0; state = s }
-restored-saved s v = rw (image-accepted s v, state-back s v)
+  -- "Saving and restoring give the same station"
+  pub restored-saved : restoring (imageOf s) ≡ record { refusal = 0; state = s }
+  restored-saved = rw (image-accepted, state-back s one v)
 
-pub saved-restored :
-    (s : State) (previous list : List ℕ)
-    → ValidState s
-    → length previous ≡ 4608
-    → length list ≡ 4608
-    → restoring (saving s previous list .image) ≡ record { refusal = 0; state = s }
-saved-restored s previous list v h l = rw (saving-written s previous list h l) (restored-saved s v)
+  pub saved-restored :
+      (previous list : List ℕ)
+      → length previous ≡ 4608
+      → length list ≡ 4608
+      → restoring (saving s previous list .image) ≡ record { refusal = 0; state = s }
+  saved-restored previous list h l = rw (saving-written s previous list one h l) restored-saved
 
 -- Restored, then saved
 
@@ -49,21 +50,26 @@ saved-restored s previous list v h l = rw (saving-written s previous list h l) (
 pub accepted-saves : (xs : List ℕ) → restoring xs .refusal ≡ 0 → imageOf (restoring xs .state) ≡ xs
 accepted-saves xs e = ap imageOf (accepted-state xs e) ∙ accepted xs e .saved
 
--- What restoring gives is valid, whatever the list: calls may follow.
-pub restoring-valid : (xs : List ℕ) → ValidState (restoring xs .state)
-restoring-valid xs = go (restoreRefusal xs) (λ e. accepted xs e .valid)
-  where
-    go :
-        (n : ℕ)
-        → (n ≡ 0 → ValidState (stateIn xs))
-        → ValidState (cond (eqb n 0) (stateIn xs) (fresh (settings 1 100 0)))
-    go zero f = f refl
-    go (suc n) f = rw (ne-eqb (suc n) 0 (λ e. omega arith)) fresh-valid
+-- What restoring gives is valid, whatever the list: calls may follow. It has one feeder.
+module _ (xs : List ℕ) where
+  either : (P : State → Type 0) → (restoreRefusal xs ≡ 0 → P (stateIn xs)) → P (fresh least) → P (restoring xs .state)
+  either P a b = go (restoreRefusal xs) a
+    where
+      go : (n : ℕ) → (n ≡ 0 → P (stateIn xs)) → P (cond (eqb n 0) (stateIn xs) (fresh least))
+      go zero f = f refl
+      go (suc n) f = rw (ne-eqb (suc n) 0 (λ e. omega arith)) b
 
--- Exactly the images of valid stations
+  pub restoring-valid : ValidState (restoring xs .state)
+  restoring-valid = either ValidState (λ e. accepted xs e .valid) fresh-valid
+
+  pub restoring-one : length (restoring xs .state .feeders) ≡ 1
+  restoring-one = either (λ s. length (s .feeders) ≡ 1) (λ e. accepted xs e .one) refl
+
+-- Exactly the images of valid stations of one feeder
 
 pub record ImageOfValid (xs : List ℕ) : Type 0 where
   pub station : State
+  pub one : length (station .feeders) ≡ 1
   pub valid : ValidState station
   pub is-image : xs ≡ imageOf station
 
@@ -71,8 +77,8 @@ pub record ImageOfValid (xs : List ℕ) : Type 0 where
 pub accepted-exactly :
     (xs : List ℕ) → (restoring xs .refusal ≡ 0 → ImageOfValid xs) × (ImageOfValid xs → restoring xs .refusal ≡ 0)
 accepted-exactly xs = (
-  (λ e. record { station = stateIn xs; valid = accepted xs e .valid; is-image = sym (accepted xs e .saved) }),
-  (λ i. ap restoreRefusal (i .is-image) ∙ image-accepted (i .station) (i .valid)),
+  (λ e. record { station = stateIn xs; one = accepted xs e .one; valid = accepted xs e .valid; is-image = sym (accepted xs e .saved) }),
+  (λ i. ap restoreRefusal (i .is-image) ∙ image-accepted (i .station) (i .one) (i .valid)),
 )
 
 -- "22, contents": every other image of the right size with right checks, so one byte of "all else" that is not zero too
@@ -83,5 +89,12 @@ others-refused xs l c n =
     (fails (isOf xs (stateIn xs)) (λ e. n (accepted-exactly xs .0 (not-refused xs l c e))))
 
 -- two valid stations with the same image are one
-pub image-determines : (s t : State) → ValidState s → ValidState t → imageOf s ≡ imageOf t → s ≡ t
-image-determines s t v w e = sym (state-back s v) ∙ ap stateIn e ∙ state-back t w
+pub image-determines :
+    (s t : State)
+    → length (s .feeders) ≡ 1
+    → length (t .feeders) ≡ 1
+    → ValidState s
+    → ValidState t
+    → imageOf s ≡ imageOf t
+    → s ≡ t
+image-determines s t p q v w e = sym (state-back s p v) ∙ ap stateIn e ∙ state-back t q w

@@ -4,8 +4,9 @@ use mathlib.Core.Bool.{Bool, true, false}
 use mathlib.Core.List.{List, [], _∷_, _++_}
 use Rattle.rules.specs.Basics.{tabulate}
 use Rattle.rules.specs.Charge.{Charge}
-use Rattle.rules.specs.Calls.{State, boundOf, settings, fresh}
-use Rattle.layout.specs.CasesOfImages.{charge, station}
+use Rattle.rules.specs.Site.{State}
+use Rattle.rules.specs.Calls.{fresh, least}
+use Rattle.layout.specs.CasesOfImages.{charge, stationWith, station, under}
 
 -- a station of N 2 and c 50 at minute 300 with next ticket 261 that holds one charge
 abbrev pub holdingOne : Charge → State
@@ -16,18 +17,9 @@ holdingTwo c d = station 2 50 300 261 (c ∷ d ∷ [])
 
 -- a station with r that holds nothing
 abbrev pub empty : ℕ → ℕ → ℕ → ℕ → ℕ → State
-empty limit percent tail clock next =
-    record {
-      limit = limit;
-      percent = percent;
-      bound = boundOf limit percent;
-      tail = tail;
-      clock = clock;
-      next = next;
-      charges = [];
-    }
+empty limit percent tail clock next = stationWith limit percent tail clock next []
 
--- fields in range, and refusal 3: 1 × 50 / 100 is rounded to 0, 1 × 51 / 100 to 1
+-- fields in range, W 1 to 720, and refusal 3: 1 × 50 / 100 is rounded to 0, 1 × 51 / 100 to 1
 abbrev pub casesOfSettings : List (State × Bool)
 casesOfSettings =
     (empty 1 51 0 0 1, true)
@@ -40,6 +32,10 @@ casesOfSettings =
     ∷ (empty 2 50 0 0 0, false)
     ∷ (empty 2 50 0 0 65537, false)
     ∷ (empty 1 50 0 0 1, false)
+    ∷ (under 0 (empty 2 50 0 0 1), false)
+    ∷ (under 1 (empty 2 50 0 0 1), true)
+    ∷ (under 720 (empty 2 50 0 0 1), true)
+    ∷ (under 721 (empty 2 50 0 0 1), false)
     -- 181 charges, and nothing else wrong
     ∷ (station 60 100 300 261 (tabulate (λ i. charge i (300 + 4 * (i / 100)) 0 0 1 (1 + i % 3) 1) 181 1), false)
     ∷ []
@@ -57,6 +53,9 @@ casesOfFields =
     ∷ (station 2 50 300 261 (charge 1 300 0 0 1 1 2 ∷ charge 2 300 0 0 1 2 1 ∷ charge 3 300 0 0 1 3 1 ∷ []), false)
     ∷ (station 2 100 300 261 (charge 1 300 0 0 1 1 2 ∷ []), true)
     ∷ (station 3 100 300 261 (charge 1 300 0 0 1 1 3 ∷ []), false)
+    -- a rate above W
+    ∷ (under 2 (station 2 100 300 261 (charge 1 300 0 0 1 1 2 ∷ [])), true)
+    ∷ (under 1 (station 2 100 300 261 (charge 1 300 0 0 1 1 2 ∷ [])), false)
     ∷ []
 
 -- "tickets, the next one last, are 1 or more and rise"
@@ -100,7 +99,7 @@ fourHeld time =
 -- unless the last ends early.
 abbrev pub casesOfPlans : List (State × Bool)
 casesOfPlans =
-    (fresh (settings 1 100 0), true)
+    (fresh least, true)
     ∷ (holdingTwo (charge 1 302 0 0 5 1 1) (charge 2 310 0 0 5 1 1), true)
     ∷ (holdingTwo (charge 1 302 0 0 5 1 1) (charge 2 309 0 0 5 1 1), false)
     ∷ (station 2 50 300 261 (fourHeld 8), true)
@@ -108,5 +107,14 @@ casesOfPlans =
     ∷ (holdingTwo (charge 7 300 0 0 1 1 1) (charge 7 300 0 0 1 2 1), false)
     ∷ []
 
-abbrev pub casesOfValidity : List (State × Bool)
-casesOfValidity = casesOfSettings ++ casesOfPlans
+-- "W .. exceeded": in the last minute of a tail, by all lines together, by rates
+abbrev pub casesOfSites : List (State × Bool)
+casesOfSites =
+    (under 1 (holdingTwo (charge 1 302 0 0 5 1 1) (charge 2 310 0 0 5 2 1)), true)
+    ∷ (under 1 (holdingTwo (charge 1 302 0 0 5 1 1) (charge 2 309 0 0 5 2 1)), false)
+    ∷ (under 2 (holdingTwo (charge 1 302 0 0 5 1 1) (charge 2 309 0 0 5 2 1)), true)
+    ∷ (under 4 (station 2 50 300 261 (fourHeld 8)), true)
+    ∷ (under 3 (station 2 50 300 261 (fourHeld 8)), false)
+    ∷ (under 4 (station 2 100 300 261 (charge 1 300 0 0 1 1 2 ∷ charge 2 300 0 0 1 2 2 ∷ [])), true)
+    ∷ (under 3 (station 2 100 300 261 (charge 1 300 0 0 1 1 2 ∷ charge 2 300 0 0 1 2 2 ∷ [])), false)
+    ∷ []

@@ -5,7 +5,7 @@ use mathlib.Core.List.{List, [], _∷_}
 use lib.Dec.{ltb, eqb}
 use lib.ListN.{length, getD}
 use Rattle.rules.specs.Charge.{Charge}
-use Rattle.rules.specs.Calls.{State}
+use Rattle.rules.specs.Site.{Feeder, State, feederOf}
 use Rattle.layout.specs.Lists.{listed}
 use Rattle.layout.specs.Bytes.{byteOf, packed}
 use Rattle.layout.specs.Arrangement.{perBlock, recordOf, byteIn}
@@ -24,14 +24,19 @@ noCharge =
       rate = 0;
     }
 
+-- "Save, restore and the bus serve a site of one feeder": this one. A site of several feeders is not saved (Saving.antt).
+abbrev pub only : State → Feeder
+only s = feederOf s 1
+
 -- charge q of the charges held, which stand "in ticket order"
 abbrev pub heldAt : State → ℕ → Charge
-heldAt s q = getD (s .charges) q noCharge
+heldAt s q = getD (only s .charges) q noCharge
 
--- "Block 0 holds, in 32 bits each, N, c, r, clock, next ticket and number held."
+-- "Block 0 holds, in 32 bits each, N, c, r, clock, next ticket and number held.", and "block 0 gains W (32 bits) last"
 abbrev pub headerOf : State → List (ℕ × ℕ)
 headerOf s =
-    (4, s .limit) ∷ (4, s .percent) ∷ (4, s .tail) ∷ (4, s .clock) ∷ (4, s .next) ∷ (4, length (s .charges)) ∷ []
+    (4, only s .limit) ∷ (4, only s .percent) ∷ (4, only s .tail) ∷ (4, s .clock) ∷ (4, s .next)
+    ∷ (4, length (only s .charges)) ∷ (4, s .site) ∷ []
 
 -- a record: "ticket, start, d, order minute (32 bits each), p (16), line (8), rate (8)"
 abbrev pub fieldsOf : Charge → List (ℕ × ℕ)
@@ -40,7 +45,7 @@ fieldsOf c =
 
 -- byte j of record q
 unfoldable pub recordByte : State → ℕ → ℕ → ℕ
-recordByte s q j = cond (ltb q (length (s .charges))) (packed (fieldsOf (heldAt s q)) j) 0
+recordByte s q j = cond (ltb q (length (only s .charges))) (packed (fieldsOf (heldAt s q)) j) 0
 
 -- the byte of the records with number z
 unfoldable pub numbered : State → ℕ → ℕ

@@ -6,7 +6,8 @@ use lib.Dec.{eqb}
 use lib.ListN.{length, getD}
 use Rattle.rules.specs.Basics.{tabulate, firstOf}
 use Rattle.rules.specs.Charge.{Charge}
-use Rattle.rules.specs.Calls.{State, boundOf, settings, fresh}
+use Rattle.rules.specs.Site.{Feeder, State}
+use Rattle.rules.specs.Calls.{boundOf, fresh, least}
 use Rattle.layout.specs.Lists.{every}
 use Rattle.layout.specs.Bytes.{numberAt}
 use Rattle.layout.specs.Arrangement.{numberOf, placeOf}
@@ -43,17 +44,25 @@ chargeIn image q =
       rate = fieldAt image 19 1 q;
     }
 
--- the station that an image would be of
-unfoldable pub stateIn : List ℕ → State
-stateIn image =
+-- the feeder that an image would be of
+abbrev pub feederIn : List ℕ → Feeder
+feederIn image =
     record {
       limit = headerAt image 0;
       percent = headerAt image 4;
       bound = boundOf (headerAt image 0) (headerAt image 4);
       tail = headerAt image 8;
+      charges = tabulate (chargeIn image) (headerAt image 20) 0;
+    }
+
+-- the station that an image would be of: "a site of one feeder"
+unfoldable pub stateIn : List ℕ → State
+stateIn image =
+    record {
+      feeders = feederIn image ∷ [];
+      site = headerAt image 24;
       clock = headerAt image 12;
       next = headerAt image 16;
-      charges = tabulate (chargeIn image) (headerAt image 20) 0;
     }
 
 abbrev pub sized : List ℕ → Bool
@@ -89,10 +98,10 @@ pub record RestoreResult : Type 0 where
   pub refusal : ℕ
   pub state : State
 
--- "Beside a refused restore stands the fresh station of 1, 100 and r = 0."
+-- "Beside a refused restore stands the fresh station of 1, 100 and r = 0": "one feeder and W 720".
 abbrev pub restoring : List ℕ → RestoreResult
 restoring image =
     record {
       refusal = restoreRefusal image;
-      state = cond (eqb (restoreRefusal image) 0) (stateIn image) (fresh (settings 1 100 0));
+      state = cond (eqb (restoreRefusal image) 0) (stateIn image) (fresh least);
     }

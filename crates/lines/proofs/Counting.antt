@@ -1,14 +1,16 @@
 -- The rounds of replan by lines: what one more does, and the loop over them.
 use mathlib.Core.Path.{_≡_, refl, _∙_}
 use Prim.Native.Nat.{ℕ, zero, suc, _+_, _-_, _≤_, _<_}
+use mathlib.Core.List.{List}
 use native.Mathlib.Omega.{arith}
 use native.Mathlib.Numerals.{add-one}
+use lib.ListN.{length}
 use Rattle.rules.specs.Search.{Caps}
-use Rattle.rules.specs.Load.{limits}
 use Rattle.rules.specs.Replan.{Proposal, none, Outcome, ends, lowers, lowered, round, Replanned, roundsFrom, byLines}
 use Rattle.rules.proofs.Rounds.{lowered-at-least}
 use Rattle.charges.specs.declared.Charges.{Charges}
 use Rattle.charges.specs.Arrays.{chargeAt, chargesOf, Filled}
+use Rattle.charges.specs.declared.places.Places.{Places}
 use Rattle.search.specs.declared.caps.LineCaps.{LineCaps}
 use Rattle.search.specs.Caps.{CapsShown, CapLowered}
 use Rattle.search.proofs.Lowerings.{lowered-shows}
@@ -16,9 +18,10 @@ use Rattle.lines.specs.declared.rounds.Outcome.the-variants.{Ends, Lower
 use Rattle.planner.specs.declared.Proposed.{Proposed}
 use Rattle.lines.specs.declared.rounds.Round.{Round}
 use Rattle.planner.specs.Starts.{waitingCount}
-use Rattle.planner.specs.Ready.{Ready}
-use Rattle.lines.specs.Lines.{Capped}
+use Rattle.planner.specs.Ready.{Around, termsOf, Spacious, Others, Ready}
+use Rattle.lines.specs.Lines.{InOrder, Capped, CanPlace}
 use Rattle.planner.specs.Answers.{proposalOf}
+use Rattle.planner.proofs.StandingLoads.{spacious-room}
 use Rattle.lines.specs.Rounds.{Plays, Replans}
 
 abbrev pub replanned : Proposal → ℕ → Replanned
@@ -44,50 +47,69 @@ module _ (play : Caps → Outcome) (made : ℕ) (cap : Caps) where
 
 -- What is left of the rounds, from the caps as they stand, is the whole
 
-pub record Rounds (limit bound clock allowance : ℕ) (c : Charges) (caps : LineCaps) (made : ℕ) : Type 0 where
+pub record Rounds (b : Around) (allowance : ℕ) (c : Charges) (caps : LineCaps) (made : ℕ) : Type 0 where
   pub cap : Caps
   pub shown : CapsShown caps cap
   pub enough : (i : ℕ) → i < c .held → (l t : ℕ) → chargeAt c i .rate ≤ cap l t
   pub whole :
-      byLines (limits limit bound) clock allowance (chargesOf c)
-      ≡ roundsFrom (round (limits limit bound) clock (chargesOf c)) (allowance - made) made cap
+      byLines (termsOf b) (b .clock) allowance (chargesOf c)
+      ≡ roundsFrom (round (termsOf b) (b .clock) (chargesOf c)) (allowance - made) made cap
 
 pub rounds-capped :
-    {limit bound clock allowance : ℕ} {c : Charges} {caps : LineCaps} {made : ℕ}
-    → Rounds limit bound clock allowance c caps made
+    {b : Around} {allowance : ℕ} {c : Charges} {caps : LineCaps} {made : ℕ}
+    → Rounds b allowance c caps made
     → Capped c caps
 rounds-capped v = record { cap = v .cap; shown = v .shown; enough = v .enough }
 
+-- the next round can be made, in lists with as many places
+pub rounds-can :
+    {b : Around} {allowance : ℕ} {c : Charges} {caps : LineCaps} {made size : ℕ} {queue : Places} {ats counts : List ℕ}
+    → Rounds b allowance c caps made
+    → Spacious b ats counts
+    → Others b
+    → Ready b c
+    → InOrder (b .clock) c queue
+    → size ≡ length ats
+    → CanPlace size b c queue caps
+rounds-can v space o r q e =
+    record {
+      ready = r;
+      others-end = o .end-most;
+      room = omega (arith, spacious-room space, e);
+      in-order = q;
+      capped = rounds-capped v;
+    }
+
 pub rounds-start :
-    {limit bound clock : ℕ} {c : Charges} {caps : LineCaps} {made : ℕ} (allowance : ℕ)
-    → Ready clock limit bound c
-    → CapsShown caps (λ l t. limit)
+    {b : Around} {c : Charges} {caps : LineCaps} {made : ℕ} (allowance : ℕ)
+    → Ready b c
+    → CapsShown caps (λ l t. b .limits .limit)
     → made ≡ 1
-    → Rounds limit bound clock allowance c caps made
+    → Rounds b allowance c caps made
 unfolding byLines
 rounds-start allowance r s e = rw e record { cap = _; shown = s; enough = λ i h l t. r .within-limit i h; whole = refl }
 
-module _ {limit bound clock allowance : ℕ} {c : Charges} {caps : LineCaps} {made : ℕ} (v : Rounds limit bound clock allowance c caps made)
-    {r : Round} (h : Plays limit bound clock c caps r) where
+module _ {b : Around} {allowance : ℕ} {c : Charges} {caps : LineCaps} {made : ℕ} (v : Rounds b allowance c caps made)
+    {r : Round} (h : Plays b c caps r) where
   pub rounds-done :
       {rounds : ℕ}
       → r .outcome ≡ Ends
       → rounds ≡ made
-      → Replans clock c (byLines (limits limit bound) clock allowance (chargesOf c))
+      → Replans (b .clock) c (byLines (termsOf b) (b .clock) allowance (chargesOf c))
       (record { proposed = r .proposed; rounds = rounds })
   rounds-done e total =
       rw total
       record {
         same =
             v .whole
-            ∙ rounds-end (round (limits limit bound) clock (chargesOf c)) made (v .cap) (allowance - made)
-            (proposalOf (waitingCount clock c) (r .proposed))
+            ∙ rounds-end (round (termsOf b) (b .clock) (chargesOf c)) made (v .cap) (allowance - made)
+            (proposalOf (waitingCount (b .clock) c) (r .proposed))
             (h .same (v .cap) (v .shown) ∙ rw e);
         filled = h .filled;
       }
 
   module _ {i t x : ℕ} (e : r .outcome ≡ Lowers i t x) where
-    pub lowers-fit : (t < 4294967295) × (bound ≤ x)
+    pub lowers-fit : (t < 4294967295) × (b .limits .bound ≤ x)
     lowers-fit = rw e at (h .fits)
 
     pub rounds-spent :
@@ -96,7 +118,7 @@ module _ {limit bound clock allowance : ℕ} {c : Charges} {caps : LineCaps} {ma
         → p .cause ≡ 2
         → Filled 0 (p .starts)
         → rounds ≡ made
-        → Replans clock c (byLines (limits limit bound) clock allowance (chargesOf c)) (record { proposed = p; rounds = rounds })
+        → Replans (b .clock) c (byLines (termsOf b) (b .clock) allowance (chargesOf c)) (record { proposed = p; rounds = rounds })
     rounds-spent {p} l k zeros total =
         let none-left : allowance - made ≡ 0 = omega arith in
         rw total
@@ -104,20 +126,20 @@ module _ {limit bound clock allowance : ℕ} {c : Charges} {caps : LineCaps} {ma
           same =
               v .whole
               ∙ rw (none-left, k)
-              (rounds-over (round (limits limit bound) clock (chargesOf c)) made (v .cap) i t x
+              (rounds-over (round (termsOf b) (b .clock) (chargesOf c)) made (v .cap) i t x
               (h .same (v .cap) (v .shown) ∙ rw e));
           filled = rw k zeros;
         }
 
     pub rounds-next :
         {next : LineCaps} {line minute cap : ℕ}
-        → Ready clock limit bound c
+        → Ready b c
         → made < allowance
         → CapLowered caps next line minute cap
         → line ≡ i
         → minute ≡ t
         → cap ≡ x
-        → Rounds limit bound clock allowance c next (made + 1)
+        → Rounds b allowance c next (made + 1)
     rounds-next {next} ready l low same-line same-minute same-cap =
         let more : allowance - made ≡ suc (allowance - (made + 1)) = omega arith in
         record {
@@ -129,6 +151,6 @@ module _ {limit bound clock allowance : ℕ} {c : Charges} {caps : LineCaps} {ma
           whole =
               v .whole
               ∙ rw (more, add-one made)
-              (rounds-on (round (limits limit bound) clock (chargesOf c)) made (v .cap) (allowance - suc made) i t x
+              (rounds-on (round (termsOf b) (b .clock) (chargesOf c)) made (v .cap) (allowance - suc made) i t x
               (h .same (v .cap) (v .shown) ∙ rw e));
         }

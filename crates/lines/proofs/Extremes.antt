@@ -17,8 +17,8 @@ pub smallest-alike : (f g : ℕ → ℕ) → ((l : ℕ) → IsLine l → f l ≡
 smallest-alike f g e =
     sym (smallest-same f refl refl refl) ∙ smallest-same g (e 1 line-one) (e 2 line-two) (e 3 line-three)
 
-pub largest-is : {i : ℕ} (a b c : ℕ) → i ≡ largestLine (ofLines a b c) → IsLine i
-largest-is a b c e = rw e (largest-line (ofLines a b c) .line)
+pub largest-is : {i : ℕ} (a b c : ℕ) → i ≡ largestLine (ofLines a b c 0) → IsLine i
+largest-is a b c e = rw e (largest-line (ofLines a b c 0) .line)
 
-pub smallest-is : {i : ℕ} (a b c : ℕ) → i ≡ smallestLine (ofLines a b c) → IsLine i
-smallest-is a b c e = rw e (smallest-line (ofLines a b c) .line)
+pub smallest-is : {i : ℕ} (a b c : ℕ) → i ≡ smallestLine (ofLines a b c 0) → IsLine i
+smallest-is a b c e = rw e (smallest-line (ofLines a b c 0) .line)

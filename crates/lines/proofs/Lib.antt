@@ -13,5 +13,6 @@ pub mod Following
 pub mod Continuing
 pub mod Turns
 pub mod Ending
+pub mod Copying
 pub mod Asking
 pub mod Playing

@@ -8,8 +8,7 @@ use native.Mathlib.Omega.{arith}
 use borrow.Author.Tests.{le-leb}
 use Rattle.rules.specs.Basics.{runOf}
 use Rattle.rules.proofs.Ranges.{below-or-not}
-use Rattle.profile.specs.declared.Profile.{Profile}
-use Rattle.profile.specs.Shows.{firstMinute, lastMinute}
+use Rattle.profile.specs.Shows.{Profile, firstMinute, lastMinute}
 use Rattle.search.specs.declared.caps.LineCaps.{LineCaps}
 use Rattle.search.specs.Caps.{roomUnder, CanRun}
 use Rattle.priority.specs.declared.crowd.Crowd.{Crowd}
@@ -38,8 +37,8 @@ times-bound t =
       shortest-low = t .shortest-low;
     }
 
-module _ {p : Profile} {c : LineCaps} {line : ℕ} {q : Numbers} {left : List ℕ} {n : ℕ} {k : Crowd} {from : ℕ}
-    (can : CanNext p c line q left n k from) where
+module _ {p : Profile} {site : ℕ} {c : LineCaps} {line : ℕ} {q : Numbers} {left : List ℕ} {n : ℕ} {k : Crowd} {from : ℕ}
+    (can : CanNext p site c line q left n k from) where
   runs : (most s : ℕ) → most ≤ 1445 → firstMinute p ≤ s → s + 1445 < 2 ^ 32 → CanRun p c line most s
   runs most s h low fit =
       record { formed = can .can-start .formed; whole = can .whole; on-line = can .on-line; low = low; ends-fit = omega arith }
@@ -60,8 +59,8 @@ module _ {p : Profile} {c : LineCaps} {line : ℕ} {q : Numbers} {left : List �
   can-here = choose-at (can .bounds) (can .can-choose) (can .low) (can .from-fits)
 
   pub next-here :
-      {r : ℕ} → ChosenAt p c line q left n k from r → r < n
-      → NextIs p c line q left n k from (record { start = from; place = r; crowd = k })
+      {r : ℕ} → ChosenAt p site c line q left n k from r → r < n
+      → NextIs p site c line q left n k from (record { start = from; place = r; crowd = k })
   next-here h l =
       record {
         inside = l;
@@ -87,7 +86,7 @@ module _ {p : Profile} {c : LineCaps} {line : ℕ} {q : Numbers} {left : List �
     present =
         ⊎-elim (λ e. inl (w .times .one .each 0 (can .some) e .0)) (λ e. inr (w .times .two .each 0 (can .some) e .0)) (rate-of can 0 (can .some))
 
-    pub there-range : {start : ℕ} → NextStart p c line d from start → (firstMinute p ≤ start) × (start ≤ lastMinute p)
+    pub there-range : {start : ℕ} → NextStart p site c line d from start → (firstMinute p ≤ start) × (start ≤ lastMinute p)
     there-range {start} m = go (below-or-not 0 one) (below-or-not 0 two)
       where
         go : (1 ≤ one) ⊎ (one ≤ 0) → (1 ≤ two) ⊎ (two ≤ 0) → (firstMinute p ≤ start) × (start ≤ lastMinute p)
@@ -116,13 +115,13 @@ module _ {p : Profile} {c : LineCaps} {line : ℕ} {q : Numbers} {left : List �
           in-order = can .can-choose .in-order;
         })
 
-    module _ {start : ℕ} (m : NextStart p c line d from start) where
+    module _ {start : ℕ} (m : NextStart p site c line d from start) where
       range : (firstMinute p ≤ start) × (start ≤ lastMinute p)
       range = there-range m
 
       found-there :
-          {place : ℕ} → ChosenAt p c line q left n d start place
-          → NextIs p c line q left n k from (record { start = start; place = place; crowd = d })
+          {place : ℕ} → ChosenAt p site c line q left n d start place
+          → NextIs p site c line q left n k from (record { start = start; place = place; crowd = d })
       found-there {place} h =
           record {
             inside = ⊎-elim (λ l. l) (λ l. absurd (found l)) (below-or-not place n);
@@ -140,10 +139,10 @@ module _ {p : Profile} {c : LineCaps} {line : ℕ} {q : Numbers} {left : List �
           }
         where
           run-one : ℕ
-          run-one = runOf (roomUnder p c line 1) (d .one .longest) start
+          run-one = runOf (roomUnder p site c line 1) (d .one .longest) start
 
           run-two : ℕ
-          run-two = runOf (roomUnder p c line 2) (d .two .longest) start
+          run-two = runOf (roomUnder p site c line 2) (d .two .longest) start
 
           one-fits : 1 ≤ one → start ≡ m .first → n ≤ place → ⊥
           one-fits l f none =
@@ -175,8 +174,8 @@ module _ {p : Profile} {c : LineCaps} {line : ℕ} {q : Numbers} {left : List �
     -- the charge was chosen at that start
     pub next-there :
         {start s place : ℕ}
-        → NextStart p c line d from start
-        → ChosenAt p c line q left n d s place
+        → NextStart p site c line d from start
+        → ChosenAt p site c line q left n d s place
         → s ≡ start
-        → NextIs p c line q left n k from (record { start = start; place = place; crowd = d })
+        → NextIs p site c line q left n k from (record { start = start; place = place; crowd = d })
     next-there m h e = found-there m (rw e at h)

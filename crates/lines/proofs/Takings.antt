@@ -18,8 +18,7 @@ use Rattle.rules.proofs.Picking.{Among, front, behind, among-each, among-keep, 
 use Rattle.rules.proofs.Foremost.{foremost-first}
 use Rattle.charges.specs.declared.Charges.{Charges}
 use Rattle.charges.specs.Held.{Listed}
-use Rattle.profile.specs.declared.Profile.{Profile}
-use Rattle.profile.specs.Shows.{Shows}
+use Rattle.profile.specs.Shows.{Profile, ShowsIn}
 use Rattle.search.specs.declared.caps.LineCaps.{LineCaps}
 use Rattle.search.specs.Caps.{CapsShown, roomUnder}
 use Rattle.search.proofs.Unders.{run-shows, misses-fails}
@@ -55,17 +54,17 @@ picked-is :
 unfolding picked
 picked-is fits clock xs q left s z e f = rw (e, picked) (rw f)
 
-module _ {cap : Caps} {caps : LineCaps} {clock : ℕ} {c : Charges} {line : ℕ} {left : List ℕ} {n : ℕ} {p : Profile} {rest : List Charge}
+module _ {cap : Caps} {caps : LineCaps} {size site clock : ℕ} {c : Charges} {line : ℕ} {left : List ℕ} {n : ℕ} {p : Profile} {rest : List Charge}
     {q : code.Crowd} {from : ℕ} {next : Next} (own : Crowd) (loads : List Load) (h : Listed c) (on : IsLine line)
-    (shown : CapsShown caps cap) (shows : Shows p clock loads) (are : Left c line left n rest)
-    (r : NextIs p caps line (numbersOf c) left n q from next)
+    (shown : CapsShown caps cap) (shows : ShowsIn size p clock loads) (are : Left c line left n rest)
+    (r : NextIs p site caps line (numbersOf c) left n q from next)
     (number : next .crowd .number ≡ own .number) (total : next .crowd .total ≡ own .total)
-    (below : NoneBelow (fitsAt cap) clock loads rest from) (near : from ≤ max clock (lastUntil loads)) where
+    (below : NoneBelow (fitsAt site cap) clock loads rest from) (near : from ≤ max clock (lastUntil loads)) where
   abbrev s : ℕ
   s = next .start
 
   abbrev fits : ℕ → Charge → Bool
-  fits = fitsAt cap loads
+  fits = fitsAt site cap loads
 
   pub start-low : clock ≤ s
   start-low = omega (arith, r .low, shows .starts)
@@ -74,16 +73,16 @@ module _ {cap : Caps} {caps : LineCaps} {clock : ℕ} {c : Charges} {line : ℕ}
   start-near = omega (arith, r .high, near, shows .ends (p .steps - 1) (omega (arith, shows .formed .some)))
 
   -- a charge fits exactly when it is no longer than the run
-  fits-same : (j : ℕ) → j < n → fits s (leftAt c left j) ≡ fitsRun (numbersOf c) left (runOf (roomUnder p caps line 1) (next .crowd .one .longest) s) (runOf (roomUnder p caps line 2) (next .crowd .two .longest) s) j
+  fits-same : (j : ℕ) → j < n → fits s (leftAt c left j) ≡ fitsRun (numbersOf c) left (runOf (roomUnder p site caps line 1) (next .crowd .one .longest) s) (runOf (roomUnder p site caps line 2) (next .crowd .two .longest) s) j
   fits-same j b =
       rw (are .on-line j b)
       (⊎-elim
       (λ l.
       let e : 1 ≡ numberOf (c .rates) left j = omega (arith, h .small (getD left j 0) (are .inside j b) .is-rate .low) in
-      rw (← e) (run-shows on shows shown 1 (numberOf (c .«active_times») left j) (next .crowd .one .longest) s start-low (r .bounds .one j b e)))
+      rw (← e) (run-shows on shows shown site 1 (numberOf (c .«active_times») left j) (next .crowd .one .longest) s start-low (r .bounds .one j b e)))
       (λ l.
       let e : 2 ≡ numberOf (c .rates) left j = omega (arith, h .small (getD left j 0) (are .inside j b) .is-rate .high) in
-      rw (← e) (run-shows on shows shown 2 (numberOf (c .«active_times») left j) (next .crowd .two .longest) s start-low (r .bounds .two j b e)))
+      rw (← e) (run-shows on shows shown site 2 (numberOf (c .«active_times») left j) (next .crowd .two .longest) s start-low (r .bounds .two j b e)))
       (below-or-not (numberOf (c .rates) left j) 2))
 
   taken-fits : fits s (leftAt c left (next .place)) ≡ true
@@ -92,7 +91,7 @@ module _ {cap : Caps} {caps : LineCaps} {clock : ℕ} {c : Charges} {line : ℕ}
   some-fits : some (fits s) rest ≡ true
   some-fits = among-some (fits s) (are .to (next .place) (r .inside)) taken-fits
 
-  pub none-below : NoneBelow (fitsAt cap) clock loads rest s
+  pub none-below : NoneBelow (fitsAt site cap) clock loads rest s
   none-below u a b =
       ⊎-elim
       (λ l. below u a l)
@@ -102,12 +101,12 @@ module _ {cap : Caps} {caps : LineCaps} {clock : ℕ} {c : Charges} {line : ℕ}
       (λ x m.
       let w = are .from x m in
       rw (w .is, are .on-line (w .place) (w .inside))
-      (misses-fails on shows shown (numberOf (c .rates) left (w .place)) (numberOf (c .«active_times») left (w .place)) u a
+      (misses-fails on shows shown site (numberOf (c .rates) left (w .place)) (numberOf (c .«active_times») left (w .place)) u a
       (r .none u l b (w .place) (w .inside))))))
       (below-or-not u from)
 
-  first-is : firstFit (fitsAt cap) clock loads rest ≡ at s
-  first-is = first-fit-is (fitsAt cap) clock loads rest s start-low start-near some-fits none-below
+  first-is : firstFit (fitsAt site cap) clock loads rest ≡ at s
+  first-is = first-fit-is (fitsAt site cap) clock loads rest s start-low start-near some-fits none-below
 
   abbrev W : ℕ → ℕ
   W j = urgency own s (leftAt c left j)
@@ -165,5 +164,5 @@ module _ {cap : Caps} {caps : LineCaps} {clock : ℕ} {c : Charges} {line : ℕ}
           split (inr l) (inl m) = other (λ e. omega arith)
           split (inr l) (inr m) = let e : w .place ≡ next .place = omega arith in w .is ∙ ap (leftAt c left) e
 
-  pub next-picked : picked (fitsAt cap) clock loads own rest ≡ chosen (starting (leftAt c left (next .place)) s)
-  next-picked = picked-is (fitsAt cap) clock loads own rest s (leftAt c left (next .place)) first-is foremost-is
+  pub next-picked : picked (fitsAt site cap) clock loads own rest ≡ chosen (starting (leftAt c left (next .place)) s)
+  next-picked = picked-is (fitsAt site cap) clock loads own rest s (leftAt c left (next .place)) first-is foremost-is

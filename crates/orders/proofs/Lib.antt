@@ -1,5 +1,4 @@
 pub mod Parts
-pub mod Extending
 pub mod Windows
 pub mod Seeking
 pub mod Drawings

@@ -1,104 +1,98 @@
--- A window of a search for a start: the charges that begin before its end draw below it what all held ones do.
+-- A window of a search for a start: the loads that begin before its end draw below it what all do.
 use mathlib.Core.Path.{_≡_, refl, _∙_}
-use Prim.Native.Nat.{ℕ, _≤_, _<_}
+use Prim.Native.Nat.{ℕ, _+_, _*_, _≤_, _<_}
 use mathlib.Core.List.{List, [], _++_}
 use native.Mathlib.Omega.{arith}
 use lib.ListN.{length, length-append}
 use borrow.Author.Tests.{le-ltb}
-use Rattle.rules.specs.Load.{Load, IsLine, count, lastUntil}
-use Rattle.rules.specs.Charge.{loadsOf, isBegun, begunCharges}
-use Rattle.rules.specs.Calls.{isPassed}
-use Rattle.rules.proofs.Lists.{length-tabulate, keep-none, length-keep}
+use Rattle.rules.specs.Basics.{Each}
+use Rattle.rules.specs.Load.{Load, IsColumn, count, lastUntil}
+use Rattle.rules.proofs.Lists.{keep-none, length-keep, length-tabulate}
 use Rattle.rules.proofs.Counts.{count-append}
-use Rattle.rules.proofs.Ends.{until-kept}
-use Rattle.charges.specs.declared.Charges.{Charges}
-use Rattle.charges.specs.Arrays.{chargeAt, chargesOf}
-use Rattle.profile.specs.declared.Profile.{Profile}
-use Rattle.profile.specs.Shows.{levelOf, Shows}
-use Rattle.search.specs.declared.candidate.Limits.{Limits}
-use Rattle.search.specs.declared.candidate.Draw.{Draw}
-use Rattle.planner.proofs.Showing.{length-loads-of}
-use Rattle.orders.specs.Windows.{started, CanAddStarted, StartedAdded, CanOrder}
-use Rattle.orders.proofs.Parts.{count-in-two, length-in-two, count-begun, last-append}
+use Rattle.rules.proofs.Sites.{lastUntil-append}
+use Rattle.profile.specs.Shows.{Profile, levelOf, ShowsIn}
+use Rattle.charges.specs.Drawn.{loadIn, loadsIn}
+use Rattle.windows.specs.Windows.{startsIn, started, Drawable, RoomFor, CanAddStarted, StartedAdded}
+use Rattle.orders.specs.Asked.{Lent}
+use Rattle.orders.proofs.Parts.{isBefore, startedBefore, count-in-two, length-in-two, count-before, last-kept}
 
--- p shows, in some order, the held charges that begin before `until`
-pub record Window (charges : Charges) (clock until : ℕ) (p : Profile) : Type 0 where
+-- p shows, in some order, the loads that begin before `until`
+pub record Window (size : ℕ) (xs : List Load) (clock until : ℕ) (p : Profile) : Type 0 where
   pub loads : List Load
-  pub shows : Shows p clock loads
-  pub few : length loads ≡ length (begunCharges until (chargesOf charges))
-  pub last : lastUntil loads ≤ lastUntil (loadsOf (chargesOf charges))
-  pub alike : (l t : ℕ) → count loads l t ≡ count (loadsOf (begunCharges until (chargesOf charges))) l t
+  pub shows : ShowsIn size p clock loads
+  pub few : length loads ≡ length (startedBefore until xs)
+  pub last : lastUntil loads ≤ lastUntil xs
+  pub alike : (l t : ℕ) → count loads l t ≡ count (startedBefore until xs) l t
 
-pub window-none : (charges : Charges) (clock : ℕ) (p : Profile) → Shows p clock [] → Window charges clock 0 p
-window-none charges clock p h =
-    record {
-      loads = [];
-      shows = h;
-      few = rw none refl;
-      last = omega arith;
-      alike = λ l t. rw none refl;
-    }
-  where
-    none : begunCharges 0 (chargesOf charges) ≡ []
-    none = keep-none (isBegun 0) (λ c. le-ltb (c .start) 0 (omega arith)) (chargesOf charges)
+module _ {size : ℕ} {xs : List Load} {clock : ℕ} where
+  pub window-none : {p : Profile} → ShowsIn size p clock [] → Window size xs clock 0 p
+  window-none h =
+      record {
+        loads = [];
+        shows = h;
+        few = rw none refl;
+        last = omega arith;
+        alike = λ l t. rw none refl;
+      }
+    where
+      none : startedBefore 0 xs ≡ []
+      none = keep-none (isBefore 0) (λ x. le-ltb (x .from) 0 (omega arith)) xs
 
--- what `add_started` asks
-pub window-room :
-    {charges : Charges} {clock : ℕ} {y : Limits} {a : Draw} {p : Profile} {low high : ℕ}
-    → CanOrder charges clock y a → Window charges clock low p → low ≤ high → CanAddStarted p charges low high
-window-room {charges} {clock} {y} {a} {p} {low} {high} v w h =
-    record {
-      held = v .few;
-      ends = v .ends;
-      rated = v .rated;
-      room =
-          record {
-            clock = clock;
-            loads = w .loads;
-            shows = w .shows;
-            few =
-                omega (
-                  arith,
-                  w .few,
-                  length-in-two low high h (chargesOf charges),
-                  length-keep (isBegun high) (chargesOf charges),
-                  length-tabulate (chargeAt charges) (charges .held) 0,
-                  v .few,
-                );
-          };
-    }
+  module _ {p : Profile} {low high : ℕ} (w : Window size xs clock low p) (h : low ≤ high) where
+    room : 1 + 2 * length xs ≤ size → RoomFor p (length (started low high xs))
+    room enough =
+        record {
+          size = size;
+          clock = clock;
+          loads = w .loads;
+          shows = w .shows;
+          few = omega (arith, w .few, length-in-two low high h xs, length-keep (isBefore high) xs);
+        }
 
-pub window-on : {charges : Charges} {clock : ℕ} {p q : Profile} {low high : ℕ} → Window charges clock low p → low ≤ high → StartedAdded p q charges low high → Window charges clock high q
-window-on {charges} {clock} {p} {q} {low} {high} w h a =
-    record {
-      loads = w .loads ++ loadsOf (started low high (chargesOf charges));
-      shows = a clock (w .loads) (w .shows);
-      few =
-          omega (
-            arith,
-            w .few,
-            length-append (w .loads) (loadsOf (started low high (chargesOf charges))),
-            length-loads-of (started low high (chargesOf charges)),
-            length-in-two low high h (chargesOf charges),
-          );
-      last =
-          omega (
-            arith,
-            w .last,
-            last-append (w .loads) (loadsOf (started low high (chargesOf charges))),
-            until-kept (isPassed low high) (chargesOf charges),
-          );
-      alike = λ l t.
-          omega (
-            arith,
-            w .alike l t,
-            count-append (w .loads) (loadsOf (started low high (chargesOf charges))) l t,
-            count-in-two l t low high h (chargesOf charges),
-          );
-    }
+    pub window-on : {q : Profile} → StartedAdded p q xs low high → Window size xs clock high q
+    window-on a =
+        record {
+          loads = w .loads ++ started low high xs;
+          shows = a size clock (w .loads) (w .shows);
+          few = omega (arith, w .few, length-append (w .loads) (started low high xs), length-in-two low high h xs);
+          last = omega (arith, w .last, lastUntil-append (w .loads) (started low high xs), last-kept (startsIn low high) xs);
+          alike = λ l t.
+              omega (arith, w .alike l t, count-append (w .loads) (started low high xs) l t, count-in-two l t low high h xs);
+        }
 
--- below its end its levels are the counts of all held charges
-pub window-counts :
-    {charges : Charges} {clock until : ℕ} {p : Profile} → Window charges clock until p → (l t : ℕ) → IsLine l → clock ≤ t → t < until → levelOf p l t ≡ count (loadsOf (chargesOf charges)) l t
-window-counts {charges} {clock} {until} w l t i a b =
-    w .shows .counted l i t a ∙ w .alike l t ∙ count-begun until l t b (chargesOf charges)
+  -- below its end its levels are the counts of all loads
+  pub window-counts :
+      {until : ℕ} {p : Profile} → Window size xs clock until p → (l t : ℕ) → IsColumn l → clock ≤ t → t < until → levelOf p l t ≡ count xs l t
+  window-counts {until} w l t i a b = w .shows .counted l i t a ∙ w .alike l t ∙ count-before until l t b xs
+
+-- What is lent
+
+module _ {ats counts : List ℕ} {held : ℕ} {lines actives starts rates : List ℕ} (v : Lent ats counts held lines actives starts rates) where
+  abbrev lent : List Load
+  lent = loadsIn held lines actives starts rates
+
+  long : length lent ≡ held
+  long = length-tabulate (loadIn lines actives starts rates) held 0
+
+  pub lent-few : length lent ≤ 720
+  lent-few = omega (arith, long, v .enough, v .roomy .at-size)
+
+  module _ {size : ℕ} (e : size ≡ length ats) {clock low : ℕ} {p : Profile} (w : Window size lent clock low p) where
+    -- what `add_started` asks
+    pub lent-can-add : {high : ℕ} → Each Drawable lent → low ≤ high → CanAddStarted p held lines actives starts rates low high
+    lent-can-add each h =
+        record {
+          lines-fit = v .lines-fit;
+          actives-fit = v .actives-fit;
+          starts-fit = v .starts-fit;
+          rates-fit = v .rates-fit;
+          drawable = each;
+          room = room w h (omega (arith, long, v .enough));
+        }
+
+    -- the lists keep their lengths
+    pub lent-at : length (p .at) ≡ length ats
+    lent-at = w .shows .sized ∙ e
+
+    pub lent-counts : length (p .counts) ≡ length counts
+    lent-counts = omega (arith, lent-at, w .shows .formed .counts-size, v .roomy .counts-size)

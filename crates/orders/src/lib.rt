@@ -1,4 +1,3 @@
 // What an order is shown, and the search for its start, window by window.
 pub mod sought;
 pub mod start;
-pub mod window;

@@ -4,10 +4,11 @@ use mathlib.Core.Bool.{Bool, true, _&&_}
 use mathlib.Core.List.{List, [], _∷_, _++_}
 use Prim.Native.Nat.{ℕ}
 use lib.Dec.{eqb}
-use Rattle.rules.specs.Load.{limited, balanced, sound}
+use Rattle.rules.specs.Load.{limited, withinSite, balanced, sound}
 use Rattle.rules.specs.Search.{earliest}
-use Rattle.rules.specs.Calls.{settings, State, opening, committing, run}
-use Rattle.rules.specs.Entry.{stateAfter}
+use Rattle.rules.specs.Site.{State}
+use Rattle.rules.specs.Calls.{opening, committing, run}
+use Rattle.rules.specs.Entry.{oneFeeder, stateAfter}
 use Rattle.rules.specs.CasesAToL.{ordersE}
 use Rattle.text.specs.Numbers.{digitsWithin}
 use Rattle.text.specs.Parts.{sameText}
@@ -24,10 +25,10 @@ unfolding sameText rowOf digitsWithin
 rows-hold = refl
 
 abbrev openedE : State
-openedE = opening (settings 2 50 0) .state
+openedE = opening (oneFeeder 2 50 0) .state
 
 pub e-reached : stateAfter openedE (run openedE ordersE) ≡ stationE
-unfolding limited balanced sound earliest opening committing
+unfolding limited withinSite balanced sound earliest opening committing
 e-reached = refl
 
 -- case e before the move: the heading, six rows, and 18 unused ones

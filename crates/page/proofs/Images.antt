@@ -2,7 +2,7 @@
 use mathlib.Core.Path.{_≡_, refl}
 use mathlib.Core.List.{[]}
 use native.Mathlib.Omega.{arith}
-use Rattle.rules.specs.Load.{limited, balanced, sound}
+use Rattle.rules.specs.Load.{limited, withinSite, balanced, sound}
 use Rattle.layout.specs.Lists.{every}
 use Rattle.layout.specs.Image.{imageOf}
 use Rattle.layout.specs.Validity.{between, settingsRanged, boundRight, fieldsRanged, rateRight, timesRight, chargeRight, ticketRight, recordRight, isValid}
@@ -15,8 +15,8 @@ use Rattle.page.proofs.Walling.{wall-refused, wall-saved, wall-length}
 
 -- `page-holds` has the page itself
 pub case-e-printed : wall (imageOf stationE) ≡ pagesOf stationE
-unfolding every between settingsRanged boundRight fieldsRanged rateRight timesRight chargeRight ticketRight recordRight isValid limited balanced sound
-case-e-printed = wall-saved stationE (valid-by-test stationE refl)
+unfolding every between settingsRanged boundRight fieldsRanged rateRight timesRight chargeRight ticketRight recordRight isValid limited withinSite balanced sound
+case-e-printed = wall-saved stationE refl (valid-by-test stationE refl refl)
 
 -- no input, and 4,608 zero bytes, whose checks are right
 pub nothing-printed : wall [] ≡ noStation

@@ -8,10 +8,10 @@ use native.Mathlib.Omega.{arith}
 use lib.ListN.{length, getD}
 use Rattle.rules.specs.Basics.{Each}
 use Rattle.rules.specs.Charge.{Charge}
-use Rattle.rules.specs.Calls.{State}
+use Rattle.rules.specs.Site.{State}
 use Rattle.rules.specs.Valid.{ValidState}
 use Rattle.rules.proofs.Ranges.{below-or-not}
-use Rattle.layout.specs.Image.{noCharge}
+use Rattle.layout.specs.Image.{noCharge, only}
 use Rattle.layout.proofs.Rising.{each-place}
 use Rattle.page.specs.Pages.{texts, rowAt, rows, page, pageCount, pages, pagesOf}
 use Rattle.page.specs.Lined.{ChargeFits, Lined, no-line, one-more}
@@ -47,5 +47,6 @@ module _ (clock : ℕ) (cs : List Charge) (f : Each ChargeFits cs) where
   pages-lined = texts-lined (page clock cs) 25 (pageCount (length cs)) page-lined
 
 -- the pages of a station: 25 lines each
-pub station-lined : (s : State) → ValidState s → Lined (pageCount (length (s .charges)) * 25) (pagesOf s)
-station-lined s v = pages-lined (s .clock) (s .charges) (valid-fits s v)
+pub station-lined :
+    (s : State) → length (s .feeders) ≡ 1 → ValidState s → Lined (pageCount (length (only s .charges)) * 25) (pagesOf s)
+station-lined s one v = pages-lined (s .clock) (only s .charges) (valid-fits s one v)

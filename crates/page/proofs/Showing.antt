@@ -7,11 +7,12 @@ use native.Mathlib.Omega.{arith}
 use lib.ListN.{length, getD}
 use Rattle.rules.specs.Basics.{Each}
 use Rattle.rules.specs.Charge.{Charge}
-use Rattle.rules.specs.Calls.{State}
+use Rattle.rules.specs.Site.{State}
 use Rattle.rules.specs.Valid.{Rising, ValidState}
 use Rattle.rules.proofs.Ranges.{below-or-not}
-use Rattle.layout.specs.Image.{noCharge, heldAt}
+use Rattle.layout.specs.Image.{noCharge, only, heldAt}
 use Rattle.layout.proofs.Rising.{each-place}
+use Rattle.layout.proofs.Single.{first-is}
 use Rattle.text.specs.declared.number.Number.the-variants.{Value}
 use Rattle.page.specs.Lines.{heading, row, blank}
 use Rattle.page.specs.Pages.{rowAt, pageCount, pagesOf}
@@ -41,48 +42,48 @@ tickets-rise i (c ∷ cs) e (suc q) (suc r) h k = tickets-rise (suc (c .ticket))
 
 -- Of the lines of a station's pages
 
-module _ (s : State) (v : ValidState s) where
-  fits : Each ChargeFits (s .charges)
-  fits = valid-fits s v
+module _ (s : State) (one : length (s .feeders) ≡ 1) (v : ValidState s) where
+  fits : Each ChargeFits (only s .charges)
+  fits = valid-fits s one v
 
-  fits-place : (q : ℕ) → q < length (s .charges) → ChargeFits (heldAt s q)
-  fits-place q h = each-place ChargeFits (s .charges) fits q h
+  fits-place : (q : ℕ) → q < length (only s .charges) → ChargeFits (heldAt s q)
+  fits-place q h = each-place ChargeFits (only s .charges) fits q h
 
   -- the row of each charge held, in ticket order
-  pub charge-stands : (q : ℕ) → q < length (s .charges) → StandsAt (lineOfRow q) (row (s .clock) (heldAt s q)) (pagesOf s)
+  pub charge-stands : (q : ℕ) → q < length (only s .charges) → StandsAt (lineOfRow q) (row (s .clock) (heldAt s q)) (pagesOf s)
   charge-stands q h =
-      rw (row-held (s .clock) (s .charges) q h) at (row-stands (s .clock) (s .charges) fits q (omega (arith, pages-enough (length (s .charges)))))
+      rw (row-held (s .clock) (only s .charges) q h) at (row-stands (s .clock) (only s .charges) fits q (omega (arith, pages-enough (length (only s .charges)))))
 
-  same-place : (q r : ℕ) → q < length (s .charges) → r < length (s .charges) → heldAt s q .ticket ≡ heldAt s r .ticket → q ≡ r
+  same-place : (q r : ℕ) → q < length (only s .charges) → r < length (only s .charges) → heldAt s q .ticket ≡ heldAt s r .ticket → q ≡ r
   same-place q r h k e =
       ⊎-elim
-      (λ l. absurd (omega (arith, tickets-rise 1 (s .charges) (v .rising) q r l k)))
-      (λ l. ⊎-elim (λ m. absurd (omega (arith, tickets-rise 1 (s .charges) (v .rising) r q m h))) (λ m. omega arith) (below-or-not r q))
+      (λ l. absurd (omega (arith, tickets-rise 1 (only s .charges) (v .plan 1 (first-is s one) .rising) q r l k)))
+      (λ l. ⊎-elim (λ m. absurd (omega (arith, tickets-rise 1 (only s .charges) (v .plan 1 (first-is s one) .rising) r q m h))) (λ m. omega arith) (below-or-not r q))
       (below-or-not q r)
 
-  module _ (q : ℕ) (h : q < length (s .charges)) (j : ℕ) (inside : j < 25 * pageCount (length (s .charges))) where
+  module _ (q : ℕ) (h : q < length (only s .charges)) (j : ℕ) (inside : j < 25 * pageCount (length (only s .charges))) where
     abbrev Shown : List ℕ → Type 0
     Shown line = ticketIn line ≡ Value (heldAt s q .ticket)
 
     at-heading : j % 25 ≡ 0 → (line : List ℕ) → Lined 1 line → StandsAt j line (pagesOf s) → Shown line → ⊥
     at-heading z line l t w =
         let e : 25 * (j / 25) ≡ j = omega arith in
-        let k : j / 25 < pageCount (length (s .charges)) = omega arith in
-        let o : StandsAt j heading (pagesOf s) = rw e at (heading-stands (s .clock) (s .charges) fits (j / 25) k) in
+        let k : j / 25 < pageCount (length (only s .charges)) = omega arith in
+        let o : StandsAt j heading (pagesOf s) = rw e at (heading-stands (s .clock) (only s .charges) fits (j / 25) k) in
         not-a-ticket (heldAt s q .ticket) (sym w ∙ ap ticketIn (same-line j l heading-lined t o) ∙ heading-none)
 
     abbrev place : ℕ
     place = 24 * (j / 25) + (j % 25 - 1)
 
-    at-row : 1 ≤ j % 25 → StandsAt j (rowAt (s .clock) (s .charges) place) (pagesOf s)
+    at-row : 1 ≤ j % 25 → StandsAt j (rowAt (s .clock) (only s .charges) place) (pagesOf s)
     at-row p =
         let e : lineOfRow place ≡ j = omega arith in
-        rw e at (row-stands (s .clock) (s .charges) fits place (omega arith))
+        rw e at (row-stands (s .clock) (only s .charges) fits place (omega arith))
 
-    line-of : 1 ≤ j % 25 → (line : List ℕ) → Lined 1 line → StandsAt j line (pagesOf s) → Shown line → (place < length (s .charges)) ⊎ (length (s .charges) ≤ place) → j ≡ lineOfRow q
+    line-of : 1 ≤ j % 25 → (line : List ℕ) → Lined 1 line → StandsAt j line (pagesOf s) → Shown line → (place < length (only s .charges)) ⊎ (length (only s .charges) ≤ place) → j ≡ lineOfRow q
     line-of p line l t w (inl b) =
         let o : line ≡ row (s .clock) (heldAt s place) =
-        same-line j l (row-at-lined (s .clock) (s .charges) fits place) t (at-row p) ∙ row-held (s .clock) (s .charges) place b in
+        same-line j l (row-at-lined (s .clock) (only s .charges) fits place) t (at-row p) ∙ row-held (s .clock) (only s .charges) place b in
         let same : heldAt s q .ticket ≡ heldAt s place .ticket =
         value-same (sym w ∙ ap ticketIn o ∙ row-ticket (s .clock) (heldAt s place) (fits-place place b)) in
         let e : q ≡ place = same-place q place h b same in
@@ -92,10 +93,10 @@ module _ (s : State) (v : ValidState s) where
         value-same e = omega (arith, ap valueOr e)
     line-of p line l t w (inr b) =
         let o : line ≡ blank =
-        same-line j l (row-at-lined (s .clock) (s .charges) fits place) t (at-row p) ∙ row-unused (s .clock) (s .charges) place b in
+        same-line j l (row-at-lined (s .clock) (only s .charges) fits place) t (at-row p) ∙ row-unused (s .clock) (only s .charges) place b in
         absurd (not-a-ticket (heldAt s q .ticket) (sym w ∙ ap ticketIn o ∙ blank-none))
 
     -- a line that shows the ticket of charge q is its row
     pub shown-once : (line : List ℕ) → Lined 1 line → StandsAt j line (pagesOf s) → ticketIn line ≡ Value (heldAt s q .ticket) → j ≡ lineOfRow q
     shown-once line l t w =
-        ⊎-elim (λ p. line-of p line l t w (below-or-not place (length (s .charges)))) (λ p. absurd (at-heading (omega arith) line l t w)) (below-or-not 0 (j % 25))
+        ⊎-elim (λ p. line-of p line l t w (below-or-not place (length (only s .charges)))) (λ p. absurd (at-heading (omega arith) line l t w)) (below-or-not 0 (j % 25))

@@ -1,44 +1,49 @@
--- What is printed of an image, and that the numbers of a valid station fit their columns.
+-- What is printed of an image, and that the numbers of a valid station of one feeder fit their columns.
 use mathlib.Core.Logic.{⊎-elim}
 use mathlib.Core.Path.{_≡_, sym, ap, _∙_}
-use mathlib.Core.List.{List, [], _∷_}
+use mathlib.Core.List.{List}
 use Prim.Native.Nat.{ℕ, _+_, _-_, _*_, _≤_, _<_}
 use native.Mathlib.Omega.{arith}
 use lib.ListN.{length, take}
 use lib.Seq.{length-take-le, take-all}
 use borrow.Author.Tests.{eq-eqb, ne-eqb}
 use Rattle.rules.specs.Basics.{Each}
-use Rattle.rules.specs.Charge.{Charge, endOf, lastEnd}
-use Rattle.rules.specs.Calls.{State, limitsOf}
+use Rattle.rules.specs.Charge.{Charge, endOf}
+use Rattle.rules.specs.Site.{State}
 use Rattle.rules.specs.Valid.{ValidCharge, ValidState}
 use Rattle.rules.proofs.Ranges.{below-or-not}
-use Rattle.layout.specs.Image.{imageOf}
+use Rattle.rules.proofs.Lists.{each-map, each-both}
+use Rattle.layout.specs.Image.{only, imageOf}
 use Rattle.layout.specs.Reading.{restoreRefusal, restoring}
+use Rattle.layout.proofs.Single.{first-is, ends-only}
 use Rattle.layout.proofs.Refusing.{refused-length}
 use Rattle.layout.proofs.RoundTrip.{restored-saved, image-accepted}
 use Rattle.page.specs.Lines.{noStation}
 use Rattle.page.specs.Pages.{pagesOf, wall}
 use Rattle.page.specs.Lined.{ChargeFits}
 
-module _ (s : State) (v : ValidState s) where
-  charge-fits :
-      (c : Charge) → ValidCharge (limitsOf s) (s .tail) (s .clock) (s .next) c → endOf c ≤ s .clock + 1445 * (s .next - 1) → ChargeFits c
-  charge-fits c w e =
+module _ (s : State) (one : length (s .feeders) ≡ 1) (v : ValidState s) where
+  abbrev Valid : Charge → Type 0
+  Valid c = ValidCharge (only s) (s .site) (s .clock) (s .next) c
+
+  abbrev EndsBy : Charge → Type 0
+  EndsBy c = endOf c ≤ s .clock + 1445 * (s .next - 1)
+
+  charge-fits : (c : Charge) → Valid c × EndsBy c → ChargeFits c
+  charge-fits c w =
       record {
-        ticket-small = omega (arith, w .ticket-given, v .next-high);
-        line-small = omega (arith, w .line);
-        start-small = omega (arith, e, v .clock-high, v .next-high);
-        time-small = w .time-high;
-        active-small = omega (arith, w .active, w .time-high, v .tail-high);
+        ticket-small = omega (arith, w .0 .ticket-given, v .next-high);
+        line-small = omega (arith, w .0 .line);
+        start-small = omega (arith, w .1, v .clock-high, v .next-high);
+        time-small = w .0 .time-high;
+        active-small = omega (arith, w .0 .active, w .0 .time-high, v .settings 1 (first-is s one) .tail-high);
       }
 
-  each-fits : (cs : List Charge) → Each (ValidCharge (limitsOf s) (s .tail) (s .clock) (s .next)) cs → lastEnd cs ≤ s .clock + 1445 * (s .next - 1) → Each ChargeFits cs
-  each-fits [] e h = tt
-  each-fits (c ∷ cs) e h = (charge-fits c (e .0) (omega (arith, h)), each-fits cs (e .1) (omega (arith, h)))
-
   -- "No held time reaches 100,000,000": the numbers of a station's rows never exceed their columns
-  pub valid-fits : Each ChargeFits (s .charges)
-  valid-fits = each-fits (s .charges) (v .each) (v .ends-high)
+  pub valid-fits : Each ChargeFits (only s .charges)
+  valid-fits =
+      each-map (λ c. Valid c × EndsBy c) ChargeFits charge-fits (only s .charges)
+      (each-both Valid EndsBy (only s .charges) (v .plan 1 (first-is s one) .each) (ends-only s one v))
 
 -- The program's whole output
 
@@ -51,8 +56,9 @@ unfolding wall
 wall-accepted image h = rw (eq-eqb (restoreRefusal image) 0 h)
 
 -- the image of a station prints the pages of that station
-pub wall-saved : (s : State) → ValidState s → wall (imageOf s) ≡ pagesOf s
-wall-saved s v = wall-accepted (imageOf s) (image-accepted s v) ∙ ap (λ r. pagesOf (r .state)) (restored-saved s v)
+pub wall-saved : (s : State) → length (s .feeders) ≡ 1 → ValidState s → wall (imageOf s) ≡ pagesOf s
+wall-saved s one v =
+    wall-accepted (imageOf s) (image-accepted s one v) ∙ ap (λ r. pagesOf (r .state)) (restored-saved s one v)
 
 -- input of another length than 4,608 bytes is a refused image
 pub wall-length : (image : List ℕ) → (length image ≡ 4608 → ⊥) → wall image ≡ noStation

@@ -2,7 +2,7 @@
 use Prim.Native.Nat.{ℕ, _+_}
 use mathlib.Core.List.{List, [], _∷_}
 use Rattle.rules.specs.Charge.{Charge}
-use Rattle.rules.specs.Calls.{State}
+use Rattle.rules.specs.Site.{State}
 use Rattle.page.specs.Lines.{row}
 
 -- a charge by r, what its row shows (ticket, line, start, p), and d, which no row shows
@@ -23,20 +23,25 @@ charge tail ticket line start time due =
 abbrev pub stationE : State
 stationE =
     record {
-      limit = 2;
-      percent = 50;
-      bound = 1;
-      tail = 0;
+      feeders =
+          record {
+            limit = 2;
+            percent = 50;
+            bound = 1;
+            tail = 0;
+            charges =
+                charge 0 1 1 0 10 60
+                ∷ charge 0 2 3 0 10 60
+                ∷ charge 0 3 2 0 5 60
+                ∷ charge 0 4 2 0 5 60
+                ∷ charge 0 5 2 5 5 20
+                ∷ charge 0 6 1 0 10 60
+                ∷ [];
+          }
+          ∷ [];
+      site = 720;
       clock = 0;
       next = 7;
-      charges =
-          charge 0 1 1 0 10 60
-          ∷ charge 0 2 3 0 10 60
-          ∷ charge 0 3 2 0 5 60
-          ∷ charge 0 4 2 0 5 60
-          ∷ charge 0 5 2 5 5 20
-          ∷ charge 0 6 1 0 10 60
-          ∷ [];
     }
 
 -- Rows: the row computed, and the row written down.

@@ -5,8 +5,8 @@ use mathlib.Core.List.{List, [], _++_}
 use lib.Dec.{ltb, eqb}
 use lib.ListN.{length, getD}
 use Rattle.rules.specs.Charge.{Charge}
-use Rattle.rules.specs.Calls.{State}
-use Rattle.layout.specs.Image.{noCharge}
+use Rattle.rules.specs.Site.{State}
+use Rattle.layout.specs.Image.{noCharge, only}
 use Rattle.layout.specs.Reading.{restoreRefusal, restoring}
 use Rattle.page.specs.Lines.{heading, row, blank, noStation}
 
@@ -33,9 +33,9 @@ pageCount held = cond (eqb held 0) 1 ((held + 23) / 24)
 unfoldable pub pages : ℕ → List Charge → List ℕ
 pages clock cs = texts (page clock cs) (pageCount (length cs))
 
--- the pages of a station
+-- the pages of a station of one feeder
 abbrev pub pagesOf : State → List ℕ
-pagesOf s = pages (s .clock) (s .charges)
+pagesOf s = pages (s .clock) (only s .charges)
 
 -- All that the program prints, from all that it reads: "A refused image prints only the row .., without a heading."
 unfoldable pub wall : List ℕ → List ℕ

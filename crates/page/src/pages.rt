@@ -7,7 +7,7 @@ use charges::ends::end_of;
 ghost use mathlib.Core.Path.{_≡_};
 ghost use Prim.Native.Nat.{_+_, _*_, _≤_, _<_};
 ghost use lib.ListN.{length};
-ghost use Rattle.rules.specs.Calls.{places};
+ghost use Rattle.rules.specs.Site.{places};
 ghost use Rattle.rules.specs.Basics.{Each};
 ghost use Rattle.charges.specs.Arrays.{chargesOf, Columns};
 ghost use Rattle.text.specs.Printed.{Printed};

@@ -6,7 +6,7 @@ use native.Mathlib.Omega.{arith}
 use native.Mathlib.Numerals.{add-one}
 use lib.ListN.{length, getD, set, take, replicate}
 use lib.Seq.{take-suc-set}
-use Rattle.rules.specs.Calls.{places}
+use Rattle.rules.specs.Site.{places}
 use Rattle.rules.specs.Basics.{tabulate}
 use Rattle.rules.specs.Charge.{Charge, isWaiting, waitingCharges}
 use Rattle.rules.specs.Replan.{startIn, startsIn}

@@ -1,6 +1,6 @@
 -- One charge more on a plan, whatever start it is given.
 use mathlib.Core.Path.{_≡_, refl, sym, _∙_}
-use Prim.Native.Nat.{ℕ, _+_, max, _≤_, _<_}
+use Prim.Native.Nat.{ℕ, _+_, _*_, max, _≤_, _<_}
 use mathlib.Core.Bool.{Bool, true, false}
 use mathlib.Core.List.{List, [], _∷_, _++_, append-assoc}
 use native.Mathlib.Omega.{arith}
@@ -8,41 +8,45 @@ use lib.Dec.{eqb}
 use lib.ListN.{length, getD, set, length-set, length-append}
 use lib.Seq.{getD-set-same, getD-set-other}
 use borrow.Author.Tests.{eqb-true, eqb-false}
-use Rattle.rules.specs.Calls.{places}
-use Rattle.rules.specs.Load.{IsRate, lastUntil}
-use Rattle.rules.specs.Charge.{Charge, starting, drawOf, loadsOf}
+use Rattle.rules.specs.Load.{Limits, IsRate, lastUntil}
+use Rattle.rules.specs.Charge.{Charge, starting, drawOf, loadOf, loadsOf}
+use Rattle.rules.specs.Site.{places}
 use Rattle.rules.specs.Search.{added}
-use Rattle.rules.specs.Replan.{startIn}
+use Rattle.rules.specs.Replan.{startIn, standing}
 use Rattle.charges.specs.declared.Charges.{Charges}
-use Rattle.charges.specs.Arrays.{chargeAt}
+use Rattle.charges.specs.Arrays.{chargeAt, chargesOf}
 use Rattle.charges.specs.Held.{Listed}
-use Rattle.profile.specs.declared.Profile.{Profile}
-use Rattle.profile.specs.Shows.{LoadAdded, CanAdd}
-use Rattle.profile.proofs.Shown.{last-added, added-shows}
+use Rattle.profile.specs.Shows.{Profile, LoadAdded, CanAdd}
+use Rattle.profile.proofs.Shown.{last-added, added-shows, can-add}
 use Rattle.planner.specs.Ready.{begunOf}
-use Rattle.planner.specs.Placed.{Missing, PlanShown}
+use Rattle.planner.specs.Placed.{Missing, planOf, PlanShown}
 use Rattle.planner.proofs.Placing.{start-last, start-other}
-use Rattle.planner.proofs.Profiles.{shown-can-add}
 use Rattle.planner.proofs.Queueing.{places-apart}
 use Rattle.planner.proofs.Showing.{length-loads-of, loads-append}
 
-pub grown :
-    (begun placed : List Charge) (x : Charge) (s : ℕ)
-    → loadsOf (begun ++ (placed ++ (starting x s ∷ []))) ≡ added (loadsOf (begun ++ placed)) (drawOf x) s
-grown begun placed x s =
-    rw (← (append-assoc begun placed (starting x s ∷ []))) (loads-append (begun ++ placed) (starting x s ∷ []))
-
-module _ {clock : ℕ} {c : Charges} {placed : List Charge} {p : Profile} {starts : List ℕ} (h : Listed c)
-    (v : PlanShown clock c placed p starts) (i s : ℕ) (low : i < c .held)
-    (near : s ≤ max clock (lastUntil (loadsOf (begunOf clock c ++ placed)))) where
-  pub plan-can-add : {time rate : ℕ} → length (begunOf clock c) + length placed < places → time ≤ 1445 → IsRate rate → CanAdd p time rate s
-  plan-can-add {time} {rate} few short rated =
-      shown-can-add (v .shows) time rate s
-      (omega (
+module _ (y : Limits) (clock : ℕ) (c : Charges) (placed : List Charge) where
+  pub plan-length : length (planOf y clock c placed) ≡ length (y .others) + length (begunOf clock c) + length placed
+  plan-length =
+      omega (
         arith,
-        length-loads-of (begunOf clock c ++ placed),
-        length-append (begunOf clock c) placed,
-      ))
+        length-append (standing y clock (chargesOf c)) (loadsOf placed),
+        length-append (y .others) (loadsOf (begunOf clock c)),
+        length-loads-of (begunOf clock c),
+        length-loads-of placed,
+      )
+
+  pub grown : (x : Charge) (s : ℕ) → planOf y clock c (placed ++ (starting x s ∷ [])) ≡ added (planOf y clock c placed) (drawOf x) s
+  grown x s =
+      rw (loads-append placed (starting x s ∷ []), ← append-assoc (standing y clock (chargesOf c)) (loadsOf placed) (loadOf (starting x s) ∷ [])) refl
+
+module _ {size : ℕ} {y : Limits} {clock : ℕ} {c : Charges} {placed : List Charge} {p : Profile} {starts : List ℕ} (h : Listed c)
+    (v : PlanShown size y clock c placed p starts) (i s : ℕ) (low : i < c .held)
+    (near : s ≤ max clock (lastUntil (planOf y clock c placed))) where
+  pub plan-can-add :
+      {time rate : ℕ} → 1 + 2 * (length (y .others) + places) ≤ size → length (begunOf clock c) + length placed < places → time ≤ 1445 → IsRate rate → CanAdd p time rate s
+  plan-can-add {time} {rate} room few short rated =
+      can-add p clock (planOf y clock c placed) time rate s (v .shows)
+      (omega (arith, plan-length y clock c placed, room))
       rated
       (omega (arith, near, v .ends))
 
@@ -60,7 +64,7 @@ module _ {clock : ℕ} {c : Charges} {placed : List Charge} {p : Profile} {start
         go true e =
             rw (eqb-true k i e)
             (start-last placed (chargeAt c i) s fresh
-            ∙ sym (getD-set-same starts i s 0 (omega (arith, v .size, h .columns .few))))
+            ∙ sym (getD-set-same starts i s 0 (omega (arith, v .length-is, h .columns .few))))
         go false e =
             let ne : k ≡ i → ⊥ = eqb-false k i e in
             start-other placed (chargeAt c i) s (chargeAt c k .ticket) (places-apart h i k low l (λ j. ne (sym j)))
@@ -72,21 +76,21 @@ module _ {clock : ℕ} {c : Charges} {placed : List Charge} {p : Profile} {start
         → LoadAdded p next (chargeAt c i .line) time rate s
         → time ≡ chargeAt c i .activeTime
         → rate ≡ chargeAt c i .rate
-        → PlanShown clock c (placed ++ (starting (chargeAt c i) s ∷ [])) next (set starts i s)
+        → PlanShown size y clock c (placed ++ (starting (chargeAt c i) s ∷ [])) next (set starts i s)
     plan-on a long whole =
         let many : length (placed ++ (starting (chargeAt c i) s ∷ [])) ≡ length placed + 1 =
         length-append placed (starting (chargeAt c i) s ∷ []) in
         record {
           shows =
-              rw (grown (begunOf clock c) placed (chargeAt c i) s)
-              (added-shows (h .small i low .is-rate) (rw (long, whole) at a) clock (loadsOf (begunOf clock c ++ placed)) (v .shows));
+              rw (grown y clock c placed (chargeAt c i) s)
+              (added-shows (h .small i low .is-rate) (rw (long, whole) at a) size clock (planOf y clock c placed) (v .shows));
           stored = stored-on;
-          size = length-set starts i s ∙ v .size;
+          length-is = length-set starts i s ∙ v .length-is;
           ends =
-              rw (grown (begunOf clock c) placed (chargeAt c i) s, many)
+              rw (grown y clock c placed (chargeAt c i) s, many)
               (omega (
                 arith,
-                last-added (loadsOf (begunOf clock c ++ placed)) (drawOf (chargeAt c i)) s,
+                last-added (planOf y clock c placed) (drawOf (chargeAt c i)) s,
                 near,
                 v .ends,
                 h .small i low .active-most,

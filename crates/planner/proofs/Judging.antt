@@ -1,152 +1,144 @@
 -- The test of a plan, from what the code finds: one law for each way out.
-use mathlib.Core.Path.{_≡_, refl, sym, _∙_, ap}
-use Prim.Native.Nat.{ℕ, zero, suc, _≤_, _<_}
-use mathlib.Core.Bool.{Bool, true, false}
-use mathlib.Core.List.{List}
+use mathlib.Core.Logic.{_⊎_, inl, inr}
+use mathlib.Core.Path.{_≡_, refl, sym, _∙_}
+use Prim.Native.Nat.{ℕ, zero, suc, max, _≤_, _<_}
+use mathlib.Core.Bool.{Bool, true, false, not}
+use mathlib.Core.List.{List, [], _∷_}
 use native.Mathlib.Omega.{arith}
 use lib.Dec.{ltb}
-use borrow.Author.Tests.{lt-ltb, le-ltb}
-use Rattle.rules.specs.Basics.{some}
-use Rattle.rules.specs.Load.{limits, IsRate, limitAt, fromOn}
-use Rattle.rules.specs.Charge.{Charge, starting, endOf, begunCharges, loadsOf, lastEnd, lateness}
-use Rattle.rules.specs.Search.{firstUnbalanced}
+use borrow.Author.Tests.{lt-ltb, le-ltb, ltb-false}
+use Rattle.rules.specs.Basics.{some, firstOf}
+use Rattle.rules.specs.Load.{IsRate, lastUntil, limitAt, balanceAt, fromOn}
+use Rattle.rules.specs.Charge.{Charge, seen, loadsOf, lateness}
 use Rattle.rules.specs.Judgement.{restarted, judged}
-use Rattle.rules.proofs.Lists.{each-tabulate, tabulate-each}
+use Rattle.rules.proofs.Ranges.{below-or-not}
+use Rattle.rules.proofs.Lists.{each-tabulate}
+use Rattle.rules.proofs.Ends.{each-until}
 use Rattle.rules.proofs.Restarts.{each-restarted}
+use Rattle.rules.proofs.Sites.{lastUntil-append}
 use Rattle.charges.specs.declared.Charges.{Charges}
 use Rattle.charges.specs.Arrays.{chargeAt, chargesOf, Holds}
 use Rattle.charges.specs.Held.{Listed}
-use Rattle.profile.specs.declared.Profile.{Profile}
-use Rattle.profile.specs.declared.When.{When}
-use Rattle.profile.specs.declared.When.the-variants.{Minute, Never}
-use Rattle.profile.specs.Shows.{Shows, foundAt}
-use Rattle.profile.specs.Balance.{Unbalanced, WithinLimit}
-use Rattle.planner.specs.Ready.{EndsFit, Rated}
-use Rattle.planner.specs.Judged.{orLate, CauseOf, HeldAfter, Judges}
-use Rattle.planner.proofs.Showing.{last-end-most, all-before}
-use Rattle.planner.proofs.Causes.{end-below-last, none-unbalanced, some-unbalanced, judged-by}
+use Rattle.charges.specs.Drawn.{loadsIn, drawnOf}
+use Rattle.charges.proofs.Drawing.{loads-in}
+use Rattle.planner.specs.Ready.{Around, termsOf, Others, Profiled}
+use Rattle.planner.specs.Judged.{broken, orLate, CauseOf, HeldAfter, Judges}
+use Rattle.planner.proofs.Showing.{held-end-most, plannable}
+use Rattle.planner.proofs.Causes.{judged-by}
 
--- Where the last end is not later than now held
+-- Whether the site's last draw is later
 
-module _ (next : Charges) {c : Charges} {x y : ℕ} (listed : Listed c) (ex : x ≡ lastEnd (chargesOf c)) (ey : y ≡ lastEnd (chargesOf next))
-    (l : y ≤ x) where
-  end-most : (i : ℕ) → i < next .held → endOf (chargeAt next i) ≤ 100001440
-  end-most i low =
-      omega (arith, end-below-last (chargeAt next) (next .held) 0 i (omega arith) (omega arith), last-end-most listed, ex, ey)
+module _ (b : Around) (c next : Charges) {others held new : ℕ} (eo : others ≡ lastUntil (drawnOf (b .rest)))
+    (eh : held ≡ lastUntil (loadsIn (c .held) (c .lines) (c .«active_times») (c .starts) (c .rates)))
+    (en : new ≡ lastUntil (loadsIn (next .held) (next .lines) (next .«active_times») (next .starts) (next .rates))) where
+  of-held : lastUntil (seen (termsOf b) (chargesOf c)) ≡ max others held
+  of-held = rw (loads-in c, lastUntil-append (drawnOf (b .rest)) (loadsIn (c .held) (c .lines) (c .«active_times») (c .starts) (c .rates)), ← eo, ← eh) refl
 
-  pub ends-fit : ((i : ℕ) → i < next .held → chargeAt next i .activeTime ≤ 1445) → EndsFit next
-  ends-fit active i low = (omega (arith, end-most i low), omega (arith, end-most i low, active i low))
+  of-new : lastUntil (seen (termsOf b) (chargesOf next)) ≡ max others new
+  of-new =
+      rw (loads-in next, lastUntil-append (drawnOf (b .rest)) (loadsIn (next .held) (next .lines) (next .«active_times») (next .starts) (next .rates)), ← eo, ← en) refl
 
-  shows-next :
-      {p : Profile} {clock before : ℕ}
-      → Shows p clock (loadsOf (begunCharges before (chargesOf next)))
-      → before ≡ 4294967295
-      → Shows p clock (loadsOf (chargesOf next))
-  shows-next {before = before} s e = rw (all-before next before (λ i low. omega (arith, end-most i low))) at s
+  abbrev Later : Bool → Type 0
+  Later r = r ≡ ltb (lastUntil (seen (termsOf b) (chargesOf c))) (lastUntil (seen (termsOf b) (chargesOf next)))
 
--- The new plan has the rates and active times of the held one
+  pub not-behind-others : new ≤ others → Later false
+  not-behind-others h = rw (of-held, of-new) (sym (le-ltb (max others held) (max others new) (omega arith)))
 
-module _ {c next : Charges} (clock : ℕ) (ss : List ℕ) (listed : Listed c) (h : Holds (restarted clock (chargesOf c) ss) next) where
-  next-each :
-      (P : Charge → Type 0)
-      → ((x : Charge) (s : ℕ) → P x → P (starting x s))
-      → ((i : ℕ) → i < c .held → P (chargeAt c i))
-      → (i : ℕ)
-      → i < next .held
-      → P (chargeAt next i)
-  next-each P other each i low =
-      tabulate-each P (chargeAt next) (next .held) 0
-      (rw (h .charges)
-      (each-restarted P other clock (chargesOf c) ss
-      (each-tabulate P (chargeAt c) (c .held) 0 (λ j p q. each j (omega arith)))))
-      i (omega arith) (omega arith)
+  pub held-or-later : others < new → Later (ltb held new)
+  held-or-later h = rw (of-held, of-new) (same-tests h)
+    where
+      same-tests : others < new → ltb held new ≡ ltb (max others held) (max others new)
+      same-tests h = go (below-or-not held new)
+        where
+          go : (held < new) ⊎ (new ≤ held) → ltb held new ≡ ltb (max others held) (max others new)
+          go (inl l) = lt-ltb held new l ∙ sym (lt-ltb (max others held) (max others new) (omega arith))
+          go (inr l) = le-ltb held new l ∙ sym (le-ltb (max others held) (max others new) (omega arith))
 
-  pub next-rated : Rated next
-  next-rated = next-each (λ x. IsRate (x .rate)) (λ x s r. r) (λ i low. listed .small i low .is-rate)
+-- The new plan goes into a profile, where it does not end later
 
-  pub next-active : (i : ℕ) → i < next .held → chargeAt next i .activeTime ≤ 1445
-  next-active = next-each (λ x. x .activeTime ≤ 1445) (λ x s r. r) (λ i low. listed .small i low .active-most)
+module _ (b : Around) {c next : Charges} (ss : List ℕ) (o : Others b) (listed : Listed c) (h : Holds (restarted (b .clock) (chargesOf c) ss) next)
+    (e : ltb (lastUntil (seen (termsOf b) (chargesOf c))) (lastUntil (seen (termsOf b) (chargesOf next))) ≡ false) where
+  ends : lastUntil (loadsOf (chargesOf next)) ≤ 100001445
+  ends =
+      omega (
+        arith,
+        ltb-false (lastUntil (seen (termsOf b) (chargesOf c))) (lastUntil (seen (termsOf b) (chargesOf next))) e,
+        lastUntil-append (drawnOf (b .rest)) (loadsOf (chargesOf c)),
+        lastUntil-append (drawnOf (b .rest)) (loadsOf (chargesOf next)),
+        held-end-most listed,
+        o .end-most,
+      )
+
+  pub next-profiled : Profiled next
+  next-profiled =
+      record {
+        columns = h .columns;
+        plannable =
+            plannable (chargesOf next)
+            (rw (h .charges)
+            (each-restarted (λ x. IsRate (x .rate)) (λ x s r. r) (b .clock) (chargesOf c) ss
+            (each-tabulate (λ x. IsRate (x .rate)) (chargeAt c) (c .held) 0 (λ i p q. listed .small i (omega arith) .is-rate))))
+            (each-until 100001445 (chargesOf next) ends);
+      }
 
 -- The causes but for lateness
 
-module _ (limit bound : ℕ) (ss : List ℕ) {clock : ℕ} {c next : Charges} (h : Holds (restarted clock (chargesOf c) ss) next)
-    {early : Bool} (a : early ≡ some (λ s. ltb s clock) ss) where
-  pub judges-three : early ≡ true → CauseOf limit bound clock c ss 3
+-- causes 5 and 6, then 7
+then-late :
+    (within balanced : Bool) (before after : ℕ) →
+    firstOf ((false, 3) ∷ (false, 4) ∷ (not within, 5) ∷ (not balanced, 6) ∷ (not (ltb after before), 7) ∷ [])
+    ≡ orLate (firstOf ((not within, 5) ∷ (not balanced, 6) ∷ [])) before after
+then-late true true before after = refl
+then-late true false before after = refl
+then-late false balanced before after = refl
+
+module _ (b : Around) (ss : List ℕ) {c next : Charges} (h : Holds (restarted (b .clock) (chargesOf c) ss) next)
+    {early : Bool} (a : early ≡ some (λ s. ltb s (b .clock)) ss) where
+  pub judges-three : early ≡ true → CauseOf b c ss 3
   judges-three e =
       record {
-        same = judged-by (limits limit bound) clock (chargesOf c) ss (chargesOf next) (h .charges) true _ _ _ (sym a ∙ e) refl refl refl;
+        same = judged-by (termsOf b) (b .clock) (chargesOf c) ss (chargesOf next) (h .charges) true _ _ _ (sym a ∙ e) refl refl refl;
       }
 
-  module _ (no : early ≡ false) {x y : ℕ} (ex : x ≡ lastEnd (chargesOf c)) (ey : y ≡ lastEnd (chargesOf next)) where
-    pub judges-four : x < y → CauseOf limit bound clock c ss 4
-    judges-four l =
+  module _ (no : early ≡ false) {later : Bool} (l : later ≡ ltb (lastUntil (seen (termsOf b) (chargesOf c))) (lastUntil (seen (termsOf b) (chargesOf next)))) where
+    pub judges-four : later ≡ true → CauseOf b c ss 4
+    judges-four e =
         record {
           same =
-              judged-by (limits limit bound) clock (chargesOf c) ss (chargesOf next) (h .charges) false true _ _ (sym a ∙ no)
-              (lt-ltb (lastEnd (chargesOf c)) (lastEnd (chargesOf next)) (omega (arith, ex, ey))) refl refl;
+              judged-by (termsOf b) (b .clock) (chargesOf c) ss (chargesOf next) (h .charges) false true _ _ (sym a ∙ no) (sym l ∙ e)
+              refl refl;
         }
 
-    module _ (listed : Listed c) (l : y ≤ x) {p : Profile} {before : ℕ}
-        (s : Shows p clock (loadsOf (begunCharges before (chargesOf next)))) (latest : before ≡ 4294967295)
-        {within : Bool} {most : ℕ} (kept-by : WithinLimit p most within) (own-limit : most ≡ limit) where
-      not-later : ltb (lastEnd (chargesOf c)) (lastEnd (chargesOf next)) ≡ false
-      not-later = le-ltb (lastEnd (chargesOf c)) (lastEnd (chargesOf next)) (omega (arith, ex, ey))
-
-      shows : Shows p clock (loadsOf (chargesOf next))
-      shows = shows-next next listed ex ey l s latest
-
-      kept : fromOn clock (loadsOf (chargesOf next)) (limitAt (limits limit bound) (loadsOf (chargesOf next))) ≡ within
-      kept = let d : WithinLimit p limit within = rw own-limit at kept-by in sym (d clock (loadsOf (chargesOf next)) bound shows)
-
-      pub judges-five : within ≡ false → CauseOf limit bound clock c ss 5
-      judges-five e =
-          record {
-            same =
-                judged-by (limits limit bound) clock (chargesOf c) ss (chargesOf next) (h .charges) false false false _ (sym a ∙ no)
-                not-later (kept ∙ e) refl;
-          }
-
-      module _ (e : within ≡ true) (u : When) {apart : ℕ} (found-by : Unbalanced p apart u) (own-bound : apart ≡ bound) where
-        unbalanced : firstUnbalanced (limits limit bound) clock (loadsOf (chargesOf next)) ≡ foundAt u
-        unbalanced = let f : Unbalanced p bound u = rw own-bound at found-by in f clock (loadsOf (chargesOf next)) limit shows
-
-        pub judges-six : {t : ℕ} → u ≡ Minute t → CauseOf limit bound clock c ss 6
-        judges-six {t} w =
-            record {
-              same =
-                  judged-by (limits limit bound) clock (chargesOf c) ss (chargesOf next) (h .charges) false false true false
-                  (sym a ∙ no) not-later (kept ∙ e)
-                  (some-unbalanced (limits limit bound) clock (loadsOf (chargesOf next)) t
-                  (unbalanced ∙ ap foundAt w));
-            }
-
-        pub judges-none : u ≡ Never → CauseOf limit bound clock c ss 0
-        judges-none w =
-            record {
-              same =
-                  judged-by (limits limit bound) clock (chargesOf c) ss (chargesOf next) (h .charges) false false true true
-                  (sym a ∙ no) not-later (kept ∙ e)
-                  (none-unbalanced (limits limit bound) clock (loadsOf (chargesOf next))
-                  (unbalanced ∙ ap foundAt w));
-            }
+    pub judges-broken : later ≡ false → {r : ℕ} → r ≡ broken (termsOf b) (b .clock) (seen (termsOf b) (chargesOf next)) → CauseOf b c ss r
+    judges-broken e {r} is =
+        record {
+          same =
+              judged-by (termsOf b) (b .clock) (chargesOf c) ss (chargesOf next) (h .charges) false false _ _ (sym a ∙ no) (sym l ∙ e)
+              refl refl
+              ∙ rw is
+              (then-late
+              (fromOn (b .clock) (seen (termsOf b) (chargesOf next)) (limitAt (termsOf b) (seen (termsOf b) (chargesOf next))))
+              (fromOn (b .clock) (seen (termsOf b) (chargesOf next)) (balanceAt (termsOf b) (seen (termsOf b) (chargesOf next))))
+              (lateness (chargesOf c)) (lateness (restarted (b .clock) (chargesOf c) ss)));
+        }
 
 -- The whole answer
 
-module _ {limit bound clock : ℕ} {c next : Charges} {ss : List ℕ} {first k before after : ℕ}
-    (h : CauseOf limit bound clock c ss first) (n : Holds (restarted clock (chargesOf c) ss) next)
+module _ {b : Around} {c next : Charges} {ss : List ℕ} {first k before after : ℕ}
+    (h : CauseOf b c ss first) (n : Holds (restarted (b .clock) (chargesOf c) ss) next)
     (eb : before ≡ lateness (chargesOf c)) (ea : after ≡ lateness (chargesOf next)) (e : k ≡ orLate first before after) where
-  whole : judged (limits limit bound) clock (chargesOf c) ss ≡ k
+  whole : judged (termsOf b) (b .clock) (chargesOf c) ss ≡ k
   whole = h .same ∙ rw (← (n .charges), ← eb, ← ea, e)
 
   pub judges-kept :
-      {late : ℕ} → (k ≡ 0 → ⊥) → late ≡ before → Judges limit bound clock c ss (record { cause = k; before = before; after = late; charges = c })
+      {late : ℕ} → (k ≡ 0 → ⊥) → late ≡ before → Judges b c ss (record { cause = k; before = before; after = late; charges = c })
   judges-kept ne same =
       record { cause = whole; before = sym eb; after = sym (same ∙ eb); held = go k ne }
     where
-      go : (k : ℕ) → (k ≡ 0 → ⊥) → HeldAfter k clock c ss c
+      go : (k : ℕ) → (k ≡ 0 → ⊥) → HeldAfter k (b .clock) c ss c
       go zero n = absurd (n refl)
       go (suc k) n = refl
 
   pub judges-taken :
-      {late : ℕ} → k ≡ 0 → late ≡ after → Judges limit bound clock c ss (record { cause = k; before = before; after = late; charges = next })
+      {late : ℕ} → k ≡ 0 → late ≡ after → Judges b c ss (record { cause = k; before = before; after = late; charges = next })
   judges-taken z same = record { cause = whole; before = sym eb; after = sym (same ∙ ea); held = rw z n }

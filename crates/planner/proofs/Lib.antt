@@ -1,8 +1,8 @@
 pub mod Placing
 pub mod Collecting
 pub mod Causes
-pub mod Profiles
 pub mod Showing
+pub mod StandingLoads
 pub mod Queueing
 pub mod Growing
 pub mod Plans

@@ -3,20 +3,20 @@ use mathlib.Core.Path.{_≡_}
 use Prim.Native.Nat.{ℕ, suc}
 use mathlib.Core.List.{List, []}
 use lib.ListN.{take}
-use Rattle.rules.specs.Load.{limits}
+use Rattle.rules.specs.Load.{Limits}
 use Rattle.rules.specs.Charge.{waitingCharges}
-use Rattle.rules.specs.Replan.{Proposal, starts, none, stuck, placeAll, soundStart, byLatestStart, latest}
+use Rattle.rules.specs.Replan.{Proposal, starts, none, stuck, placeAll, byLatestStart, latest}
 use Rattle.charges.specs.declared.Charges.{Charges}
 use Rattle.charges.specs.Arrays.{chargesOf, Filled}
 use Rattle.charges.specs.declared.places.Places.{Places}
 use Rattle.queues.specs.Queues.{Ordered}
-use Rattle.profile.specs.declared.Profile.{Profile}
+use Rattle.profile.specs.Shows.{Profile}
 use Rattle.planner.specs.Starts.{waitingCount, WaitingStarts}
 use Rattle.planner.specs.declared.Proposed.{Proposed}
 use Rattle.planner.specs.Answers.{Proposes}
-use Rattle.planner.specs.Ready.{begunOf}
 use Rattle.planner.specs.Placed.{AllPlaced}
 use Rattle.planner.proofs.Queueing.{queueFrom, queue-whole}
+use Rattle.planner.proofs.Finding.{soundIn}
 
 -- An answer with starts, and one without
 
@@ -33,22 +33,22 @@ module _ {clock : ℕ} {c : Charges} {p : Proposal} where
 
 -- Replan by latest start
 
-module _ (limit bound : ℕ) {clock : ℕ} {c : Charges} {q : Places} (order : Ordered c (byLatestStart (waitingCharges clock (chargesOf c))) q) where
+module _ (y : Limits) {clock : ℕ} {c : Charges} {q : Places} (order : Ordered c (byLatestStart (waitingCharges clock (chargesOf c))) q) where
   pub latest-none :
       {a : Proposed}
-      → placeAll (soundStart (limits limit bound) clock (begunOf clock c)) [] (queueFrom c q 0) ≡ stuck
+      → placeAll (soundIn y clock c) [] (queueFrom c q 0) ≡ stuck
       → a .cause ≡ 1
       → Filled 0 (a .starts)
-      → Proposes clock c (latest (limits limit bound) clock (chargesOf c)) a
+      → Proposes clock c (latest y clock (chargesOf c)) a
   unfolding latest
   latest-none e = proposes-none 0 (rw (← (queue-whole order), e))
 
   pub latest-starts :
-      {p : Profile} {placed listed : List ℕ} {cause : ℕ}
-      → AllPlaced (placeAll (soundStart (limits limit bound) clock (begunOf clock c)) [] (queueFrom c q 0)) clock c p placed
+      {size : ℕ} {p : Profile} {placed listed : List ℕ} {cause : ℕ}
+      → AllPlaced (placeAll (soundIn y clock c) [] (queueFrom c q 0)) size y clock c p placed
       → WaitingStarts clock c placed listed
       → cause ≡ 0
-      → Proposes clock c (latest (limits limit bound) clock (chargesOf c)) (record { cause = cause; starts = listed })
+      → Proposes clock c (latest y clock (chargesOf c)) (record { cause = cause; starts = listed })
   unfolding latest
   latest-starts a w z =
       rw z (proposes-starts (rw (← (queue-whole order), a .gives, w .gives (a .placed) (a .plan .stored))) (w .filled))

@@ -6,7 +6,7 @@ use mathlib.Core.List.{List}
 use native.Mathlib.Omega.{arith}
 use native.Mathlib.Nat.{sub-zero}
 use lib.ListN.{length}
-use Rattle.rules.specs.Calls.{places}
+use Rattle.rules.specs.Site.{places}
 use Rattle.rules.specs.Basics.{tabulate}
 use Rattle.rules.specs.Charge.{Charge, latestStartBefore, waitingCharges}
 use Rattle.rules.specs.Replan.{byLatestStart}

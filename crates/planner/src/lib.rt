@@ -1,14 +1,23 @@
-// The profile of the begun charges, replan by latest start and the test of a plan.
-pub mod begun;
+// What stands beside a plan of a feeder, replan by latest start and the test of a plan.
 pub mod judge;
 pub mod latest;
 pub mod plan;
+pub mod standing;
 
 use charges::Charges;
 use charges::PLACES;
+use search::limits::Limits;
 ghost use mathlib.Core.Path.{_≡_};
 ghost use Rattle.charges.specs.Arrays.{Columns, Filled};
 ghost use Rattle.planner.specs.Starts.{WaitingStarts};
+
+// What a plan of a feeder stands beside: the clock, its limits, and how many charges the other feeders hold. What these draw is lent
+// beside it, since a copy of it would cost more than most plans.
+pub struct Beside {
+    pub clock: u32,
+    pub limits: Limits,
+    pub held: usize,
+}
 
 // Cause 0 with a start for each waiting charge, in ticket order, or the cause for having none.
 pub struct Proposed {

@@ -5,7 +5,7 @@ use Prim.Native.Nat.{ℕ, zero, suc, _+_, _*_, min, _≤_, _<_}
 use mathlib.Core.List.{List}
 use native.Mathlib.Omega.{arith}
 use native.Mathlib.Numerals.{add-one}
-use Rattle.rules.specs.Calls.{places}
+use Rattle.rules.specs.Site.{places}
 use Rattle.rules.proofs.Ranges.{below-or-not}
 use Rattle.priority.specs.declared.crowd.Span.{Span}
 use Rattle.priority.specs.declared.crowd.Crowd.{Crowd}

@@ -10,7 +10,7 @@ use native.Mathlib.Nat.{le-of-lt, lt-of-le-of-lt, mul-le-mul, mul-le-mul-left, m
 use lib.Ieee.Nearest.{div-mono}
 use lib.Pow.{pow-pos, pow-add}
 use lib.Seq.{ext-getD}
-use Rattle.rules.specs.Calls.{places}
+use Rattle.rules.specs.Site.{places}
 use Rattle.rules.specs.Priority.{fading, weights, weightOf, keepsTheRule}
 use Rattle.rules.proofs.Ranges.{below-or-not}
 use Rattle.rules.proofs.Weights.{keeps-rule, weights-table, weight-within, weight-beyond, table-weight}

@@ -6,7 +6,7 @@ use mathlib.Core.Bool.{Bool, true, false, cond}
 use mathlib.Core.List.{List}
 use lib.Dec.{leb, eqb}
 use lib.ListN.{getD}
-use Rattle.rules.specs.Calls.{places}
+use Rattle.rules.specs.Site.{places}
 use Rattle.rules.specs.Priority.{weightOf}
 use Rattle.priority.specs.Numbers.{Numbers, numberOf, InRange}
 use Rattle.priority.specs.declared.crowd.Crowd.{Crowd}

@@ -1,20 +1,17 @@
 -- The columns that a line is placed by, and the charges left as places in them.
 use Prim.Native.Nat.{ℕ, _≤_, _<_}
-use mathlib.Core.List.{List, []}
+use mathlib.Core.List.{List}
 use lib.ListN.{getD}
 use denote.Ref.{RefT}
-use Rattle.rules.specs.Calls.{places}
+use Rattle.rules.specs.Site.{places}
 use Rattle.rules.specs.Load.{IsRate}
+use Rattle.charges.specs.Drawn.{lentAt}
 
 pub record Numbers : Type 0 where
   pub times : List ℕ
   pub actives : List ℕ
   pub dues : List ℕ
   pub rates : List ℕ
-
--- the k-th of some columns that are lent
-abbrev pub lentAt : List (RefT (List ℕ)) → ℕ → List ℕ
-lentAt columns k = getD columns k (record { ptr = (0, 0); name = 0; now = [] }) .now
 
 -- in the code's order
 abbrev pub numbersIn : List (RefT (List ℕ)) → Numbers

@@ -5,7 +5,7 @@ use crate::columns::RATES;
 use crate::columns::TIMES;
 use charges::PLACES;
 ghost use Prim.Native.Nat.{_≤_, _<_};
-ghost use Rattle.rules.specs.Calls.{places};
+ghost use Rattle.rules.specs.Site.{places};
 ghost use Rattle.priority.specs.Numbers.{numbersIn, InRange};
 ghost use Rattle.priority.specs.Crowds.{Widened, Joined, CrowdOf, Narrowed};
 

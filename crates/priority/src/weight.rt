@@ -1,7 +1,7 @@
 // What a charge weighs at a start.
 ghost use mathlib.Core.Path.{_≡_};
 ghost use Prim.Native.Nat.{_+_, _-_, _*_, _/_, _≤_};
-ghost use Rattle.rules.specs.Calls.{places};
+ghost use Rattle.rules.specs.Site.{places};
 ghost use Rattle.rules.specs.Priority.{weights as weightsOf, weightOf};
 
 // "and the weight is 0 beyond"

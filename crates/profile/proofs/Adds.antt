@@ -8,12 +8,11 @@ use native.Mathlib.Omega.{arith}
 use borrow.Author.Tests.{le-leb, lt-leb, ne-eqb}
 use lib.Dec.{leb, ltb, eqb}
 use lib.ListN.{length, getD}
-use Rattle.rules.specs.Load.{draw, loadFrom, IsLine, active, share, draws}
+use Rattle.rules.specs.Load.{draw, loadFrom, IsColumn, active, share, draws}
 use Rattle.rules.proofs.Ranges.{below-or-not}
 use Rattle.rules.proofs.Counts.{draws-before, draws-after}
 use Rattle.profile.specs.Steps.{mostSteps, columns, levelAt, In, Rising, Inserted, DoubledIn, RaisedIn}
-use Rattle.profile.specs.Shows.{lineOf, levelOf, firstMinute, Formed, mostDrawn, Small, Split, CanAdd, LoadAdded}
-use Rattle.profile.specs.declared.Profile.{Profile}
+use Rattle.profile.specs.Shows.{Profile, lineOf, levelOf, firstMinute, Formed, mostDrawn, Small, Split, CanAdd, LoadAdded}
 use Rattle.profile.proofs.Levels.{level-in, at-step, step-from}
 use Rattle.profile.proofs.Splits.{split-level, split-rises, split-ends, raise-level}
 
@@ -24,6 +23,7 @@ pub split-none : (p : Profile) (i t : ℕ) → Formed p → In (p .at) (p .steps
 split-none p i t f h e =
     record {
       formed = f;
+      size = refl;
       few = omega arith;
       more = omega arith;
       starts = refl;
@@ -34,7 +34,7 @@ split-none p i t f h e =
       earlier = λ m a b. refl;
     }
 
-module _ (p q : Profile) (i t : ℕ) (f : Formed p) (room : p .steps < mostSteps) (h : In (p .at) (p .steps) i t) (ne : getD (p .at) i 0 ≡ t → ⊥)
+module _ (p q : Profile) (i t : ℕ) (f : Formed p) (room : p .steps < length (p .at)) (h : In (p .at) (p .steps) i t) (ne : getD (p .at) i 0 ≡ t → ⊥)
     (e : q .steps ≡ p .steps + 1) (ia : Inserted (p .at) (q .at) (p .steps) (i + 1) t)
     (ic : DoubledIn (p .counts) (q .counts) (p .steps) i) where
   lt : getD (p .at) i 0 < t
@@ -45,12 +45,13 @@ module _ (p q : Profile) (i t : ℕ) (f : Formed p) (room : p .steps < mostSteps
       record {
         formed =
             record {
-              at-size = ia .size;
-              counts-size = ic .size;
+              at-size = omega (arith, ia .size, f .at-size);
+              counts-size = omega (arith, ia .size, ic .size, f .counts-size);
               some = omega arith;
-              fits = omega arith;
+              fits = omega (arith, ia .size);
               rises = split-rises e h lt ia (f .rises);
             };
+        size = ia .size;
         few = omega arith;
         more = omega arith;
         starts = ia .before 0 (omega arith);
@@ -65,7 +66,7 @@ module _ (p q : Profile) (i t : ℕ) (f : Formed p) (room : p .steps < mostSteps
 -- Add
 
 -- the level of a step is that of its first minute, so it is small
-pub small-step : (p : Profile) → Formed p → Small p → (l : ℕ) → IsLine l → (m : ℕ) → m < p .steps → lineOf p l m ≤ mostDrawn
+pub small-step : (p : Profile) → Formed p → Small p → (l : ℕ) → IsColumn l → (m : ℕ) → m < p .steps → lineOf p l m ≤ mostDrawn
 small-step p f s l hl m h =
     omega (
       arith,
@@ -76,10 +77,11 @@ small-step p f s l hl m h =
 -- a load that draws nothing from the first minute on
 add-idle :
     {p : Profile} {line time rate start : ℕ} → Formed p →
-    ((l : ℕ) → IsLine l → (t : ℕ) → firstMinute p ≤ t → draws (loadFrom (draw line time rate) start) l t ≡ 0) → LoadAdded p p line time rate start
+    ((l : ℕ) → IsColumn l → (t : ℕ) → firstMinute p ≤ t → draws (loadFrom (draw line time rate) start) l t ≡ 0) → LoadAdded p p line time rate start
 add-idle f h =
     record {
       formed = f;
+      size = refl;
       few = omega arith;
       starts = refl;
       ends = λ b g a. g;
@@ -95,9 +97,9 @@ add-none p line time rate start f h = add-idle f (λ l hl t a. idle l t a (below
     idle l t a (inr b) = draws-after (loadFrom (draw line time rate) start) l t (omega arith)
 
 -- it is on no line
-pub add-other : (p : Profile) (line time rate start : ℕ) → Formed p → (IsLine line → ⊥) → LoadAdded p p line time rate start
+pub add-other : (p : Profile) (line time rate start : ℕ) → Formed p → (IsColumn line → ⊥) → LoadAdded p p line time rate start
 add-other p line time rate start f not =
-    add-idle f (λ l hl t a. nothing (active (loadFrom (draw line time rate) start) t) l (ne-eqb line l (λ e. not (subst IsLine (sym e) hl))))
+    add-idle f (λ l hl t a. nothing (active (loadFrom (draw line time rate) start) t) l (ne-eqb line l (λ e. not (subst IsColumn (sym e) hl))))
   where
     nothing : (b : Bool) (l : ℕ) → eqb line l ≡ false → cond b (share line rate l) 0 ≡ 0
     nothing true l e = rw e refl
@@ -116,24 +118,27 @@ module _ {p p₁ q : Profile} {time rate start from i j : ℕ} (can : CanAdd p t
   order =
       ⊎-elim (λ a. absurd (omega (arith, s₂ .formed .rises j i a i-below, i-begins, s₂ .begins))) (λ a. a) (below-or-not j i)
 
-  same-level : (l : ℕ) → IsLine l → (u : ℕ) → getD (p .at) 0 0 ≤ u → levelOf q l u ≡ levelOf p l u
+  same-level : (l : ℕ) → IsColumn l → (u : ℕ) → getD (p .at) 0 0 ≤ u → levelOf q l u ≡ levelOf p l u
   same-level l hl u a = s₂ .same l hl u (omega (arith, s₁ .starts)) ∙ s₁ .same l hl u a
 
-  small : (l : ℕ) → IsLine l → (m : ℕ) → m < q .steps → lineOf q l m ≤ mostDrawn
+  small : (l : ℕ) → IsColumn l → (m : ℕ) → m < q .steps → lineOf q l m ≤ mostDrawn
   small =
       small-step q (s₂ .formed)
       (λ l hl t a. omega (arith, same-level l hl t (omega (arith, s₁ .starts, s₂ .starts)), can .small l hl t (omega (arith, s₁ .starts, s₂ .starts))))
 
-  module _ {line more : ℕ} (hl : IsLine line) (few : more ≤ 2) where
+  module _ {line more : ℕ} (hl : IsColumn line) (few : more ≤ 2) where
     -- the line of q may be raised
     pub raise-can :
-        (length (q .counts) ≡ columns * mostSteps) × IsLine line × (i ≤ j) × (j ≤ mostSteps) × ((m : ℕ) → m < j → lineOf q line m + more < 2 ^ 32)
+        (columns * j ≤ length (q .counts)) × IsColumn line × (i ≤ j) × (j ≤ mostSteps) × ((m : ℕ) → m < j → lineOf q line m + more < 2 ^ 32)
     raise-can =
-        (s₂ .formed .counts-size, hl, order, omega (arith, s₂ .below, s₂ .formed .fits), λ m a. omega (arith, small line hl m (omega (arith, s₂ .below))))
+        (omega (arith, s₂ .formed .counts-size, s₂ .below, s₂ .formed .fits), hl, order, omega (arith, s₂ .below, s₂ .formed .fits, s₂ .formed .at-size), λ m a. omega (arith, small line hl m (omega (arith, s₂ .below))))
 
   module _ (line : ℕ) (r : Profile) (en : r .steps ≡ q .steps) (ea : r .at ≡ q .at) {on by : ℕ} (raised : RaisedIn (q .counts) (r .counts) on by i j) (same : on ≡ line) (whole : by ≡ rate) where
     ra : RaisedIn (q .counts) (r .counts) line rate i j
     ra = rw (← same, ← whole) raised
+
+    long : length (r .at) ≡ length (q .at)
+    long = ap length ea
 
     -- clipped to the clock, the load is the same in every minute from there on
     clipped : (u : ℕ) → getD (p .at) 0 0 ≤ u → leb from u ≡ leb start u
@@ -143,7 +148,7 @@ module _ {p p₁ q : Profile} {time rate start from i j : ℕ} (can : CanAdd p t
         (λ b. le-leb from u (omega arith) ∙ sym (le-leb start u b))
         (below-or-not u start)
 
-    new-level : (l : ℕ) → IsLine l → (u : ℕ) → getD (p .at) 0 0 ≤ u → levelOf r l u ≡ levelOf p l u + draws (loadFrom (draw line time rate) start) l u
+    new-level : (l : ℕ) → IsColumn l → (u : ℕ) → getD (p .at) 0 0 ≤ u → levelOf r l u ≡ levelOf p l u + draws (loadFrom (draw line time rate) start) l u
     new-level l hl u a =
         ap (λ (n : ℕ). levelAt (r .at) (lineOf r l) n u) en ∙ ap (λ (x : List ℕ). levelAt x (lineOf r l) (q .steps) u) ea
         ∙ raise-level (q .at) (s₂ .formed .rises) i-below (s₂ .below) (ra .each l hl) u (omega (arith, s₁ .starts, s₂ .starts))
@@ -157,12 +162,13 @@ module _ {p p₁ q : Profile} {time rate start from i j : ℕ} (can : CanAdd p t
         record {
           formed =
               record {
-                at-size = ap length ea ∙ s₂ .formed .at-size;
-                counts-size = ra .size;
+                at-size = omega (arith, long, s₂ .formed .at-size);
+                counts-size = omega (arith, long, ra .size, s₂ .formed .counts-size);
                 some = omega (arith, s₂ .formed .some);
-                fits = omega (arith, s₂ .formed .fits);
+                fits = omega (arith, long, s₂ .formed .fits);
                 rises = subst (λ (n : ℕ). Rising (r .at) n) (sym en) (subst (λ (x : List ℕ). Rising x (q .steps)) (sym ea) (s₂ .formed .rises));
               };
+          size = long ∙ s₂ .size ∙ s₁ .size;
           few = omega (arith, s₁ .few, s₂ .few);
           starts = ap (λ (x : List ℕ). getD x 0 0) ea ∙ s₂ .starts ∙ s₁ .starts;
           ends = λ b h a k lt.

@@ -1,24 +1,24 @@
 -- The walks over the steps for limit and balance, and what their answers say of the loads that a profile shows.
-use Prim.Native.Nat.{ℕ, _+_, _-_, _%_, _≤_, _<_, max, min}
+use Prim.Native.Nat.{ℕ, _+_, _-_, _*_, _%_, _≤_, _<_, max, min}
 use mathlib.Core.Path.{_≡_, sym, _∙_, ap}
-use mathlib.Core.Bool.{Bool, true, false, not, true≢false}
-use mathlib.Core.List.{List}
+use mathlib.Core.Bool.{Bool, true, false, not, _&&_, true≢false}
+use mathlib.Core.List.{List, []}
 use mathlib.Core.Logic.{⊎-elim}
 use native.Mathlib.Omega.{arith}
 use borrow.Author.Count.{below-more}
-use lib.ListN.{getD}
-use Rattle.rules.specs.Load.{Load, limits, IsLine, limited, balanced, lastUntil, limitAt, balanceAt, fromOn}
+use lib.ListN.{length, getD}
+use Rattle.rules.specs.Load.{Load, limits, IsLine, IsColumn, limited, withinSite, balanced, lastUntil, limitAt, balanceAt, fromOn}
 use Rattle.rules.specs.Search.{firstUnbalanced}
-use Rattle.rules.proofs.Ranges.{fails, below-or-not, first-is, first-nothing}
-use Rattle.rules.proofs.Counts.{limited-at, limited-all, balanced-at, balanced-all, fromOn-at, fromOn-all, limit-past, balance-past}
+use Rattle.rules.proofs.Ranges.{and-left, and-right, and-both, fails, below-or-not, first-is, first-nothing}
+use Rattle.rules.proofs.Counts.{limited-at, limited-all, within-at, within-all, balanced-at, balanced-all, fromOn-at, fromOn-all, limit-past, balance-past}
+use Rattle.profile.specs.Steps.{mostSteps, columns}
 use Rattle.profile.specs.Minutes.{Passes, Fails, FirstFails}
-use Rattle.profile.specs.Shows.{lineOf, levels, firstMinute, Formed, Shows, foundAt}
+use Rattle.profile.specs.Shows.{Profile, lineOf, levels, firstMinute, Formed, ShowsIn, foundAt}
 use Rattle.profile.specs.Balance.{limitedIn, balancedIn, FirstOrNone, PassesIf, FirstUnbalanced, LimitKept, Unbalanced, WithinLimit, Near}
-use Rattle.profile.specs.declared.Profile.{Profile}
 use Rattle.profile.specs.declared.When.{When}
 use Rattle.profile.specs.declared.When.the-variants.{Minute, Never}
 use Rattle.profile.proofs.Levels.{at-step, in-more, step-from, level-test}
-use Rattle.profile.proofs.Lines.{Respects, limited-tests, balanced-tests, each-line, line-one, line-two, line-three}
+use Rattle.profile.proofs.Lines.{Respects, limits-tests, balanced-tests, each-line, line-one, line-two, line-three}
 use Rattle.profile.proofs.Shown.{shown-test}
 
 -- A walk over the steps, for any test of the counts of the lines
@@ -60,14 +60,26 @@ walked-done w h t a = w .passed t a (λ x. absurd (omega arith))
 pub first-some : {f : ℕ → Bool} {from t : ℕ} → FirstFails f from t → Fails f from
 first-some {f} {from} {t} h = record { minute = t; low = h .low; fails = h .fails }
 
--- The limit
+-- The limits
 
-module _ {a b c x y n : ℕ} (f : ℕ → ℕ) (ea : a ≡ f 1) (eb : b ≡ f 2) (ec : c ≡ f 3) (ex : x ≡ max b c) (ey : y ≡ max a x) where
-  pub limit-below : y ≤ n → limited n f ≡ true
-  limit-below h = limited-all n f (each-line _ (omega arith) (omega arith) (omega arith))
+-- the count of a step may be read
+pub in-columns : {p : Profile} {i line : ℕ} → Formed p → i < p .steps → IsColumn line → (columns * i + columns ≤ length (p .counts)) × (i < mostSteps) × IsColumn line
+in-columns f h l = (omega (arith, f .counts-size, f .fits), omega (arith, f .fits, f .at-size), l)
 
-  pub limit-above : n < y → limited n f ≡ true → ⊥
-  limit-above h e = let w = limited-at n f e in omega (arith, w 1 line-one, w 2 line-two, w 3 line-three)
+module _ {a b c d x y : ℕ} (f : ℕ → ℕ) (ea : a ≡ f 1) (eb : b ≡ f 2) (ec : c ≡ f 3) (ed : d ≡ f 4) (ex : x ≡ max b c) (ey : y ≡ max a x) where
+  pub limits-kept : {n w : ℕ} → y ≤ n → a + b + c + d ≤ w → limited n f && withinSite w f ≡ true
+  limits-kept {n} {w} h j =
+      and-both (limited n f) (withinSite w f)
+      (limited-all n f (each-line _ (omega arith) (omega arith) (omega arith)))
+      (within-all w f (omega arith))
+
+  pub limit-passed : {n : ℕ} (w : ℕ) → n < y → limited n f && withinSite w f ≡ true → ⊥
+  limit-passed {n} w h e =
+      let k = limited-at n f (and-left (limited n f) (withinSite w f) e) in
+      omega (arith, k 1 line-one, k 2 line-two, k 3 line-three)
+
+  pub site-passed : (n : ℕ) {w : ℕ} → w < a + b + c + d → limited n f && withinSite w f ≡ true → ⊥
+  site-passed n {w} h e = omega (arith, within-at w f (and-right (limited n f) (withinSite w f) e))
 
 -- The balance
 
@@ -128,47 +140,47 @@ compared-all {p} {i} {d} {line} w h =
 
 -- What the answers say of the loads
 
-module _ {p : Profile} {clock : ℕ} {loads : List Load} (s : Shows p clock loads) where
-  limit-at : (limit t : ℕ) → clock ≤ t → limited limit (levels p t) ≡ limitAt (limits limit 0) loads t
-  limit-at limit = shown-test (limited-tests limit) s
+module _ {size : ℕ} {p : Profile} {clock : ℕ} {loads : List Load} (s : ShowsIn size p clock loads) where
+  limit-at : (limit site t : ℕ) → clock ≤ t → limited limit (levels p t) && withinSite site (levels p t) ≡ limitAt (limits limit 0 site []) loads t
+  limit-at limit site = shown-test (limits-tests limit site) s
 
-  balance-at : (bound t : ℕ) → clock ≤ t → balanced bound (levels p t) ≡ balanceAt (limits 0 bound) loads t
+  balance-at : (bound t : ℕ) → clock ≤ t → balanced bound (levels p t) ≡ balanceAt (limits 0 bound 0 []) loads t
   balance-at bound = shown-test (balanced-tests bound) s
 
-pub limit-shows : {p : Profile} {limit : ℕ} {r : Bool} → LimitKept p limit r → WithinLimit p limit r
-limit-shows {p} {limit} {r} k clock loads bound s = go r (k .answer)
+pub limit-shows : {p : Profile} {limit site : ℕ} {r : Bool} → LimitKept p limit site r → WithinLimit p limit site r
+limit-shows {p} {limit} {site} {r} k size clock loads bound others s = go r (k .answer)
   where
-    go : (r : Bool) → PassesIf (limitedIn p limit) (firstMinute p) r → r ≡ fromOn clock loads (limitAt (limits limit bound) loads)
-    go true h = sym (fromOn-all clock loads (limitAt (limits limit bound) loads) (λ t a. sym (limit-at s limit t a) ∙ h t (omega (arith, s .starts))))
+    go : (r : Bool) → PassesIf (limitedIn p limit site) (firstMinute p) r → r ≡ fromOn clock loads (limitAt (limits limit bound site others) loads)
+    go true h = sym (fromOn-all clock loads (limitAt (limits limit bound site others) loads) (λ t a. sym (limit-at s limit site t a) ∙ h t (omega (arith, s .starts))))
     go false h =
         let from : clock ≤ h .minute = omega (arith, s .starts, h .low) in
         sym
-        (fails (fromOn clock loads (limitAt (limits limit bound) loads))
+        (fails (fromOn clock loads (limitAt (limits limit bound site others) loads))
         (λ e.
         true≢false
-        (sym (fromOn-at clock loads (limitAt (limits limit bound) loads) (limit-past (limits limit bound) loads) e (h .minute) from)
-        ∙ sym (limit-at s limit (h .minute) from)
+        (sym (fromOn-at clock loads (limitAt (limits limit bound site others) loads) (limit-past (limits limit bound site others) loads) e (h .minute) from)
+        ∙ sym (limit-at s limit site (h .minute) from)
         ∙ h .fails)))
 
 pub unbalanced-shows : {p : Profile} {bound : ℕ} {r : When} → FirstUnbalanced p bound r → Unbalanced p bound r
 unfolding firstUnbalanced
-unbalanced-shows {p} {bound} {r} k clock loads limit s = go r (k .answer)
+unbalanced-shows {p} {bound} {r} k size clock loads limit site others s = go r (k .answer)
   where
-    go : (r : When) → FirstOrNone (balancedIn p bound) (firstMinute p) r → firstUnbalanced (limits limit bound) clock loads ≡ foundAt r
+    go : (r : When) → FirstOrNone (balancedIn p bound) (firstMinute p) r → firstUnbalanced (limits limit bound site others) clock loads ≡ foundAt r
     go (Minute t) h =
         let from : clock ≤ t = omega (arith, s .starts, h .low) in
-        let bad : balanceAt (limits limit bound) loads t ≡ false = sym (balance-at s bound t from) ∙ h .fails in
-        first-is (λ t. not (balanceAt (limits limit bound) loads t)) (lastUntil loads - clock) clock t
+        let bad : balanceAt (limits limit bound site others) loads t ≡ false = sym (balance-at s bound t from) ∙ h .fails in
+        first-is (λ t. not (balanceAt (limits limit bound site others) loads t)) (lastUntil loads - clock) clock t
         (record {
           low = from;
           high =
               ⊎-elim
               (λ lt. omega (arith, from))
-              (λ ge. absurd (true≢false (sym (balance-past (limits limit bound) loads t ge) ∙ bad)))
+              (λ ge. absurd (true≢false (sym (balance-past (limits limit bound site others) loads t ge) ∙ bad)))
               (below-or-not t (lastUntil loads));
           here = ap not bad;
           least = λ u a b. ap not (sym (balance-at s bound u a) ∙ h .passed u (omega (arith, s .starts)) b);
         })
     go Never h =
-        first-nothing (λ t. not (balanceAt (limits limit bound) loads t)) (lastUntil loads - clock) clock
+        first-nothing (λ t. not (balanceAt (limits limit bound site others) loads t)) (lastUntil loads - clock) clock
         (λ t a b. ap not (sym (balance-at s bound t a) ∙ h t (omega (arith, s .starts))))

@@ -10,8 +10,7 @@ use borrow.Author.Tests.{le-leb, lt-leb, eqb-true, eqb-false}
 use lib.Dec.{eqb}
 use lib.ListN.{getD}
 use Rattle.profile.specs.Steps.{levelAt, In, Rising}
-use Rattle.profile.specs.Shows.{lineOf, levels, Formed}
-use Rattle.profile.specs.declared.Profile.{Profile}
+use Rattle.profile.specs.Shows.{Profile, lineOf, levels, Formed}
 use Rattle.profile.proofs.Lines.{Respects}
 use Rattle.rules.proofs.Ranges.{below-or-not}
 

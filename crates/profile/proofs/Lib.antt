@@ -4,5 +4,6 @@ pub mod Shifts
 pub mod Splits
 pub mod Adds
 pub mod Shown
+pub mod Copies
 pub mod Balances
 pub mod Picks

@@ -40,39 +40,39 @@ module _ (r : ℕ → ℕ → Bool) (f : ℕ → ℕ) (best : ℕ) (each : (m : 
           lowestLine (λ l. onLines (λ m. r (f m) (f l))) ≡ cond x 1 (cond y 2 3)
       chosen x y p q = rw (p, q) refl
 
-pub largest-pick : (a b c x high : ℕ) → x ≡ max b c → high ≡ max a x → Pick a b high (largestLine (ofLines a b c))
+pub largest-pick : (a b c x high : ℕ) → x ≡ max b c → high ≡ max a x → Pick a b high (largestLine (ofLines a b c 0))
 largest-pick a b c x high ex eh =
-    pick leb (ofLines a b c) high (λ m j. le-leb (ofLines a b c m) high (most m j))
+    pick leb (ofLines a b c 0) high (λ m j. le-leb (ofLines a b c 0 m) high (most m j))
     (λ l h w.
     omega (
       arith,
       most l h,
-      leb-true a (ofLines a b c l) (w 1 line-one),
-      leb-true b (ofLines a b c l) (w 2 line-two),
-      leb-true c (ofLines a b c l) (w 3 line-three),
+      leb-true a (ofLines a b c 0 l) (w 1 line-one),
+      leb-true b (ofLines a b c 0 l) (w 2 line-two),
+      leb-true c (ofLines a b c 0 l) (w 3 line-three),
     ))
   where
-    most : (m : ℕ) → IsLine m → ofLines a b c m ≤ high
+    most : (m : ℕ) → IsLine m → ofLines a b c 0 m ≤ high
     most = each-line _ (omega arith) (omega arith) (omega arith)
 
-pub smallest-pick : (a b c x low : ℕ) → x ≡ min b c → low ≡ min a x → Pick a b low (smallestLine (ofLines a b c))
+pub smallest-pick : (a b c x low : ℕ) → x ≡ min b c → low ≡ min a x → Pick a b low (smallestLine (ofLines a b c 0))
 smallest-pick a b c x low ex el =
-    pick (λ x y. leb y x) (ofLines a b c) low (λ m j. le-leb low (ofLines a b c m) (least m j))
+    pick (λ x y. leb y x) (ofLines a b c 0) low (λ m j. le-leb low (ofLines a b c 0 m) (least m j))
     (λ l h w.
     omega (
       arith,
       least l h,
-      leb-true (ofLines a b c l) a (w 1 line-one),
-      leb-true (ofLines a b c l) b (w 2 line-two),
-      leb-true (ofLines a b c l) c (w 3 line-three),
+      leb-true (ofLines a b c 0 l) a (w 1 line-one),
+      leb-true (ofLines a b c 0 l) b (w 2 line-two),
+      leb-true (ofLines a b c 0 l) c (w 3 line-three),
     ))
   where
-    least : (m : ℕ) → IsLine m → low ≤ ofLines a b c m
+    least : (m : ℕ) → IsLine m → low ≤ ofLines a b c 0 m
     least = each-line _ (omega arith) (omega arith) (omega arith)
 
 -- they go by the counts of the lines alone
-pub largest-same : (f : ℕ → ℕ) {a b c : ℕ} → a ≡ f 1 → b ≡ f 2 → c ≡ f 3 → largestLine (ofLines a b c) ≡ largestLine f
+pub largest-same : (f : ℕ → ℕ) {a b c : ℕ} → a ≡ f 1 → b ≡ f 2 → c ≡ f 3 → largestLine (ofLines a b c 0) ≡ largestLine f
 largest-same f ea eb ec = rw (ea, eb, ec) refl
 
-pub smallest-same : (f : ℕ → ℕ) {a b c : ℕ} → a ≡ f 1 → b ≡ f 2 → c ≡ f 3 → smallestLine (ofLines a b c) ≡ smallestLine f
+pub smallest-same : (f : ℕ → ℕ) {a b c : ℕ} → a ≡ f 1 → b ≡ f 2 → c ≡ f 3 → smallestLine (ofLines a b c 0) ≡ smallestLine f
 smallest-same f ea eb ec = rw (ea, eb, ec) refl

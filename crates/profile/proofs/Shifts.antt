@@ -9,8 +9,8 @@ use mathlib.Core.Bool.{false}
 use lib.Dec.{eqb}
 use lib.ListN.{length, getD, set, length-set}
 use lib.Seq.{getD-set-same, getD-set-other}
-use Rattle.rules.specs.Load.{IsLine, share}
-use Rattle.profile.specs.Steps.{mostSteps, columns, Inserted, Shifted, DoubledIn, RaisedIn}
+use Rattle.rules.specs.Load.{IsColumn, share}
+use Rattle.profile.specs.Steps.{columns, Inserted, Shifted, DoubledIn, RaisedIn}
 use Rattle.profile.proofs.Levels.{same-or-not}
 
 -- one turn of `shift`
@@ -52,10 +52,10 @@ pub shifting-done : {a₀ a : List ℕ} {lo hi w j : ℕ} → j ≤ lo → Shift
 shifting-done {a₀} {a} {lo} {hi} {w} {j} h i = record { size = i .shift .size; still = λ m b. i .shift .still m (omega (arith, i .low)); moved = λ m b c. i .shift .moved m (omega arith) c }
 
 -- a step's numbers up: the step is there twice
-pub shifted-double : {a b : List ℕ} {n i : ℕ} → length a ≡ columns * mostSteps → Shifted a b (columns * i) (columns * n) columns → DoubledIn a b n i
-shifted-double {a} {b} {n} {i} h w =
+pub shifted-double : {a b : List ℕ} {n i : ℕ} → Shifted a b (columns * i) (columns * n) columns → DoubledIn a b n i
+shifted-double {a} {b} {n} {i} w =
     record {
-      size = w .size ∙ h;
+      size = w .size;
       each = λ l hl.
           record {
             before = λ m c. w .still (columns * m + l - 1) (omega (arith, hl .high));
@@ -68,11 +68,11 @@ shifted-double {a} {b} {n} {i} h w =
 
 -- one place up, and v in the place that is free
 pub shifted-insert :
-    {a b : List ℕ} {n k v x : ℕ} → length a ≡ mostSteps → n < mostSteps → k ≤ n → Shifted a b k n 1 → x ≡ k → Inserted a (set b x v) n k v
-shifted-insert {a} {b} {n} {k} {v} h f g w ex =
+    {a b : List ℕ} {n k v x : ℕ} → n < length a → k ≤ n → Shifted a b k n 1 → x ≡ k → Inserted a (set b x v) n k v
+shifted-insert {a} {b} {n} {k} {v} f g w ex =
     rw ex
     (record {
-      size = length-set b k v ∙ w .size ∙ h;
+      size = length-set b k v ∙ w .size;
       before = λ m c. getD-set-other b k m v 0 (λ q. omega arith) ∙ w .still m (omega arith);
       here = getD-set-same b k v 0 (omega (arith, w .size));
       after = λ m c d. getD-set-other b k (suc m) v 0 (λ q. omega arith) ∙ ap (λ (x : ℕ). getD b x 0) (next m) ∙ w .moved m c d;
@@ -83,7 +83,7 @@ shifted-insert {a} {b} {n} {k} {v} h f g w ex =
 
 -- one turn of `raise`
 pub raised-on :
-    {a₀ a : List ℕ} {line rate i k p : ℕ} → IsLine line → i ≤ k → k < mostSteps → p ≡ columns * k + line - 1 → RaisedIn a₀ a line rate i k →
+    {a₀ a : List ℕ} {line rate i k p : ℕ} → IsColumn line → i ≤ k → columns * k + columns ≤ length a₀ → p ≡ columns * k + line - 1 → RaisedIn a₀ a line rate i k →
     RaisedIn a₀ (set a p (getD a p 0 + rate)) line rate i (k + 1)
 raised-on {a₀} {a} {line} {rate} {i} {k} {p} hl h lt e r =
     record {
@@ -114,6 +114,6 @@ raised-on {a₀} {a} {line} {rate} {i} {k} {p} hl h lt e r =
     plus-none : (x l : ℕ) → eqb line l ≡ false → x ≡ x + share line rate l
     plus-none x l q = rw q (omega arith)
 
-pub raised-none : (a : List ℕ) (line rate i : ℕ) → length a ≡ columns * mostSteps → RaisedIn a a line rate i i
-raised-none a line rate i h =
-    record { size = h; each = λ l hl. record { before = λ m b. refl; between = λ m b c. absurd (omega arith); after = λ m b. refl } }
+pub raised-none : (a : List ℕ) (line rate i : ℕ) → RaisedIn a a line rate i i
+raised-none a line rate i =
+    record { size = refl; each = λ l hl. record { before = λ m b. refl; between = λ m b c. absurd (omega arith); after = λ m b. refl } }

@@ -5,20 +5,20 @@ use mathlib.Core.Bool.{cond}
 use mathlib.Core.List.{List}
 use lib.Dec.{leb}
 use lib.ListN.{length, getD}
-use Rattle.rules.specs.Load.{IsLine, share}
+use Rattle.rules.specs.Load.{IsColumn, share}
 
 -- the level in the last of the n steps that begins at or before t, 0 if none does
 abbrev pub levelAt : List ℕ → (ℕ → ℕ) → ℕ → ℕ → ℕ
 levelAt ats f zero t = 0
 levelAt ats f (suc i) t = cond (leb (getD ats i 0) t) (f i) (levelAt ats f i t)
 
--- so many steps are enough: one, and two more for each of 180 loads
+-- so many steps are enough for all charges of four feeders: one, and two more for each of 720 loads
 abbrev pub mostSteps : ℕ
-mostSteps = 361
+mostSteps = 1441
 
--- so many numbers a step: one for each line. A further number of a step would be a fourth column, and 4 here.
+-- so many numbers a step: one for each line, and one for the other feeders
 abbrev pub columns : ℕ
-columns = 3
+columns = 4
 
 -- the numbers of line l, step by step, in a list of so many numbers a step
 abbrev pub lineIn : List ℕ → ℕ → ℕ → ℕ
@@ -35,10 +35,15 @@ Rising ats n = (i j : ℕ) → i < j → j < n → getD ats i 0 < getD ats j 0
 
 -- b is a with v put in at place k of the first n
 pub record Inserted (a b : List ℕ) (n k v : ℕ) : Type 0 where
-  pub size : length b ≡ mostSteps
+  pub size : length b ≡ length a
   pub before : (m : ℕ) → m < k → getD b m 0 ≡ getD a m 0
   pub here : getD b k 0 ≡ v
   pub after : (m : ℕ) → k ≤ m → m < n → getD b (suc m) 0 ≡ getD a m 0
+
+-- c is b with the first n numbers of a
+pub record Copied (a b c : List ℕ) (n : ℕ) : Type 0 where
+  pub size : length c ≡ length b
+  pub same : (m : ℕ) → m < n → getD c m 0 ≡ getD a m 0
 
 -- b is a with the places from lo up to hi moved w places up
 pub record Shifted (a b : List ℕ) (lo hi w : ℕ) : Type 0 where
@@ -59,9 +64,9 @@ pub record Raised (f g : ℕ → ℕ) (i j x : ℕ) : Type 0 where
 
 -- the same for each line
 pub record DoubledIn (a b : List ℕ) (n i : ℕ) : Type 0 where
-  pub size : length b ≡ columns * mostSteps
-  pub each : (l : ℕ) → IsLine l → Doubled (lineIn a l) (lineIn b l) n i
+  pub size : length b ≡ length a
+  pub each : (l : ℕ) → IsColumn l → Doubled (lineIn a l) (lineIn b l) n i
 
 pub record RaisedIn (a b : List ℕ) (line rate i j : ℕ) : Type 0 where
-  pub size : length b ≡ columns * mostSteps
-  pub each : (l : ℕ) → IsLine l → Raised (lineIn a l) (lineIn b l) i j (share line rate l)
+  pub size : length b ≡ length a
+  pub each : (l : ℕ) → IsColumn l → Raised (lineIn a l) (lineIn b l) i j (share line rate l)

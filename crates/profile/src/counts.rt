@@ -1,10 +1,10 @@
-// Counts of the lines.
+// Counts of the lines, and of the other feeders as a fourth.
 use crate::COLUMNS;
-use crate::STEPS;
 ghost use mathlib.Core.Path.{_≡_};
-ghost use Prim.Native.Nat.{_<_, max, min};
-ghost use Rattle.rules.specs.Load.{IsLine};
-ghost use Rattle.profile.specs.Steps.{mostSteps, lineIn};
+ghost use Prim.Native.Nat.{_+_, _*_, _<_, _≤_, max, min};
+ghost use Rattle.rules.specs.Load.{IsColumn};
+ghost use lib.ListN.{length};
+ghost use Rattle.profile.specs.Steps.{mostSteps, columns, lineIn};
 
 pub fn larger(a: u32, b: u32) -> u32
     ensures { λ r. ⌜ r ≡ max a b ⌝ }
@@ -19,8 +19,8 @@ pub fn smaller(a: u32, b: u32) -> u32
 }
 
 // The count of a line in a step.
-pub fn count_of<'a>(counts: &'a [u32; COLUMNS * STEPS], i: usize, line: usize) -> u32
-    requires { ⌜ (i < mostSteps) × IsLine line ⌝ }
+pub fn count_of<'a>(counts: &'a [u32], i: usize, line: usize) -> u32
+    requires { ⌜ (columns * i + columns ≤ length (now counts)) × (i < mostSteps) × IsColumn line ⌝ }
     ensures { λ r. ⌜ r ≡ lineIn (now (counts .entry)) line i ⌝ }
 {
     counts[COLUMNS * i + line - 1]

@@ -1,11 +1,23 @@
 // One more load, in the lent lists of a profile.
 use crate::COLUMNS;
-use crate::STEPS;
 use crate::counts::larger;
+use crate::steps::copy;
 use crate::steps::place;
 use crate::steps::raise;
 use crate::steps::shift;
-ghost use Rattle.profile.specs.Shows.{profileOf, CanSplit, Split, CanAdd, LoadAdded};
+ghost use mathlib.Core.List.{[]};
+ghost use lib.ListN.{length};
+ghost use Rattle.profile.specs.Shows.{profileOf, Roomy, ShowsIn, CanSplit, Split, CanAdd, LoadAdded};
+
+// No load: one step, which begins at the clock.
+pub fn begin(at: &mut [u32], counts: &mut [u32], clock: u32)
+    requires { ⌜ Roomy (now at) (now counts) ⌝ }
+    ensures { λ r. ⌜ ShowsIn (length (now (at .entry))) (profileOf 1 (now (at .exit)) (now (counts .exit))) clock [] ⌝ }
+{
+    at[0] = clock;
+    let none = [0; COLUMNS];
+    copy(&none, counts, COLUMNS);
+}
 
 // The number of steps, and the one that begins in the minute asked for.
 pub struct Step {
@@ -14,7 +26,7 @@ pub struct Step {
 }
 
 // The same levels, with t the beginning of a step.
-pub fn split(at: &mut [u32; STEPS], counts: &mut [u32; COLUMNS * STEPS], n: usize, t: u32) -> Step
+pub fn split(at: &mut [u32], counts: &mut [u32], n: usize, t: u32) -> Step
     requires { ⌜ CanSplit (profileOf n (now at) (now counts)) t ⌝ }
     ensures { λ r. ⌜ Split (profileOf n (now (at .entry)) (now (counts .entry))) (profileOf (r .steps) (now (at .exit)) (now (counts .exit))) t (r .step) ⌝ }
 {
@@ -32,10 +44,10 @@ pub fn split(at: &mut [u32; STEPS], counts: &mut [u32; COLUMNS * STEPS], n: usiz
     }
 }
 
-// One more load, of which what lies before the clock is left out. The answer: the number of steps.
+// One more load, on a line or, as line 4, of another feeder; what lies before the clock is left out. The answer: the number of steps.
 pub fn add(
-    at: &mut [u32; STEPS],
-    counts: &mut [u32; COLUMNS * STEPS],
+    at: &mut [u32],
+    counts: &mut [u32],
     n: usize,
     line: u32,
     time: u32,
@@ -53,7 +65,7 @@ pub fn add(
     if line < 1 {
         return n;
     }
-    if 3 < line {
+    if 4 < line {
         return n;
     }
     let a = split(at, counts, n, from);

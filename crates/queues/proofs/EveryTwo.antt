@@ -2,7 +2,7 @@
 use Prim.Native.Nat.{ℕ, zero, suc, _+_, _≤_, _<_}
 use mathlib.Core.Path.{_≡_}
 use mathlib.Core.Bool.{Bool, true, false, cond}
-use mathlib.Core.List.{List, [], _∷_}
+use mathlib.Core.List.{List, [], _∷_, _++_, map}
 use native.Mathlib.Omega.{arith}
 use Rattle.rules.specs.Basics.{Each, tabulate, keep}
 use Rattle.rules.proofs.Ranges.{along}
@@ -76,3 +76,40 @@ two-imp P R Q h (x ∷ xs) e d = (
   each-map (λ y. P y × R x y) (Q x) (λ y p. h x y (e .0) (p .0) (p .1)) xs (each-both P (R x) xs (e .1) (d .0)),
   two-imp P R Q h xs (e .1) (d .1),
 )
+
+-- what follows for two members alone
+pub two-so :
+    {A : Type 0} (R Q : A → A → Type 0) → ((x y : A) → R x y → Q x y) → (xs : List A) → InOrder R xs → InOrder Q xs
+two-so R Q h [] d = tt
+two-so R Q h (x ∷ xs) d = (each-map (R x) (Q x) (λ y r. h x y r) xs (d .0), two-so R Q h xs (d .1))
+
+module _ {A B : Type 0} (f : A → B) where
+  each-mapped : (P : B → Type 0) (xs : List A) → Each (λ x. P (f x)) xs → Each P (map f xs)
+  each-mapped P [] e = tt
+  each-mapped P (x ∷ xs) e = (e .0, each-mapped P xs (e .1))
+
+  pub two-map : (R : B → B → Type 0) (xs : List A) → InOrder (λ x y. R (f x) (f y)) xs → InOrder R (map f xs)
+  two-map R [] d = tt
+  two-map R (x ∷ xs) d = (each-mapped (R (f x)) xs (d .0), two-map R xs (d .1))
+
+module _ {A : Type 0} (R : A → A → Type 0) where
+  pub two-all : ((x y : A) → R x y) → (xs : List A) → InOrder R xs
+  two-all h [] = tt
+  two-all h (x ∷ xs) = (each xs, two-all h xs)
+    where
+      each : (ys : List A) → Each (R x) ys
+      each [] = tt
+      each (y ∷ ys) = (h x y, each ys)
+
+  -- of two lists one after another, each
+  pub two-right : (xs ys : List A) → InOrder R (xs ++ ys) → InOrder R ys
+  two-right [] ys d = d
+  two-right (x ∷ xs) ys d = two-right xs ys (d .1)
+
+  each-left : (P : A → Type 0) (xs ys : List A) → Each P (xs ++ ys) → Each P xs
+  each-left P [] ys e = tt
+  each-left P (x ∷ xs) ys e = (e .0, each-left P xs ys (e .1))
+
+  pub two-left : (xs ys : List A) → InOrder R (xs ++ ys) → InOrder R xs
+  two-left [] ys d = tt
+  two-left (x ∷ xs) ys d = (each-left (R x) xs ys (d .0), two-left xs ys (d .1))

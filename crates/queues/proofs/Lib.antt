@@ -5,4 +5,9 @@ pub mod Removing
 pub mod SignedBits
 pub mod Comparing
 pub mod Ordering
+pub mod Merging
+pub mod AnyOrder
+pub mod Pairs
 pub mod Reporting
+pub mod Together
+pub mod Feeders

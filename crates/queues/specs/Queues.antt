@@ -7,7 +7,7 @@ use lib.Dec.{eqb}
 use lib.IntN.{subℕ}
 use lib.Signed.{leZ}
 use lib.ListN.{length, getD}
-use Rattle.rules.specs.Calls.{places}
+use Rattle.rules.specs.Site.{places}
 use Rattle.rules.specs.Basics.{tabulate}
 use Rattle.rules.specs.Charge.{Charge}
 use Rattle.charges.specs.declared.Charges.{Charges}

@@ -4,7 +4,7 @@ use charges::places::Places;
 ghost use mathlib.Core.Path.{_≡_};
 ghost use Prim.Native.Nat.{_<_, _≤_};
 ghost use lib.ListN.{length};
-ghost use Rattle.rules.specs.Calls.{places};
+ghost use Rattle.rules.specs.Site.{places};
 ghost use Rattle.rules.specs.Basics.{keep};
 ghost use Rattle.charges.specs.Places.{placesOf, Inside, Lists};
 ghost use Rattle.queues.specs.Queues.{Removed, isOnLine};

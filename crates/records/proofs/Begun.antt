@@ -4,9 +4,9 @@ use Prim.Native.Nat.{ℕ, _+_, _-_, _≤_, _<_}
 use mathlib.Core.Logic.{_⊎_, inl, inr}
 use mathlib.Core.List.{List}
 use native.Mathlib.Omega.{arith}
-use lib.ListN.{length, getD, set, replicate, length-replicate}
+use lib.ListN.{getD, set, replicate, length-replicate}
 use lib.Seq.{getD-set-other}
-use Rattle.rules.specs.Calls.{places}
+use Rattle.rules.specs.Site.{places}
 use Rattle.rules.proofs.Ranges.{below-or-not}
 use Rattle.charges.proofs.Storing.{zeros}
 use Rattle.layout.specs.Lists.{listed}

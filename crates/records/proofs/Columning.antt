@@ -1,6 +1,6 @@
 -- Columns read place by place, and the station that they make.
 use mathlib.Core.Logic.{_⊎_, inl, inr}
-use mathlib.Core.Path.{_≡_, refl, ap, sym, _∙_}
+use mathlib.Core.Path.{_≡_, refl, _∙_}
 use Prim.Native.Nat.{ℕ, _+_, _*_, _≤_, _<_}
 use mathlib.Core.Bool.{Bool, true, false}
 use mathlib.Core.List.{List}
@@ -9,20 +9,16 @@ use lib.Dec.{leb}
 use lib.ListN.{getD, set, replicate, length-set, length-replicate}
 use lib.Seq.{getD-set-same, getD-set-other}
 use borrow.Author.Tests.{leb-true, le-leb, lt-leb}
-use Rattle.rules.specs.Charge.{Charge}
-use Rattle.rules.specs.Basics.{tabulate}
-use Rattle.rules.specs.Calls.{places, State, boundOf, nearestHundreds}
+use Rattle.rules.specs.Site.{places}
 use Rattle.rules.proofs.Ranges.{and-left, and-right, below-or-not}
-use Rattle.rules.proofs.Lists.{tabulate-same}
 use Rattle.charges.specs.declared.Charges.{Charges}
-use Rattle.charges.specs.Arrays.{Column, tickets, lines, orderMinutes, times, activeTimes, dues, starts, rates, columnOf, chargeAt, chargesOf, Filled, Columns}
+use Rattle.charges.specs.Arrays.{Column, tickets, lines, orderMinutes, times, activeTimes, dues, starts, rates, columnOf, Filled, Columns}
 use Rattle.charges.proofs.Storing.{zeros, filled-none, filled-set}
-use Rattle.station.specs.declared.Station.{Station}
 use Rattle.layout.specs.Reading.{headerAt}
 use Rattle.validity.specs.Settled.{settingsValid}
 use Rattle.validity.proofs.Ranging.{Ranged, ranged, product-fits, valid-ranged}
-use Rattle.records.specs.Contents.{recordIn, fieldIn, chargeFrom, stateFrom, headerRight}
-use Rattle.records.specs.Columns.{ColumnTo, HoldsFrom, ReadFrom}
+use Rattle.records.specs.Contents.{recordIn, fieldIn, settingsIn, headerRight}
+use Rattle.records.specs.Columns.{ColumnTo, HoldsFrom}
 
 pub column-none : (f : ℕ → ℕ) → ColumnTo f 0 (replicate places 0)
 column-none f = record { filled = filled-none; each = λ i h. absurd (omega arith) }
@@ -151,90 +147,41 @@ module _ (xs : List ℕ) (n : ℕ) (e : n ≡ headerAt xs 20) where
   many-held h = rw (← e, lt-leb n places h)
 
   pub header-is :
-      (limit percent tail clock next : ℕ) (r : Bool)
+      (limit percent tail clock next site : ℕ) (r : Bool)
       → n ≤ places
       → limit ≡ headerAt xs 0
       → percent ≡ headerAt xs 4
       → tail ≡ headerAt xs 8
       → clock ≡ headerAt xs 12
       → next ≡ headerAt xs 16
-      → r ≡ settingsValid limit percent tail clock next
+      → site ≡ headerAt xs 24
+      → r ≡ settingsValid limit percent tail clock next site
       → r ≡ headerRight xs
   unfolding headerRight
-  header-is limit percent tail clock next r h a b c d f g = rw (← e, le-leb n places h, ← a, ← b, ← c, ← d, ← f) g
+  header-is limit percent tail clock next site r h a b c d f w g =
+      rw (← e, le-leb n places h, ← a, ← b, ← c, ← d, ← f, ← w) g
 
 module _ (xs : List ℕ) (right : headerRight xs ≡ true) where
   pub held-few : headerAt xs 20 ≤ places
   unfolding headerRight
   held-few =
       leb-true (headerAt xs 20) places
-      (and-left (leb (headerAt xs 20) places) (settingsValid (headerAt xs 0) (headerAt xs 4) (headerAt xs 8) (headerAt xs 12) (headerAt xs 16)) right)
+      (and-left (leb (headerAt xs 20) places) (settingsIn xs) right)
 
-  pub settings-right : settingsValid (headerAt xs 0) (headerAt xs 4) (headerAt xs 8) (headerAt xs 12) (headerAt xs 16) ≡ true
+  pub settings-right : settingsIn xs ≡ true
   unfolding headerRight
   settings-right =
-      and-right (leb (headerAt xs 20) places) (settingsValid (headerAt xs 0) (headerAt xs 4) (headerAt xs 8) (headerAt xs 12) (headerAt xs 16)) right
+      and-right (leb (headerAt xs 20) places) (settingsIn xs) right
 
-  pub header-ranged : Ranged (headerAt xs 0) (headerAt xs 4) (headerAt xs 8) (headerAt xs 12) (headerAt xs 16)
+  pub header-ranged : Ranged (headerAt xs 0) (headerAt xs 4) (headerAt xs 8) (headerAt xs 12) (headerAt xs 16) (headerAt xs 24)
   header-ranged =
-      ranged (headerAt xs 0) (headerAt xs 4) (headerAt xs 8) (headerAt xs 12) (headerAt xs 16)
-      (valid-ranged (headerAt xs 0) (headerAt xs 4) (headerAt xs 8) (headerAt xs 12) (headerAt xs 16) settings-right)
+      ranged (headerAt xs 0) (headerAt xs 4) (headerAt xs 8) (headerAt xs 12) (headerAt xs 16) (headerAt xs 24)
+      (valid-ranged (headerAt xs 0) (headerAt xs 4) (headerAt xs 8) (headerAt xs 12) (headerAt xs 16) (headerAt xs 24) settings-right)
 
   pub header-product : headerAt xs 4 * headerAt xs 0 ≤ 6000
   header-product =
-      product-fits (headerAt xs 0) (headerAt xs 4) (headerAt xs 8) (headerAt xs 12) (headerAt xs 16)
-      (valid-ranged (headerAt xs 0) (headerAt xs 4) (headerAt xs 8) (headerAt xs 12) (headerAt xs 16) settings-right)
+      product-fits (headerAt xs 0) (headerAt xs 4) (headerAt xs 8) (headerAt xs 12) (headerAt xs 16) (headerAt xs 24)
+      (valid-ranged (headerAt xs 0) (headerAt xs 4) (headerAt xs 8) (headerAt xs 12) (headerAt xs 16) (headerAt xs 24) settings-right)
 
   pub product-told : (percent limit : ℕ) → percent ≡ headerAt xs 4 → limit ≡ headerAt xs 0 → percent * limit ≤ 6000
   product-told percent limit e f = rw (e, f) header-product
-
-  -- The station
-
-  abbrev stationWith : ℕ → ℕ → ℕ → ℕ → ℕ → ℕ → Charges → Station
-  stationWith limit percent bound tail clock next c =
-      record { limit = limit; percent = percent; bound = bound; tail = tail; clock = clock; next = next; charges = c }
-
-  charges-in :
-      (c : Charges) → HoldsFrom xs (headerAt xs 20) (headerAt xs 8) c → chargesOf c ≡ tabulate (chargeFrom xs (headerAt xs 8)) (headerAt xs 20) 0
-  charges-in c h =
-      rw (h .held-is)
-      (tabulate-same (chargeAt c) (chargeFrom xs (headerAt xs 8)) (headerAt xs 20) 0 (λ q p l. h .each q (omega arith)))
-
-  pub read-from :
-      (limit percent bound tail clock next held : ℕ) (c : Charges)
-      → limit ≡ headerAt xs 0
-      → percent ≡ headerAt xs 4
-      → tail ≡ headerAt xs 8
-      → clock ≡ headerAt xs 12
-      → next ≡ headerAt xs 16
-      → held ≡ headerAt xs 20
-      → bound ≡ nearestHundreds (percent * limit)
-      → HoldsFrom xs held tail c
-      → ReadFrom xs (stationWith limit percent bound tail clock next c)
-  unfolding stateFrom
-  read-from limit percent bound tail clock next held c a b d e f g i h =
-      record {
-        state = rw (i, a, b, d, e, f) (ap (stateWith (boundOf (headerAt xs 0) (headerAt xs 4))) (charges-in c (rw (g, d) at h)));
-        settled =
-            record {
-              columns = h .columns;
-              settings = rw (a, b, d, e, f) settings-right;
-              bound-is = i;
-              active = λ q l. active-in q (h .each q (omega (arith, h .held-is)));
-            };
-      }
-    where
-      stateWith : ℕ → List Charge → State
-      stateWith bound cs =
-          record {
-            limit = headerAt xs 0;
-            percent = headerAt xs 4;
-            bound = bound;
-            tail = headerAt xs 8;
-            clock = headerAt xs 12;
-            next = headerAt xs 16;
-            charges = cs;
-          }
-
-      active-in : (q : ℕ) → chargeAt c q ≡ chargeFrom xs tail q → chargeAt c q .activeTime ≡ chargeAt c q .time + tail
-      active-in q w = ap (λ (x : Charge). x .activeTime) w ∙ sym (ap (λ (x : Charge). x .time + tail) w)

@@ -1,19 +1,17 @@
 -- The contents of a station: block 0 from its numbers, and the rows of the records from their columns.
-use mathlib.Core.Logic.{_⊎_, inl, inr}
-use mathlib.Core.Path.{_≡_, refl, ap, sym, _∙_}
+use mathlib.Core.Path.{_≡_, ap, sym, _∙_}
 use Prim.Native.Nat.{ℕ, zero, suc, _+_, _-_, _*_, _/_, _%_, _≤_, _<_}
 use mathlib.Core.List.{List, [], _∷_}
 use native.Mathlib.Omega.{arith}
 use lib.ListN.{length, getD}
 use borrow.Author.Tests.{lt-ltb, le-ltb}
-use Rattle.rules.specs.Calls.{State}
-use Rattle.rules.proofs.Ranges.{below-or-not}
+use Rattle.rules.specs.Site.{State}
 use Rattle.charges.specs.Arrays.{chargeAt, Columns}
-use Rattle.station.specs.declared.Station.{Station}
-use Rattle.station.specs.View.{view}
+use Rattle.station.specs.declared.One.{One}
+use Rattle.validity.specs.Settled.{heldBy, single}
 use Rattle.layout.specs.Bytes.{byteOf, packedFrom, packed}
 use Rattle.layout.specs.Arrangement.{perBlock, numberOf}
-use Rattle.layout.specs.Image.{heldAt, headerOf, fieldsOf, recordByte, numbered, content}
+use Rattle.layout.specs.Image.{only, headerOf, fieldsOf, recordByte, numbered}
 use Rattle.layout.proofs.Contents.{record-held, record-none, numbered-in, numbered-out, content-header, content-records}
 use Rattle.layout.proofs.Laying.{record-back, byte-back}
 use Rattle.validity.proofs.Settling.{held-count, held-at}
@@ -52,7 +50,8 @@ module _ (s : State) where
 -- Block 0
 
 abbrev headerNumbers : State → List ℕ
-headerNumbers s = s .limit ∷ s .percent ∷ s .tail ∷ s .clock ∷ s .next ∷ length (s .charges) ∷ []
+headerNumbers s =
+    only s .limit ∷ only s .percent ∷ only s .tail ∷ s .clock ∷ s .next ∷ length (only s .charges) ∷ s .site ∷ []
 
 abbrev fours : List ℕ → List (ℕ × ℕ)
 fours [] = []
@@ -69,40 +68,42 @@ fours-from a (x ∷ xs) (suc w) j h l =
     rw (le-ltb (a + 4 * suc w + j) (a + 4) (omega arith)) (rw e at (fours-from (a + 4) xs w j (omega arith) l))
 
 module _ (s : State) where
-  header-content : (w j : ℕ) → w < 6 → j < 4 → byteOf j (getD (headerNumbers s) w 0) ≡ contentByte s (4 * w + j)
+  header-content : (w j : ℕ) → w < 7 → j < 4 → byteOf j (getD (headerNumbers s) w 0) ≡ contentByte s (4 * w + j)
   header-content w j h l =
       let z : 0 + 4 * w + j ≡ 4 * w + j = omega arith in
       sym (rw z at (fours-from 0 (headerNumbers s) w j h l)) ∙ sym (first-content s (4 * w + j) (omega arith))
 
-  pub behind-header : (i : ℕ) → 24 ≤ i → i < 508 → _≡_ {A = ℕ} (contentByte s i) 0
+  pub behind-header : (i : ℕ) → 28 ≤ i → i < 508 → _≡_ {A = ℕ} (contentByte s i) 0
   behind-header i l h =
       first-content s i h
-      ∙ rw (le-ltb i 4 (omega arith), le-ltb i 8 (omega arith), le-ltb i 12 (omega arith), le-ltb i 16 (omega arith), le-ltb i 20 (omega arith), le-ltb i 24 l)
+      ∙ rw (le-ltb i 4 (omega arith), le-ltb i 8 (omega arith), le-ltb i 12 (omega arith), le-ltb i 16 (omega arith), le-ltb i 20 (omega arith), le-ltb i 24 (omega arith), le-ltb i 28 l)
+
+-- the numbers of a feeder and its station, with so many charges
+abbrev pub numbersOf : One → ℕ → List ℕ
+numbersOf o n = o .feeder .limit ∷ o .feeder .percent ∷ o .feeder .tail ∷ o .clock ∷ o .next ∷ n ∷ o .site ∷ []
 
 pub header-of :
-    (s : Station) (w j : ℕ) → w < 6 → j < 4
-    → byteOf j (getD (s .limit ∷ s .percent ∷ s .tail ∷ s .clock ∷ s .next ∷ s .charges .held ∷ []) w 0) ≡ contentByte (view s) (4 * w + j)
-header-of s w j h l =
-    ap (λ n. byteOf j (getD (s .limit ∷ s .percent ∷ s .tail ∷ s .clock ∷ s .next ∷ n ∷ []) w 0)) (sym (held-count s))
-    ∙ header-content (view s) w j h l
+    (o : One) (w j : ℕ) → w < 7 → j < 4 → byteOf j (getD (numbersOf o (heldBy o .held)) w 0) ≡ contentByte (single o) (4 * w + j)
+header-of o w j h l =
+    ap (λ n. byteOf j (getD (numbersOf o n) w 0)) (sym (held-count o)) ∙ header-content (single o) w j h l
 
 -- Records
 
-module _ (s : Station) (k : Columns (s .charges)) where
-  -- byte `byte` of a column's numbers as byte j of the records
+module _ (o : One) (k : Columns (heldBy o)) where
+  -- byte `byte` of a column'o numbers as byte j of the records
   abbrev pub SameByte : List ℕ → ℕ → ℕ → Type 0
-  SameByte column j byte = (q : ℕ) → byteOf byte (getD column q 0) ≡ packed (fieldsOf (chargeAt (s .charges) q)) j
+  SameByte column j byte = (q : ℕ) → byteOf byte (getD column q 0) ≡ packed (fieldsOf (chargeAt (heldBy o) q)) j
 
   pub row-of :
-      (column : List ℕ) (j byte : ℕ) → j < 20 → SameByte column j byte → RowOf (contentByte (view s)) column (s .charges .held) j byte
+      (column : List ℕ) (j byte : ℕ) → j < 20 → SameByte column j byte → RowOf (contentByte (single o)) column (heldBy o .held) j byte
   row-of column j byte h e =
       record {
         each = λ q l.
             e q
-            ∙ ap (λ c. packed (fieldsOf c) j) (sym (held-at s q l))
-            ∙ sym (record-held (view s) q j (omega (arith, held-count s)))
-            ∙ sym (record-content (view s) q j (omega (arith, k .few)) h);
-        none = λ q l m. record-content (view s) q j m h ∙ record-none (view s) q j (omega (arith, held-count s));
+            ∙ ap (λ c. packed (fieldsOf c) j) (sym (held-at o q l))
+            ∙ sym (record-held (single o) q j (omega (arith, held-count o)))
+            ∙ sym (record-content (single o) q j (omega (arith, k .few)) h);
+        none = λ q l m. record-content (single o) q j m h ∙ record-none (single o) q j (omega (arith, held-count o));
       }
 
   -- the four bytes of a field from byte `from` on
@@ -115,7 +116,7 @@ module _ (s : Station) (k : Columns (s .charges)) where
       → SameByte column (from + 3) 3
       → (byte : ℕ)
       → byte < 4
-      → RowOf (contentByte (view s)) column (s .charges .held) (from + byte) byte
+      → RowOf (contentByte (single o)) column (heldBy o .held) (from + byte) byte
   column-of column from h a b c d zero l = let z : from + 0 ≡ from = omega arith in rw z (row-of column from 0 (omega arith) a)
   column-of column from h a b c d (suc zero) l = row-of column (from + 1) 1 (omega arith) b
   column-of column from h a b c d (suc (suc zero)) l = row-of column (from + 2) 2 (omega arith) c

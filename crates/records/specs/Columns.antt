@@ -5,8 +5,8 @@ use mathlib.Core.List.{List}
 use lib.ListN.{getD}
 use Rattle.charges.specs.declared.Charges.{Charges}
 use Rattle.charges.specs.Arrays.{chargeAt, Filled, Columns}
-use Rattle.station.specs.declared.Station.{Station}
-use Rattle.station.specs.View.{view}
+use Rattle.station.specs.declared.One.{One}
+use Rattle.station.specs.View.{view, stationOf}
 use Rattle.validity.specs.Settled.{Settled}
 use Rattle.records.specs.Contents.{recordIn, fieldIn, chargeFrom, stateFrom}
 
@@ -37,6 +37,9 @@ pub record HoldsFrom (contents : List ℕ) (held tail : ℕ) (c : Charges) : Typ
   pub columns : Columns c
   pub each : (q : ℕ) → q < held → chargeAt c q ≡ chargeFrom contents tail q
 
-pub record ReadFrom (contents : List ℕ) (s : Station) : Type 0 where
-  pub state : view s ≡ stateFrom contents
-  pub settled : Settled s
+-- the only feeder of the station that the contents would be of
+pub record ReadFrom (contents : List ℕ) (o : One) : Type 0 where
+  pub state : view (stationOf o) ≡ stateFrom contents
+  pub settled : Settled o
+  pub single : o .count ≡ 1
+  pub first : o .place ≡ 0

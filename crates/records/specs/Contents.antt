@@ -1,12 +1,13 @@
 -- The contents of a station, and the station that contents would be of.
 use Prim.Native.Nat.{ℕ, _+_, _/_, _%_}
 use mathlib.Core.Bool.{Bool, _&&_}
-use mathlib.Core.List.{List}
+use mathlib.Core.List.{List, [], _∷_}
 use lib.Dec.{leb}
 use lib.ListN.{getD}
 use Rattle.rules.specs.Basics.{tabulate}
 use Rattle.rules.specs.Charge.{Charge}
-use Rattle.rules.specs.Calls.{places, State, boundOf}
+use Rattle.rules.specs.Site.{places, Feeder, State}
+use Rattle.rules.specs.Calls.{boundOf}
 use Rattle.charges.specs.Arrays.{charge}
 use Rattle.layout.specs.Lists.{listed}
 use Rattle.layout.specs.Bytes.{numberAt}
@@ -39,20 +40,31 @@ chargeFrom contents tail q =
     charge (fieldIn contents 0 4 q) (fieldIn contents 18 1 q) (fieldIn contents 12 4 q) (fieldIn contents 16 2 q)
     (fieldIn contents 16 2 q + tail) (fieldIn contents 8 4 q) (fieldIn contents 4 4 q) (fieldIn contents 19 1 q)
 
-unfoldable pub stateFrom : List ℕ → State
-stateFrom contents =
+abbrev pub feederFrom : List ℕ → Feeder
+feederFrom contents =
     record {
       limit = headerAt contents 0;
       percent = headerAt contents 4;
       bound = boundOf (headerAt contents 0) (headerAt contents 4);
       tail = headerAt contents 8;
-      clock = headerAt contents 12;
-      next = headerAt contents 16;
       charges = tabulate (chargeFrom contents (headerAt contents 8)) (headerAt contents 20) 0;
     }
 
--- the number of charges and the settings pass their tests
+unfoldable pub stateFrom : List ℕ → State
+stateFrom contents =
+    record {
+      feeders = feederFrom contents ∷ [];
+      site = headerAt contents 24;
+      clock = headerAt contents 12;
+      next = headerAt contents 16;
+    }
+
+-- the settings of block 0 pass their test
+abbrev pub settingsIn : List ℕ → Bool
+settingsIn contents =
+    settingsValid (headerAt contents 0) (headerAt contents 4) (headerAt contents 8) (headerAt contents 12) (headerAt contents 16)
+    (headerAt contents 24)
+
+-- and so does the number of charges
 unfoldable pub headerRight : List ℕ → Bool
-headerRight contents =
-    leb (headerAt contents 20) places
-    && settingsValid (headerAt contents 0) (headerAt contents 4) (headerAt contents 8) (headerAt contents 12) (headerAt contents 16)
+headerRight contents = leb (headerAt contents 20) places && settingsIn contents

@@ -23,9 +23,9 @@ pub record HeaderPut (header before after : List ℕ) : Type 0 where
   pub long : length after ≡ 4572
   pub put :
       (f : ℕ → ℕ)
-      → ((w j : ℕ) → w < 6 → j < 4 → byteOf j (getD header w 0) ≡ f (4 * w + j))
+      → ((w j : ℕ) → w < 7 → j < 4 → byteOf j (getD header w 0) ≡ f (4 * w + j))
       → Begun f 0 before
-      → Begun f 24 after
+      → Begun f 28 after
 
 pub record RowPut (column : List ℕ) (held j byte : ℕ) (before after : List ℕ) : Type 0 where
   pub long : length after ≡ 4572

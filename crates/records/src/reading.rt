@@ -5,13 +5,14 @@ use blocks::bytes::wide;
 use charges::Charges;
 use charges::PLACES;
 use profile::balance::nearest_hundreds;
-use station::Station;
+use station::Feeder;
+use station::One;
 use validity::ranges::settings_valid;
 ghost use mathlib.Core.Path.{_≡_};
 ghost use mathlib.Core.Bool.{true};
 ghost use Prim.Native.Nat.{ℕ, _+_, _<_, _≤_};
 ghost use lib.ListN.{length, getD};
-ghost use Rattle.rules.specs.Calls.{places};
+ghost use Rattle.rules.specs.Site.{places};
 ghost use Rattle.charges.specs.Arrays.{Filled};
 ghost use Rattle.records.specs.Contents.{headerRight};
 ghost use Rattle.records.specs.Columns.{RowJoined, ColumnRead, ColumnTo, HoldsFrom, ReadFrom};
@@ -67,6 +68,7 @@ pub fn header_right(contents: &[u8]) -> bool
         number_at(contents, 8),
         number_at(contents, 12),
         number_at(contents, 16),
+        number_at(contents, 24),
     )
 }
 
@@ -96,8 +98,8 @@ fn read_charges(contents: &[u8], held: usize, tail: u32) -> Charges
     }
 }
 
-// The station that the contents would be of.
-pub fn read(contents: &[u8]) -> Station
+// The only feeder of the station that the contents would be of. No whole station is made of it, since that has the places of four.
+pub fn read(contents: &[u8]) -> One
     requires { ⌜ (length (now contents) ≡ 4572) × (headerRight (now contents) ≡ true) ⌝ }
     ensures { λ r. ⌜ ReadFrom (now (contents .entry)) r ⌝ }
 {
@@ -107,13 +109,19 @@ pub fn read(contents: &[u8]) -> Station
     let held = number_at(contents, 20) as usize;
     let product = percent * limit;
     let charges = read_charges(contents, held, tail);
-    Station {
+    let feeder = Feeder {
         limit,
         percent,
         bound: nearest_hundreds(product),
         tail,
+        charges,
+    };
+    One {
+        count: 1,
+        site: number_at(contents, 24),
         clock: number_at(contents, 12),
         next: number_at(contents, 16),
-        charges,
+        place: 0,
+        feeder,
     }
 }

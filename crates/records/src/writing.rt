@@ -4,17 +4,18 @@ use blocks::bytes::byte_of;
 use blocks::bytes::put_number;
 use blocks::contents::CONTENTS;
 use charges::PLACES;
-use station::Station;
+use station::One;
 ghost use mathlib.Core.Path.{_≡_};
 ghost use Prim.Native.Nat.{_+_, _<_, _≤_};
 ghost use lib.ListN.{length};
-ghost use Rattle.rules.specs.Calls.{places};
+ghost use Rattle.rules.specs.Site.{places};
 ghost use Rattle.charges.specs.Arrays.{Columns};
-ghost use Rattle.station.specs.View.{view};
+ghost use Rattle.station.specs.View.{view, stationOf};
 ghost use Rattle.records.specs.Contents.{contentsOf};
 ghost use Rattle.records.specs.Rows.{HeaderPut, RowPut, ColumnPut};
 
-const HEADER: usize = 6;
+// N, c, r, clock, next ticket, number held and W.
+const HEADER: usize = 7;
 
 // The numbers of block 0.
 fn put_header<'a>(header: &'a [u32; HEADER], contents: &mut [u8])
@@ -47,19 +48,22 @@ fn put_column<'a>(column: &'a [u32; PLACES], held: usize, from: usize, contents:
     }
 }
 
-pub fn contents_of(station: Station) -> [u8; CONTENTS]
-    requires { ⌜ Columns (station .charges) ⌝ }
-    ensures { λ r. ⌜ r ≡ contentsOf (view station) ⌝ }
+// The contents of the station of which this is the only feeder.
+pub fn contents_of(one: One) -> [u8; CONTENTS]
+    requires { ⌜ Columns (one .feeder .charges) ⌝ }
+    ensures { λ r. ⌜ r ≡ contentsOf (view (stationOf one)) ⌝ }
 {
-    let charges = station.charges;
+    let feeder = one.feeder;
+    let charges = feeder.charges;
     let held = charges.held;
     let header = [
-        station.limit,
-        station.percent,
-        station.tail,
-        station.clock,
-        station.next,
+        feeder.limit,
+        feeder.percent,
+        feeder.tail,
+        one.clock,
+        one.next,
         held as u32,
+        one.site,
     ];
     let mut contents = [0u8; CONTENTS];
     put_header(&header, &mut contents);

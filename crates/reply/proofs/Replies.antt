@@ -1,12 +1,13 @@
 -- From what a call gives, and what is printed, to what a request is answered.
 use mathlib.Core.Path.{_≡_, refl, sym, ap, subst, _∙_}
 use mathlib.Core.List.{List, _++_}
-use Prim.Native.Nat.{ℕ, _+_, _≤_, min}
+use Prim.Native.Nat.{ℕ, _+_, _-_, _≤_, min}
 use native.Mathlib.Omega.{arith}
-use lib.ListN.{length, take, drop, replicate, length-replicate}
-use lib.Seq.{sets, sets-eq, length-sets, take-at}
+use lib.ListN.{length, take, drop, replicate, length-append, length-drop, length-replicate}
+use lib.Seq.{sets, sets-eq, length-sets, length-take-le, take-at, take-all}
 use Rattle.rules.specs.Basics.{at}
-use Rattle.rules.specs.Calls.{State, Result}
+use Rattle.rules.specs.Site.{State}
+use Rattle.rules.specs.Calls.{Result}
 use Rattle.text.specs.Printed.{Printed}
 use Rattle.text.proofs.Printing.{printed-as}
 use Rattle.answers.specs.Answers.{answerText, listedOf}
@@ -25,12 +26,12 @@ use Rattle.reply.proofs.Reports.{Reports, reports, few-reports, text-af
 
 -- a call reads the numbers that are lent to it, and where none are it is given none
 numbers-read : (c : Call) (ss list : List ℕ) (n places : ℕ) → Lent (lends c) n places → length ss ≤ n → numbersIn (callOf c ss list) ≡ length ss
-numbers-read (Preview line time due rate) ss list n places e h = omega (arith, e .0)
-numbers-read (Commit line time due rate shown) ss list n places e h = omega (arith, e .0)
+numbers-read (Preview o) ss list n places e h = omega (arith, e .0)
+numbers-read (Commit o shown) ss list n places e h = omega (arith, e .0)
 numbers-read (Move target) ss list n places e h = omega (arith, e)
-numbers-read Offer ss list n places e h = refl
-numbers-read ReplanLatest ss list n places e h = omega (arith, e .0)
-numbers-read (ReplanLines allowance) ss list n places e h = omega (arith, e .0)
+numbers-read (Offer feeder) ss list n places e h = refl
+numbers-read (ReplanLatest feeder) ss list n places e h = omega (arith, e .0)
+numbers-read (ReplanLines feeder allowance) ss list n places e h = omega (arith, e .0)
 numbers-read (Enquire ticket) ss list n places e h = omega (arith, e .0)
 numbers-read Board ss list n places e h = refl
 numbers-read (Withdraw ticket) ss list n places e h = omega (arith, e .0)
@@ -40,13 +41,13 @@ module _ {s : Station} (c : Call) {ss list after : List ℕ} {a : code.Answer} {
   reports-so : Reports (lends c) (listedOf (answerOf a) (length ss)) (length list)
   reports-so =
       subst (λ (x : Result). Reports (lends c) (listedOf (x .answer) (length ss)) (length list)) (sym (p .gives .result))
-      (reports (view s) c ss list (v .state .few))
+      (reports (view s) c ss list (v .state))
 
-  few-told : (listedOf (answerOf a) (length ss) ≤ 360) × (listedOf (answerOf a) (length ss) ≤ length list)
+  few-told : (listedOf (answerOf a) (length ss) ≤ 1440) × (listedOf (answerOf a) (length ss) ≤ length list)
   few-told = few-reports (lends c) (listedOf (answerOf a) (length ss)) (length list) reports-so
 
   -- what is said to a call is what it gives, with the list that was lent to it at the front of a whole one
-  pub call-says :
+  call-says :
       (n places asked lent : ℕ) (whole : List ℕ) → Lent (lends c) n places → length ss ≤ n → asked ≡ length ss → take lent whole ≡ after
       → lent ≤ length whole → length list ≤ lent
       → Says (called (view s) (callOf c ss list)) (record { station = next; said = said.Call a asked lent }) whole
@@ -66,18 +67,18 @@ module _ {s : Station} (c : Call) {ss list after : List ℕ} {a : code.Answer} {
 after-call :
     (s : State) (c : Call) (ss after : List ℕ) (n places : ℕ) {a : code.Answer} {next : Station} → Lent (lends c) n places
     → Applies s c ss (lentList places) after a next → after ≡ writtenBy s (callOf c ss (lentList places))
-after-call s (Preview line time due rate) ss after n places e p = p .stays ∙ ap lentList (e .1)
-after-call s (Commit line time due rate shown) ss after n places e p = p .stays ∙ ap lentList (e .1)
+after-call s (Preview o) ss after n places e p = p .stays ∙ ap lentList (e .1)
+after-call s (Commit o shown) ss after n places e p = p .stays ∙ ap lentList (e .1)
 after-call s (Move target) ss after n places e p = ap (λ (x : Result). x .list) (p .gives .result)
-after-call s Offer ss after n places e p = p .stays ∙ ap lentList e
-after-call s ReplanLatest ss after n places e p = p .stays ∙ ap lentList (e .1)
-after-call s (ReplanLines allowance) ss after n places e p = p .stays ∙ ap lentList (e .1)
+after-call s (Offer feeder) ss after n places e p = p .stays ∙ ap lentList e
+after-call s (ReplanLatest feeder) ss after n places e p = p .stays ∙ ap lentList (e .1)
+after-call s (ReplanLines feeder allowance) ss after n places e p = p .stays ∙ ap lentList (e .1)
 after-call s (Enquire ticket) ss after n places e p = p .stays ∙ ap lentList (e .1)
 after-call s Board ss after n places e p = ap (λ (x : Result). x .list) (p .gives .result)
 after-call s (Withdraw ticket) ss after n places e p = p .stays ∙ ap lentList (e .1)
 
 -- the lent front of the list as the call leaves it, and the rest of it as it was
-pub list-left :
+list-left :
     {s : State} (c : Call) {ss after : List ℕ} (n places lent : ℕ) (list : List ℕ) {a : code.Answer} {next : Station}
     → Lent (lends c) n places → length after ≡ lent → lent ≤ length list → Applies s c ss (lentList places) after a next
     → after ++ drop lent list ≡ sets list 0 (writtenBy s (callOf c ss (lentList places)))
@@ -85,6 +86,44 @@ list-left {s} c {ss} {after} n places lent list e l h p =
     let put : sets list 0 after ≡ after ++ drop (0 + length after) list = sets-eq after list 0 (omega arith) in
     let size : 0 + length after ≡ lent = omega arith in
     sym (put ∙ ap (λ (x : ℕ). after ++ drop x list) size) ∙ ap (sets list 0) (after-call s c ss after n places e p)
+
+-- A call with the numbers from a place on, and so many places at the front of a list: what is said, and what is left of the list.
+pub call-replied :
+    {s next : Station} (c : Call) (numbers list : List ℕ) {after : List ℕ} (from places : ℕ) {lent asked : ℕ} {a : code.Answer}
+    → Valid s
+    → 4096 ≤ length list
+    → take (length (lentList places)) list ≡ lentList places
+    → from ≤ length numbers
+    → Lent (lends c) (length numbers) places
+    → lent ≡ min places 4096
+    → lent ≤ 4096
+    → length after ≡ length (take lent list)
+    → asked ≡ length numbers - from
+    → Applies (view s) c (take (length numbers - from) (drop from numbers)) (take lent list) after a next
+    → Says (called (view s) (callOf c (drop from numbers) (lentList places))) (record { station = next; said = said.Call a asked lent }) (after ++ drop lent list)
+    × (after ++ drop lent list ≡ sets list 0 (writtenBy (view s) (callOf c (drop from numbers) (lentList places))))
+call-replied {s} {next} c numbers list {after} from places {lent} {asked} {a} v room front inside e is few keeps same p = (
+  call-says c v applies (length numbers) places asked lent (after ++ drop lent list) e (omega (arith, read)) (omega (arith, same, read))
+      (take-at after (drop lent list) lent long)
+      (omega (arith, long, length-append after (drop lent list)))
+      (omega (arith, size)),
+  list-left c (length numbers) places lent list e long (omega (arith, few, room)) applies,
+)
+  where
+    size : length (lentList places) ≡ lent
+    size = length-replicate {A = ℕ} (min places 4096) 4294967295 ∙ sym is
+
+    long : length after ≡ lent
+    long = keeps ∙ length-take-le lent list (omega (arith, few, room))
+
+    read : length (drop from numbers) ≡ length numbers - from
+    read = length-drop from numbers
+
+    applies : Applies (view s) c (drop from numbers) (lentList places) after a next
+    applies =
+        subst (λ (l : List ℕ). Applies (view s) c (drop from numbers) l after a next)
+        (ap (λ (n : ℕ). take n list) (sym size) ∙ front)
+        (rw (take-all (length numbers - from) (drop from numbers) (omega (arith, read))) at p)
 
 -- The list as it is filled for a request, and what stands at its front
 

@@ -3,7 +3,8 @@ use Prim.Native.Nat.{ℕ, _≤_}
 use mathlib.Core.Path.{_≡_}
 use mathlib.Core.List.{List, []}
 use lib.ListN.{length, take}
-use Rattle.rules.specs.Calls.{State, Call, preview, commit, move, offer, replanLatest, replanLines, enquire, board, withdraw, Result}
+use Rattle.rules.specs.Site.{State}
+use Rattle.rules.specs.Calls.{Call, preview, commit, move, offer, replanLatest, replanLines, enquire, board, withdraw, Result}
 use Rattle.rules.specs.Calls as calls
 use Rattle.requests.specs.Requests.{Asked, nothing, opening, call, error, readRequest, lentList}
 use Rattle.requests.specs.declared.request.Request as declared
@@ -13,7 +14,7 @@ use Rattle.requests.specs.Errors.{errorText}
 use Rattle.answers.specs.Answers.{answerText, listedOf}
 use Rattle.station.specs.declared.Station.{Station}
 use Rattle.station.specs.View.{view, Valid}
-use Rattle.station.specs.Answers.{openAnswer}
+use Rattle.station.specs.Opened.{openAnswer}
 use Rattle.calls.specs.Applied.{answerOf}
 use Rattle.reply.specs.declared.Said.{Said}
 use Rattle.reply.specs.declared.Said.the-variants as said
@@ -26,12 +27,12 @@ pub record Told : Type 0 where
 
 -- how many numbers a call is given to read
 abbrev pub numbersIn : Call → ℕ
-numbersIn (preview line time due rate) = 0
-numbersIn (commit line time due rate shown) = 0
+numbersIn (preview feeder line time due rate) = 0
+numbersIn (commit feeder line time due rate shown) = 0
 numbersIn (move target list) = 0
-numbersIn (offer starts) = length starts
-numbersIn replanLatest = 0
-numbersIn (replanLines allowance) = 0
+numbersIn (offer feeder starts) = length starts
+numbersIn (replanLatest feeder) = 0
+numbersIn (replanLines feeder allowance) = 0
 numbersIn (enquire ticket) = 0
 numbersIn (board asked list) = length asked
 numbersIn (withdraw ticket) = 0
@@ -57,12 +58,12 @@ answered s request = reply s (readRequest request)
 
 -- what a call leaves at the front of the list that is lent for writing: a clock move and a board alone write
 abbrev pub writtenBy : State → Call → List ℕ
-writtenBy s (preview line time due rate) = []
-writtenBy s (commit line time due rate shown) = []
+writtenBy s (preview feeder line time due rate) = []
+writtenBy s (commit feeder line time due rate shown) = []
 writtenBy s (move target list) = calls.step s (move target list) .list
-writtenBy s (offer starts) = []
-writtenBy s replanLatest = []
-writtenBy s (replanLines allowance) = []
+writtenBy s (offer feeder starts) = []
+writtenBy s (replanLatest feeder) = []
+writtenBy s (replanLines feeder allowance) = []
 writtenBy s (enquire ticket) = []
 writtenBy s (board asked list) = calls.step s (board asked list) .list
 writtenBy s (withdraw ticket) = []
@@ -94,7 +95,7 @@ saidText (said.Error reason) list = errorText reason
 abbrev pub SaidFits : Said → ℕ → Type 0
 SaidFits said.Nothing places = Unit {0}
 SaidFits (said.Opening a) places = Unit {0}
-SaidFits (said.Call a asked lent) places = (lent ≤ places) × ((listedOf (answerOf a) asked ≤ lent) × (listedOf (answerOf a) asked ≤ 360))
+SaidFits (said.Call a asked lent) places = (lent ≤ places) × ((listedOf (answerOf a) asked ≤ lent) × (listedOf (answerOf a) asked ≤ 1440))
 SaidFits (said.Error reason) places = Unit {0}
 
 -- This is said to a request, printed with this list, and the station beside it is valid.

@@ -1,5 +1,7 @@
 // One request: read, called, printed. The station goes through the second step alone, in which nothing is read or printed: so the
-// compiled program copies it less often.
+// compiled program copies it less often. Where a station has one feeder, this alone goes through it (`alone`).
+pub mod alone;
+
 ghost use mathlib.Core.Path.{_≡_};
 ghost use mathlib.Core.List.{List};
 ghost use Prim.Native.Nat.{ℕ, _+_, _≤_};
@@ -9,7 +11,7 @@ ghost use Rattle.rules.specs.Calls.{opening};
 ghost use Rattle.requests.specs.Requests.{readRequest, requestValues, meaning, lentList, Fits, Lent, Asks};
 ghost use Rattle.text.specs.Printed.{Printed};
 ghost use Rattle.station.specs.View.{view, Valid};
-ghost use Rattle.station.specs.Answers.{settingsOf};
+ghost use Rattle.station.specs.Opened.{askedOf};
 ghost use Rattle.calls.specs.Applied.{callOf, lends};
 ghost use Rattle.reply.specs.Reply.{told, called, reply, lentBy, writtenBy, requestWritten, saidText, SaidFits, Says, placesOf};
 use calls::Answer;
@@ -17,8 +19,8 @@ use calls::Call;
 use requests::Reason;
 use requests::Request;
 use station::Station;
+use station::open::Asked;
 use station::open::OpenAnswer;
-use station::open::Settings;
 
 // What is said to a request. With the answer of a call stand how many numbers it read, and how many places it was lent for writing.
 pub enum Said {
@@ -44,7 +46,7 @@ fn places_asked(request: Request) -> u32
 {
     match request {
         Request::Nothing => 0,
-        Request::Open { settings } => 0,
+        Request::Open { asked } => 0,
         Request::Call {
             call,
             from,
@@ -69,10 +71,10 @@ pub fn read(text: &[u8], numbers: &mut [u32], list: &mut [u32]) -> Request
     request
 }
 
-fn reply_open(settings: Settings) -> Reply
-    ensures { λ r. ⌜ ((list : List ℕ) → Says (told 0 (opening (settingsOf settings))) r list) ⌝ }
+fn reply_open(asked: Asked) -> Reply
+    ensures { λ r. ⌜ ((list : List ℕ) → Says (told 0 (opening (askedOf asked))) r list) ⌝ }
 {
-    let opened = Station::open(settings);
+    let opened = Station::open(asked);
     let station = opened.station;
     let answer = opened.answer;
     Reply {
@@ -121,7 +123,7 @@ pub fn reply_request(station: Station, request: Request, numbers: &[u32], list: 
             station,
             said: Said::Nothing,
         },
-        Request::Open { settings } => reply_open(settings),
+        Request::Open { asked } => reply_open(asked),
         Request::Call {
             call,
             from,
@@ -135,10 +137,10 @@ pub fn reply_request(station: Station, request: Request, numbers: &[u32], list: 
     }
 }
 
-// Puts what is said into a buffer at a place, with the list that was lent for writing; the place after it. At most 180 pairs are
-// reported, and no more tickets answered, so that 7,656 bytes are room enough.
+// Puts what is said into a buffer at a place, with the list that was lent for writing; the place after it. At most 720 pairs are
+// reported, 180 of each feeder, and 180 tickets answered, so that 30,336 bytes are room enough: 96, and 21 for each number.
 pub fn print(said: Said, list: &[u32], out: &mut [u8], at: usize) -> usize
-    requires { ⌜ SaidFits said (length (now list)) × (at + 7656 ≤ length (now out)) ⌝ }
+    requires { ⌜ SaidFits said (length (now list)) × (at + 30336 ≤ length (now out)) ⌝ }
     ensures { λ r. ⌜ Printed (saidText said (now (list .entry))) (now (out .entry)) at (now (out .exit)) r ⌝ }
 {
     match said {

@@ -1,12 +1,13 @@
 -- What a line of text asks for.
-use Prim.Native.Nat.{ℕ, zero, suc, _-_, min, _≤_}
+use Prim.Native.Nat.{ℕ, zero, suc, _+_, _-_, _%_, min, _≤_}
 use mathlib.Core.Path.{_≡_}
 use mathlib.Core.Bool.{Bool, true, cond}
 use mathlib.Core.List.{List, [], _∷_}
 use lib.Dec.{ltb, eqb}
 use lib.ListN.{length, getD, take, drop, replicate}
 use lib.Seq.{sets, slice}
-use Rattle.rules.specs.Calls.{Settings, settings, Call, preview, commit, move, offer, replanLatest, replanLines, enquire, board, withdraw}
+use Rattle.rules.specs.Calls as rules
+use Rattle.rules.specs.Calls.{settings, Call, preview, commit, move, offer, replanLatest, replanLines, enquire, board, withdraw}
 use Rattle.text.specs.Numbers.{numberOf}
 use Rattle.text.specs.Parts.{split}
 use Rattle.text.specs.declared.number.Number.{Number}
@@ -16,7 +17,7 @@ use Rattle.requests.specs.declared.request.Reason.{Reason}
 use Rattle.requests.specs.declared.request.Reason.the-variants.{UnknownCall, NotANumber, NumberTooLarge, MissingNumber, ExtraNumber, LineTooLong}
 use Rattle.requests.specs.declared.word.CallName.{CallName}
 use Rattle.requests.specs.declared.word.CallName.the-variants.{Open, Preview, Commit, Move, Offer, Latest, Lines, Enquire, Board, Withdraw, Unknown}
-use Rattle.station.specs.Answers.{settingsOf}
+use Rattle.station.specs.Opened.{askedOf}
 use Rattle.calls.specs.Applied as applied
 use Rattle.requests.specs.declared.request.Request as declared
 use Rattle.requests.specs.declared.request.Request.the-variants as request
@@ -28,7 +29,7 @@ use Rattle.requests.specs.declared.request.Numbers.the-variants as count
 -- What is asked for: nothing, an opening, a call of the station that stands; or why none of these.
 pub data Asked : Type 0 where
   nothing : Asked
-  opening : Settings → Asked
+  opening : rules.Asked → Asked
   call : Call → Asked
   error : Reason → Asked
 
@@ -37,16 +38,16 @@ pub data Numbers : Type 0 where
   numbers : List ℕ → Numbers
   wrong : Reason → Numbers
 
--- How many numbers a call takes, at least and at most. An offer and a board take as many as a request can hold: after `offer` or
--- `board` 4,091 bytes are left, and a number with the space before it has two at least. Those are 2,045, so that 2,048 are never passed.
+-- How many numbers a call takes, at least and at most. An opening takes the settings of one to four feeders. An offer and a board take as
+-- many as a request can hold: after `offer` or `board` 4,091 bytes are left, and a number with the space before it has two at least. Those are 2,045, so that 2,048 are never passed.
 abbrev pub taken : CallName → Takes
-taken Open = Between 3 3
-taken Preview = Between 4 4
-taken Commit = Between 5 5
+taken Open = Between 5 14
+taken Preview = Between 5 5
+taken Commit = Between 6 6
 taken Move = Between 2 2
-taken Offer = Between 0 2048
-taken Latest = Between 0 0
-taken Lines = Between 1 1
+taken Offer = Between 1 2048
+taken Latest = Between 1 1
+taken Lines = Between 2 2
 taken Enquire = Between 1 1
 taken Board = Between 1 2048
 taken Withdraw = Between 1 1
@@ -84,15 +85,32 @@ valuesRead (suc most) (word ∷ words) = before (numberOf word) (valuesRead most
 abbrev pub lentList : ℕ → List ℕ
 lentList places = replicate (min places 4096) 4294967295
 
+-- the settings of a feeder, N, c and r, from a place on: "feeders that are not given count as 0 0 0"
+abbrev pub settingsFrom : List ℕ → ℕ → rules.Settings
+settingsFrom ns i = settings (getD ns i 0) (getD ns (i + 1) 0) (getD ns (i + 2) 0)
+
+-- the count, W, and the settings of four feeders
+abbrev pub askedFrom : List ℕ → rules.Asked
+askedFrom ns =
+    record {
+      count = getD ns 0 0;
+      site = getD ns 1 0;
+      settings = settingsFrom ns 2 ∷ settingsFrom ns 5 ∷ settingsFrom ns 8 ∷ settingsFrom ns 11 ∷ [];
+    }
+
+-- an opening with its numbers: the last feeder that is given has all three of its own
+abbrev pub openOf : List ℕ → Asked
+openOf ns = cond (eqb (length ns % 3) 2) (opening (askedFrom ns)) (error MissingNumber)
+
 -- the call of a name with its numbers
 abbrev pub callOf : CallName → List ℕ → Asked
-callOf Open ns = opening (settings (getD ns 0 0) (getD ns 1 0) (getD ns 2 0))
-callOf Preview ns = call (preview (getD ns 0 0) (getD ns 1 0) (getD ns 2 0) (getD ns 3 0))
-callOf Commit ns = call (commit (getD ns 0 0) (getD ns 1 0) (getD ns 2 0) (getD ns 3 0) (getD ns 4 0))
+callOf Open ns = openOf ns
+callOf Preview ns = call (preview (getD ns 0 0) (getD ns 1 0) (getD ns 2 0) (getD ns 3 0) (getD ns 4 0))
+callOf Commit ns = call (commit (getD ns 0 0) (getD ns 1 0) (getD ns 2 0) (getD ns 3 0) (getD ns 4 0) (getD ns 5 0))
 callOf Move ns = call (move (getD ns 0 0) (lentList (getD ns 1 0)))
-callOf Offer ns = call (offer ns)
-callOf Latest ns = call replanLatest
-callOf Lines ns = call (replanLines (getD ns 0 0))
+callOf Offer ns = call (offer (getD ns 0 0) (drop 1 ns))
+callOf Latest ns = call (replanLatest (getD ns 0 0))
+callOf Lines ns = call (replanLines (getD ns 0 0) (getD ns 1 0))
 callOf Enquire ns = call (enquire (getD ns 0 0))
 callOf Board ns = call (board (drop 1 ns) (lentList (getD ns 0 0)))
 callOf Withdraw ns = call (withdraw (getD ns 0 0))
@@ -150,7 +168,7 @@ Within most (count.Wrong reason) = Unit {0}
 
 abbrev pub meaning : declared.Request → List ℕ → Asked
 meaning request.Nothing list = nothing
-meaning (request.Open x) list = opening (settingsOf x)
+meaning (request.Open x) list = opening (askedOf x)
 meaning (request.Call c from until places) list = call (applied.callOf c (slice from until list) (lentList places))
 meaning (request.Error reason) list = error reason
 

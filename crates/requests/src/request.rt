@@ -1,13 +1,17 @@
 // What a line of text asks for.
 ghost use mathlib.Core.Path.{_≡_};
-ghost use Prim.Native.Nat.{_≤_, min};
+ghost use Prim.Native.Nat.{_≤_, _<_, min};
 ghost use mathlib.Core.List.{_++_};
 ghost use lib.ListN.{length, drop, getD, replicate};
 ghost use Rattle.text.specs.Parts.{partsAfter};
-ghost use Rattle.requests.specs.Requests.{taken, AtMost, Calls, readCall, callValues, readRequest, requestValues, TakesNumbers, Asks};
+ghost use Rattle.station.specs.Opened.{settingsOf};
+ghost use Rattle.requests.specs.declared.word.CallName.the-variants.{Open};
+ghost use Rattle.requests.specs.Requests.{taken, AtMost, settingsFrom, Calls, readCall, callValues, readRequest, requestValues, TakesNumbers, Asks};
 use crate::word::CallName;
 use crate::word::call_named;
 use calls::Call;
+use ordering::Order;
+use station::open::Asked;
 use station::open::Settings;
 use text::Number;
 use text::part_end;
@@ -29,7 +33,7 @@ pub enum Reason {
 pub enum Request {
     Nothing,
     Open {
-        settings: Settings,
+        asked: Asked,
     },
     Call {
         call: Call,
@@ -55,21 +59,21 @@ enum Numbers {
     Wrong(Reason),
 }
 
-// An offer and a board take as many numbers as a request can hold.
+// An opening takes the settings of one to four feeders, an offer and a board as many numbers as a request can hold.
 fn taken(name: CallName) -> Takes
     ensures { λ r. ⌜ (r ≡ taken name) × AtMost 2048 r ⌝ }
 {
     match name {
-        CallName::Open => Takes::Between { least: 3, most: 3 },
-        CallName::Preview => Takes::Between { least: 4, most: 4 },
-        CallName::Commit => Takes::Between { least: 5, most: 5 },
+        CallName::Open => Takes::Between { least: 5, most: 14 },
+        CallName::Preview => Takes::Between { least: 5, most: 5 },
+        CallName::Commit => Takes::Between { least: 6, most: 6 },
         CallName::Move => Takes::Between { least: 2, most: 2 },
         CallName::Offer => Takes::Between {
-            least: 0,
+            least: 1,
             most: MOST,
         },
-        CallName::Latest => Takes::Between { least: 0, most: 0 },
-        CallName::Lines => Takes::Between { least: 1, most: 1 },
+        CallName::Latest => Takes::Between { least: 1, most: 1 },
+        CallName::Lines => Takes::Between { least: 2, most: 2 },
         CallName::Enquire => Takes::Between { least: 1, most: 1 },
         CallName::Board => Takes::Between {
             least: 1,
@@ -124,6 +128,46 @@ fn behind_first(numbers: &[u32]) -> usize
     if numbers.len() < 1 { 0 } else { 1 }
 }
 
+// The settings of a feeder, whose N stands at a place.
+fn settings_from(numbers: &[u32], i: usize) -> Settings
+    requires { ⌜ i < 12 ⌝ }
+    ensures { λ r. ⌜ settingsOf r ≡ settingsFrom (now (numbers .entry)) i ⌝ }
+{
+    let limit = number_at(numbers, i);
+    let percent = number_at(numbers, i + 1);
+    let tail = number_at(numbers, i + 2);
+    Settings {
+        limit,
+        percent,
+        tail,
+    }
+}
+
+// An opening with its numbers. Feeders that are not given count as 0 0 0.
+fn open_of(numbers: &[u32]) -> Request
+    ensures { λ r. ⌜ Calls Open (now (numbers .entry)) r ⌝ }
+{
+    if numbers.len() % 3 != 2 {
+        return Request::Error(Reason::MissingNumber);
+    }
+    let count = number_at(numbers, 0);
+    let site = number_at(numbers, 1);
+    let one = settings_from(numbers, 2);
+    let two = settings_from(numbers, 5);
+    let three = settings_from(numbers, 8);
+    let four = settings_from(numbers, 11);
+    Request::Open {
+        asked: Asked {
+            count,
+            site,
+            one,
+            two,
+            three,
+            four,
+        },
+    }
+}
+
 // The call of a name with its numbers.
 fn call_of(name: CallName, numbers: &[u32]) -> Request
     ensures { λ r. ⌜ Calls name (now (numbers .entry)) r ⌝ }
@@ -133,32 +177,27 @@ fn call_of(name: CallName, numbers: &[u32]) -> Request
     let third = number_at(numbers, 2);
     let fourth = number_at(numbers, 3);
     let fifth = number_at(numbers, 4);
+    let sixth = number_at(numbers, 5);
+    let order = Order {
+        feeder: first,
+        line: second,
+        time: third,
+        due: fourth,
+        rate: fifth,
+    };
+    let behind = behind_first(numbers);
     match name {
-        CallName::Open => Request::Open {
-            settings: Settings {
-                limit: first,
-                percent: second,
-                tail: third,
-            },
-        },
+        CallName::Open => open_of(numbers),
         CallName::Preview => Request::Call {
-            call: Call::Preview {
-                line: first,
-                time: second,
-                due: third,
-                rate: fourth,
-            },
+            call: Call::Preview { order },
             from: 0,
             until: 0,
             places: 0,
         },
         CallName::Commit => Request::Call {
             call: Call::Commit {
-                line: first,
-                time: second,
-                due: third,
-                rate: fourth,
-                shown: fifth,
+                order,
+                shown: sixth,
             },
             from: 0,
             until: 0,
@@ -171,19 +210,22 @@ fn call_of(name: CallName, numbers: &[u32]) -> Request
             places: second,
         },
         CallName::Offer => Request::Call {
-            call: Call::Offer,
-            from: 0,
+            call: Call::Offer { feeder: first },
+            from: behind,
             until: numbers.len(),
             places: 0,
         },
         CallName::Latest => Request::Call {
-            call: Call::ReplanLatest,
+            call: Call::ReplanLatest { feeder: first },
             from: 0,
             until: 0,
             places: 0,
         },
         CallName::Lines => Request::Call {
-            call: Call::ReplanLines { allowance: first },
+            call: Call::ReplanLines {
+                feeder: first,
+                allowance: second,
+            },
             from: 0,
             until: 0,
             places: 0,
@@ -194,15 +236,12 @@ fn call_of(name: CallName, numbers: &[u32]) -> Request
             until: 0,
             places: 0,
         },
-        CallName::Board => {
-            let from = behind_first(numbers);
-            Request::Call {
-                call: Call::Board,
-                from,
-                until: numbers.len(),
-                places: first,
-            }
-        }
+        CallName::Board => Request::Call {
+            call: Call::Board,
+            from: behind,
+            until: numbers.len(),
+            places: first,
+        },
         CallName::Withdraw => Request::Call {
             call: Call::Withdraw { ticket: first },
             from: 0,

@@ -7,8 +7,9 @@ use mathlib.Core.List.{List, [], _∷_, _++_, map}
 use native.Mathlib.Omega.{arith}
 use Rattle.rules.specs.Basics.{Each, keep}
 use Rattle.rules.specs.Charge.{begunCharges}
-use Rattle.rules.specs.Calls.{State, Call, step}
-use Rattle.rules.specs.Valid.{ValidState}
+use Rattle.rules.specs.Site.{State, chargesOn, siteCharges}
+use Rattle.rules.specs.Calls.{Call, step}
+use Rattle.rules.specs.Valid.{IsFeeder, ValidState}
 use Rattle.rules.proofs.Ranges.{below-or-not}
 use Rattle.guarantee.specs.Past.{Order, Report, orderOf, ordersOf, reportOf, beginning, past, isWithdrawn, stayingOrders, withdrawnOrders, timesReported, startOf}
 use Rattle.guarantee.specs.DemandThree.{Kept, Unmoved, DemandThreeFrom}
@@ -17,10 +18,7 @@ use Rattle.guarantee.proofs.Unmoved.{reports-added}
 use Rattle.guarantee.proofs.Staying.{all-stay}
 use Rattle.guarantee.proofs.DemandThree.{demand-three-from, beginning-starts}
 use Rattle.restarts.specs.Restarts.{FromElsewhere}
-
-each-left : {A : Type 0} (P : A → Type 0) (l m : List A) → Each P (l ++ m) → Each P l
-each-left P [] m e = tt
-each-left P (a ∷ l) m e = (e .0, each-left P l m (e .1))
+use Rattle.restarts.proofs.Feeders.{each-left, orders-on}
 
 -- what holds of those that pass a test, and of the others
 each-split :
@@ -45,78 +43,91 @@ module _ (s : State) (calls : List Call) (v : ValidState s) where
   from : DemandThreeFrom step s calls
   from = demand-three-from s calls v
 
-  -- the start as it was at the beginning
-  begun-starts : Each (λ c. c .start < s .clock → startOf step (past step s calls) (orderOf c) ≡ c .start) (s .charges)
-  begun-starts =
-      each-two
-      (λ c. startOf step (beginning s) (orderOf c) ≡ c .start)
-      (λ c. Unmoved step (beginning s) (past step s calls) (orderOf c))
-      (λ c. c .start < s .clock → startOf step (past step s calls) (orderOf c) ≡ c .start)
-      (λ c e u j. u (rw e j) ∙ e)
-      (s .charges)
-      (beginning-starts s v)
-      (image-each (Unmoved step (beginning s) (past step s calls)) orderOf (s .charges)
-      (subst (λ (os : List Order). Each (Unmoved step (beginning s) (past step s calls)) os) (all-stay (ordersOf (s .charges)))
-      (from .unmoved [] calls refl)))
-
   -- an order that stays is reported once or not at all, one that is withdrawn never
-  kept-once : (o : Order) → Kept step (past step s calls) o → timesReported (past step s calls .reports) (o .ticket) ≤ 1
+  abbrev AtMostOnce : Order → Type 0
+  AtMostOnce o = timesReported (past step s calls .reports) (o .ticket) ≤ 1
+
+  kept-once : (o : Order) → Kept step (past step s calls) o → AtMostOnce o
   kept-once o k = go (below-or-not (startOf step (past step s calls) o) (past step s calls .clock))
     where
       go :
           (startOf step (past step s calls) o < past step s calls .clock) ⊎ (past step s calls .clock ≤ startOf step (past step s calls) o)
-          → timesReported (past step s calls .reports) (o .ticket) ≤ 1
+          → AtMostOnce o
       go (inl h) = omega (arith, k .reported h)
       go (inr h) = omega (arith, k .not-reported h)
 
-  held-once : Each (λ c. timesReported (past step s calls .reports) (c .ticket) ≤ 1) (s .charges)
-  held-once =
-      image-each (λ o. timesReported (past step s calls .reports) (o .ticket) ≤ 1) orderOf (s .charges)
-      (each-left (λ o. timesReported (past step s calls .reports) (o .ticket) ≤ 1) (ordersOf (s .charges)) (from .tickets .0)
-      (subst (λ (os : List Order). Each (λ o. timesReported (past step s calls .reports) (o .ticket) ≤ 1) os) (from .tickets .1)
-      (each-split (λ o. timesReported (past step s calls .reports) (o .ticket) ≤ 1) (isWithdrawn (past step s calls .withdrawn)) (past step s calls .orders)
-      (each-in kept-once (stayingOrders (past step s calls)) (from .orders))
-      (each-in (λ o g. omega (arith, g .not-reported)) (withdrawnOrders (past step s calls)) (from .gone)))))
+  -- the charges of one feeder
+  module _ (f : ℕ) (h : IsFeeder s f) where
+    on : (P : Order → Type 0) → Each P (ordersOf s) → Each (λ c. P (orderOf f c)) (chargesOn s f)
+    on P e = image-each P (orderOf f) (chargesOn s f) (orders-on P s f h e)
 
-  -- those begun had been reported at the beginning
-  begun-once : Each (λ c. c .start < s .clock → timesReported (beginning s .reports) (c .ticket) ≡ 1) (s .charges)
-  begun-once =
-      each-two
-      (λ c. startOf step (beginning s) (orderOf c) ≡ c .start)
-      (λ c. Kept step (beginning s) (orderOf c))
-      (λ c. c .start < s .clock → timesReported (beginning s .reports) (c .ticket) ≡ 1)
-      (λ c e k j. k .reported (omega (arith, e)))
-      (s .charges)
-      (beginning-starts s v)
-      (image-each (Kept step (beginning s)) orderOf (s .charges)
-      (subst (λ (os : List Order). Each (Kept step (beginning s)) os) (all-stay (ordersOf (s .charges)))
-      (demand-three-from s [] v .orders)))
+    -- their orders stay at the beginning
+    on-staying : (P : Order → Type 0) → Each P (stayingOrders (beginning s)) → Each (λ c. P (orderOf f c)) (chargesOn s f)
+    on-staying P e = on P (subst (λ (os : List Order). Each P os) (all-stay (ordersOf s)) e)
 
-  not-again :
-      (new : List Report)
-      → past step s calls .reports ≡ map reportOf (begunCharges (s .clock) (s .charges)) ++ new
-      → Each (λ c. c .start < s .clock → timesReported new (c .ticket) ≡ 0) (s .charges)
-  not-again new e =
-      each-two
-      (λ c. timesReported (past step s calls .reports) (c .ticket) ≤ 1)
-      (λ c. c .start < s .clock → timesReported (beginning s .reports) (c .ticket) ≡ 1)
-      (λ c. c .start < s .clock → timesReported new (c .ticket) ≡ 0)
-      (λ c whole here j. once (c .ticket) whole (here j))
-      (s .charges)
-      held-once
-      begun-once
-    where
-      once :
-          (t : ℕ)
-          → timesReported (past step s calls .reports) t ≤ 1
-          → timesReported (beginning s .reports) t ≡ 1
-          → timesReported new t ≡ 0
-      once t whole here =
-          let sum : timesReported (beginning s .reports ++ new) t ≤ 1
-          = subst (λ (rs : List Report). timesReported rs t ≤ 1) e whole in
-          omega (arith, here, sum, times-append (beginning s .reports) new t)
+    -- the start as it was at the beginning
+    begun-starts :
+        Each (λ c. c .start < s .clock → startOf step (past step s calls) (orderOf f c) ≡ c .start) (chargesOn s f)
+    begun-starts =
+        each-two
+        (λ c. startOf step (beginning s) (orderOf f c) ≡ c .start)
+        (λ c. Unmoved step (beginning s) (past step s calls) (orderOf f c))
+        (λ c. c .start < s .clock → startOf step (past step s calls) (orderOf f c) ≡ c .start)
+        (λ c e u j. u (rw e j) ∙ e)
+        (chargesOn s f)
+        (beginning-starts s v f h)
+        (on-staying (Unmoved step (beginning s) (past step s calls)) (from .unmoved [] calls refl))
+
+    held-once : Each (λ c. timesReported (past step s calls .reports) (c .ticket) ≤ 1) (chargesOn s f)
+    held-once =
+        on AtMostOnce
+        (each-left AtMostOnce (ordersOf s) (from .tickets .0)
+        (subst (λ (os : List Order). Each AtMostOnce os) (from .tickets .1)
+        (each-split AtMostOnce (isWithdrawn (past step s calls .withdrawn)) (past step s calls .orders)
+        (each-in kept-once (stayingOrders (past step s calls)) (from .orders))
+        (each-in (λ o g. omega (arith, g .not-reported)) (withdrawnOrders (past step s calls)) (from .gone)))))
+
+    -- those begun had been reported at the beginning
+    begun-once : Each (λ c. c .start < s .clock → timesReported (beginning s .reports) (c .ticket) ≡ 1) (chargesOn s f)
+    begun-once =
+        each-two
+        (λ c. startOf step (beginning s) (orderOf f c) ≡ c .start)
+        (λ c. Kept step (beginning s) (orderOf f c))
+        (λ c. c .start < s .clock → timesReported (beginning s .reports) (c .ticket) ≡ 1)
+        (λ c e k j. k .reported (omega (arith, e)))
+        (chargesOn s f)
+        (beginning-starts s v f h)
+        (on-staying (Kept step (beginning s)) (demand-three-from s [] v .orders))
+
+    not-again :
+        (new : List Report)
+        → past step s calls .reports ≡ map reportOf (begunCharges (s .clock) (siteCharges s)) ++ new
+        → Each (λ c. c .start < s .clock → timesReported new (c .ticket) ≡ 0) (chargesOn s f)
+    not-again new e =
+        each-two
+        (λ c. timesReported (past step s calls .reports) (c .ticket) ≤ 1)
+        (λ c. c .start < s .clock → timesReported (beginning s .reports) (c .ticket) ≡ 1)
+        (λ c. c .start < s .clock → timesReported new (c .ticket) ≡ 0)
+        (λ c whole here j. once (c .ticket) whole (here j))
+        (chargesOn s f)
+        held-once
+        begun-once
+      where
+        once :
+            (t : ℕ)
+            → timesReported (past step s calls .reports) t ≤ 1
+            → timesReported (beginning s .reports) t ≡ 1
+            → timesReported new t ≡ 0
+        once t whole here =
+            let sum : timesReported (beginning s .reports ++ new) t ≤ 1
+            = subst (λ (rs : List Report). timesReported rs t ≤ 1) e whole in
+            omega (arith, here, sum, times-append (beginning s .reports) new t)
 
   pub from-elsewhere : FromElsewhere s calls
   from-elsewhere =
       let new = reports-added step calls (beginning s) in
-      record { three = from; begun = each-in (λ c f j. f (omega (arith, j))) (s .charges) begun-starts; not-again = (new .0, new .1, not-again (new .0) (new .1)) }
+      record {
+        three = from;
+        begun = λ f h. each-in (λ c b j. b (omega (arith, j))) (chargesOn s f) (begun-starts f h);
+        not-again = (new .0, new .1, λ f h. not-again f h (new .0) (new .1));
+      }

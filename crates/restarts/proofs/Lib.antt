@@ -1,5 +1,6 @@
 pub mod Cases
 pub mod CasesElsewhere
+pub mod Feeders
 pub mod Elsewhere
 pub mod Together
 pub mod Restarts

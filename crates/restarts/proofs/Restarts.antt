@@ -1,7 +1,7 @@
 -- Demand 3 holds across restarts.
 use mathlib.Core.Path.{_≡_, refl, sym, subst}
 use mathlib.Core.List.{List, [], _∷_}
-use Rattle.rules.specs.Calls.{Settings, settings, fresh, opening, Call, step}
+use Rattle.rules.specs.Calls.{Asked, fresh, least, opening, Call, step}
 use Rattle.rules.specs.Valid.{ValidState}
 use Rattle.rules.proofs.Validity.{opening-valid}
 use Rattle.guarantee.specs.DemandThree.{DemandThree}
@@ -15,9 +15,9 @@ use Rattle.restarts.specs.Restarts.{Controller, does, doesAll, opened, s
 use Rattle.restarts.proofs.Elsewhere.{from-elsewhere}
 use Rattle.restarts.proofs.Together.{Together, together-next, shown-due}
 
-refused-three : (calls : List Call) → DemandThree step (fresh (settings 1 100 0)) calls
+refused-three : (calls : List Call) → DemandThree step (fresh least) calls
 unfolding opening
-refused-three calls = demand-three (settings 1 100 0) calls
+refused-three calls = demand-three least calls
 
 claimed : (b : Beginning) (calls : List Call) → ValidState (first b) → ClaimedFrom b calls
 claimed (anOpening x) calls v = demand-three x calls
@@ -34,7 +34,7 @@ seen-all c l [] t = refl
 seen-all c l (e ∷ events) t =
     rw (shown-due c l e t, seen-all (does c e) (next l e) events (together-next c l e t))
 
-first-together : (x : Settings) → Together (opened x) (unsaved x)
+first-together : (x : Asked) → Together (opened x) (unsaved x)
 first-together x = record { station = refl; images = refl; now = opening-valid x; saved = tt }
 
 pub across : AcrossRestarts

@@ -22,6 +22,10 @@ pub until-each : (b : ℕ) (cs : List Charge) → Each (λ c. activeUntil c ≤ 
 until-each b [] e = omega arith
 until-each b (c ∷ cs) e = omega (arith, e .0, until-each b cs (e .1))
 
+pub each-until : (b : ℕ) (cs : List Charge) → lastUntil (loadsOf cs) ≤ b → Each (λ c. activeUntil c ≤ b) cs
+each-until b [] h = tt
+each-until b (c ∷ cs) h = (omega arith, each-until b cs (omega arith))
+
 -- a charge draws up to r minutes after its end
 pub last-until :
     (r : ℕ) (cs : List Charge) → Each (λ c. c .activeTime ≡ c .time + r) cs → lastUntil (loadsOf cs) ≤ lastEnd cs + r

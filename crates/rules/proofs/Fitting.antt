@@ -7,15 +7,15 @@ use mathlib.Core.Bool.{Bool, true, false, cond, not, true≢false}
 use mathlib.Core.List.{List, [], _∷_, _++_, append-assoc}
 use native.Mathlib.Omega.{arith}
 use lib.Dec.{leb, eqb}
-use borrow.Author.Tests.{leb-true, le-leb, lt-leb}
-use Rattle.rules.specs.Basics.{at, runOf, keep, some}
+use borrow.Author.Tests.{le-leb, lt-leb}
+use Rattle.rules.specs.Basics.{throughout, at, runOf, keep, some}
 use Rattle.rules.specs.Load.{Load, Draw, count, lastUntil}
 use Rattle.rules.specs.Charge.{Charge, drawOf, loadOf, loadsOf}
 use Rattle.rules.specs.Search.{added, Caps, roomFor, fitsUnder}
 use Rattle.rules.specs.Priority.{Fitting, fitsAt, firstFit, withoutTicket}
-use Rattle.rules.proofs.Ranges.{fails, below-or-not, along, or-left, or-right, or-none, IsFirst, first-found, first-is}
+use Rattle.rules.proofs.Ranges.{fails, below-or-not, throughout-at, throughout-all, along, or-left, or-right, or-none, IsFirst, first-found, first-is}
 use Rattle.rules.proofs.Lists.{map-append}
-use Rattle.rules.proofs.Searches.{count-added, under-at, under-all}
+use Rattle.rules.proofs.Searches.{count-added, Under, room-under, under-room}
 
 -- The run of minutes that pass a test
 
@@ -65,75 +65,79 @@ run-is f k a r x =
     )
 
 -- A charge fits at a start exactly when the run of minutes from it on with room for its rate is at least its time.
-module _ (cap : Caps) (xs : List Load) (a : Draw) where
-  pub fits-run :
-      (most s : ℕ)
-      → a .time ≤ most
-      → fitsUnder cap xs a s ≡ leb (a .time) (runOf (roomFor cap xs (a .line) (a .rate)) most s)
-  fits-run most s h = go (run-has (roomFor cap xs (a .line) (a .rate)) most s) (below-or-not (runOf (roomFor cap xs (a .line) (a .rate)) most s) (a .time))
-    where
-      r : ℕ
-      r = runOf (roomFor cap xs (a .line) (a .rate)) most s
+pub fits-run :
+    (w : ℕ) (cap : Caps) (xs : List Load) (a : Draw) (most s : ℕ)
+    → a .time ≤ most
+    → fitsUnder w cap xs a s ≡ leb (a .time) (runOf (roomFor w cap xs (a .line) (a .rate)) most s)
+fits-run w cap xs a most s h = go (run-has room most s) (below-or-not (runOf room most s) (a .time))
+  where
+    room : ℕ → Bool
+    room = roomFor w cap xs (a .line) (a .rate)
 
-      go :
-          Run (roomFor cap xs (a .line) (a .rate)) most s r
-          → (r < a .time) ⊎ (a .time ≤ r)
-          → fitsUnder cap xs a s ≡ leb (a .time) r
-      go x (inl j) =
-          fails (fitsUnder cap xs a s)
-          (λ e.
-          true≢false
-          (sym (le-leb (count xs (a .line) (s + r) + a .rate) (cap (a .line) (s + r)) (under-at cap xs a s e (s + r) (omega arith) (omega arith)))
-          ∙ x .stops (omega arith)))
-          ∙ sym (lt-leb (a .time) r j)
-      go x (inr j) =
-          under-all cap xs a s
-          (λ t p q.
-          leb-true (count xs (a .line) t + a .rate) (cap (a .line) t) (x .passes t p (omega arith)))
-          ∙ sym (le-leb (a .time) r j)
+    r : ℕ
+    r = runOf room most s
+
+    go : Run room most s r → (r < a .time) ⊎ (a .time ≤ r) → throughout room (a .time) s ≡ leb (a .time) r
+    go x (inl j) =
+        fails (throughout room (a .time) s)
+        (λ e. true≢false (sym (throughout-at room (a .time) s e (s + r) (omega arith) (omega arith)) ∙ x .stops (omega arith)))
+        ∙ sym (lt-leb (a .time) r j)
+    go x (inr j) =
+        throughout-all room (a .time) s (λ t p q. x .passes t p (omega arith)) ∙ sym (le-leb (a .time) r j)
 
 -- More that is drawn
 
 -- with more loads nothing fits where it did not
 pub fits-less :
-    (cap : Caps) (xs : List Load) (b : Draw) (u : ℕ) (a : Draw) (s : ℕ)
-    → fitsUnder cap (added xs b u) a s ≡ true
-    → fitsUnder cap xs a s ≡ true
-fits-less cap xs b u a s e =
-    under-all cap xs a s
-    (λ t i j. omega (arith, under-at cap (added xs b u) a s e t i j, count-added xs b u (a .line) t))
+    (w : ℕ) (cap : Caps) (xs : List Load) (b : Draw) (u : ℕ) (a : Draw) (s : ℕ)
+    → fitsUnder w cap (added xs b u) a s ≡ true
+    → fitsUnder w cap xs a s ≡ true
+fits-less w cap xs b u a s e =
+    throughout-all (roomFor w cap xs (a .line) (a .rate)) (a .time) s
+    (λ t i j. under-room w cap xs (a .line) (a .rate) t (go t (room-under w cap (added xs b u) (a .line) (a .rate) t
+    (throughout-at (roomFor w cap (added xs b u) (a .line) (a .rate)) (a .time) s e t i j))))
+  where
+    more : (l t : ℕ) → count xs l t ≤ count (added xs b u) l t
+    more l t = rw (count-added xs b u l t) (omega arith)
+
+    go : (t : ℕ) → Under w cap (added xs b u) (a .line) (a .rate) t → Under w cap xs (a .line) (a .rate) t
+    go t v =
+        record {
+          own = omega (arith, v .own, more (a .line) t);
+          whole = omega (arith, v .whole, more 1 t, more 2 t, more 3 t, more 4 t);
+        }
 
 -- the loads with one more charge placed
 pub loads-more :
-    (begun placed : List Charge) (d : Charge)
-    → loadsOf (begun ++ (placed ++ (d ∷ []))) ≡ added (loadsOf (begun ++ placed)) (drawOf d) (d .start)
-loads-more begun placed d =
-    ap loadsOf (sym (append-assoc begun placed (d ∷ []))) ∙ map-append loadOf (begun ++ placed) (d ∷ [])
+    (base : List Load) (placed : List Charge) (d : Charge)
+    → base ++ loadsOf (placed ++ (d ∷ [])) ≡ added (base ++ loadsOf placed) (drawOf d) (d .start)
+loads-more base placed d =
+    ap (λ xs. base ++ xs) (map-append loadOf placed (d ∷ [])) ∙ sym (append-assoc base (loadsOf placed) (loadsOf (d ∷ [])))
 
-module _ (cap : Caps) (begun placed : List Charge) (d : Charge) where
+module _ (w : ℕ) (cap : Caps) (base : List Load) (placed : List Charge) (d : Charge) where
   -- what did not fit at a start does not fit there after a placement
   pub unfit-stays :
       (s : ℕ) (c : Charge)
-      → fitsAt cap (loadsOf (begun ++ placed)) s c ≡ false
-      → fitsAt cap (loadsOf (begun ++ (placed ++ (d ∷ [])))) s c ≡ false
+      → fitsAt w cap (base ++ loadsOf placed) s c ≡ false
+      → fitsAt w cap (base ++ loadsOf (placed ++ (d ∷ []))) s c ≡ false
   unfit-stays s c e =
-      fails (fitsAt cap (loadsOf (begun ++ (placed ++ (d ∷ [])))) s c)
+      fails (fitsAt w cap (base ++ loadsOf (placed ++ (d ∷ []))) s c)
       (λ f.
       true≢false
-      (sym (fits-less cap (loadsOf (begun ++ placed)) (drawOf d) (d .start) (drawOf c) s (rw (loads-more begun placed d) at f)) ∙ e))
+      (sym (fits-less w cap (base ++ loadsOf placed) (drawOf d) (d .start) (drawOf c) s (rw (loads-more base placed d) at f)) ∙ e))
 
   pub none-stays :
       (s : ℕ) (f : Charge → Bool) (left : List Charge)
-      → some (fitsAt cap (loadsOf (begun ++ placed)) s) left ≡ false
-      → some (fitsAt cap (loadsOf (begun ++ (placed ++ (d ∷ [])))) s) (keep f left) ≡ false
+      → some (fitsAt w cap (base ++ loadsOf placed) s) left ≡ false
+      → some (fitsAt w cap (base ++ loadsOf (placed ++ (d ∷ []))) s) (keep f left) ≡ false
   none-stays s f [] e = refl
   none-stays s f (c ∷ left) e = go (f c) (none-stays s f left (or-right (now c) (some now left) e))
     where
       now : Charge → Bool
-      now x = fitsAt cap (loadsOf (begun ++ placed)) s x
+      now x = fitsAt w cap (base ++ loadsOf placed) s x
 
       after : Charge → Bool
-      after x = fitsAt cap (loadsOf (begun ++ (placed ++ (d ∷ [])))) s x
+      after x = fitsAt w cap (base ++ loadsOf (placed ++ (d ∷ []))) s x
 
       go : (b : Bool) → some after (keep f left) ≡ false → some after (cond b (c ∷ keep f left) (keep f left)) ≡ false
       go true h = or-none (after c) (some after (keep f left)) (unfit-stays s c (or-left (now c) (some now left) e)) h
@@ -147,11 +151,11 @@ NoneBelow fits clock xs left s = (u : ℕ) → clock ≤ u → u < s → some (f
 
 -- none does after a placement, wherever its start is
 pub none-below-stays :
-    (cap : Caps) (clock : ℕ) (begun placed : List Charge) (d : Charge) (t : ℕ) (left : List Charge) (s : ℕ)
-    → NoneBelow (fitsAt cap) clock (loadsOf (begun ++ placed)) left s
-    → NoneBelow (fitsAt cap) clock (loadsOf (begun ++ (placed ++ (d ∷ [])))) (withoutTicket t left) s
-none-below-stays cap clock begun placed d t left s h u i j =
-    none-stays cap begun placed d u (λ c. not (eqb (c .ticket) t)) left (h u i j)
+    (w : ℕ) (cap : Caps) (clock : ℕ) (base : List Load) (placed : List Charge) (d : Charge) (t : ℕ) (left : List Charge) (s : ℕ)
+    → NoneBelow (fitsAt w cap) clock (base ++ loadsOf placed) left s
+    → NoneBelow (fitsAt w cap) clock (base ++ loadsOf (placed ++ (d ∷ []))) (withoutTicket t left) s
+none-below-stays w cap clock base placed d t left s h u i j =
+    none-stays w cap base placed d u (λ c. not (eqb (c .ticket) t)) left (h u i j)
 
 pub first-fit-first :
     (fits : Fitting) (clock : ℕ) (xs : List Load) (left : List Charge) (s : ℕ)
@@ -175,22 +179,25 @@ first-fit-is fits clock xs left s low high here none =
 
 -- The smallest start never falls from one placement of a line to the next.
 pub starts-rise :
-    (cap : Caps) (clock : ℕ) (begun placed : List Charge) (d : Charge) (t : ℕ) (left : List Charge) (s next : ℕ)
-    → firstFit (fitsAt cap) clock (loadsOf (begun ++ placed)) left ≡ at s
-    → firstFit (fitsAt cap) clock (loadsOf (begun ++ (placed ++ (d ∷ [])))) (withoutTicket t left) ≡ at next
+    (w : ℕ) (cap : Caps) (clock : ℕ) (base : List Load) (placed : List Charge) (d : Charge) (t : ℕ) (left : List Charge) (s next : ℕ)
+    → firstFit (fitsAt w cap) clock (base ++ loadsOf placed) left ≡ at s
+    → firstFit (fitsAt w cap) clock (base ++ loadsOf (placed ++ (d ∷ []))) (withoutTicket t left) ≡ at next
     → s ≤ next
-starts-rise cap clock begun placed d t left s next e f = go (below-or-not next s)
+starts-rise w cap clock base placed d t left s next e f = go (below-or-not next s)
   where
+    old : List Load
+    old = base ++ loadsOf placed
+
     new : List Load
-    new = loadsOf (begun ++ (placed ++ (d ∷ [])))
+    new = base ++ loadsOf (placed ++ (d ∷ []))
 
     go : (next < s) ⊎ (s ≤ next) → s ≤ next
     go (inl h) =
-        let now : IsFirst (λ u. some (fitsAt cap (loadsOf (begun ++ placed)) u) left) (suc (lastUntil (loadsOf (begun ++ placed)) - clock)) clock s
-        = first-fit-first (fitsAt cap) clock (loadsOf (begun ++ placed)) left s e in
-        let after : IsFirst (λ u. some (fitsAt cap new u) (withoutTicket t left)) (suc (lastUntil new - clock)) clock next
-        = first-fit-first (fitsAt cap) clock new (withoutTicket t left) next f in
+        let now : IsFirst (λ u. some (fitsAt w cap old u) left) (suc (lastUntil old - clock)) clock s
+        = first-fit-first (fitsAt w cap) clock old left s e in
+        let after : IsFirst (λ u. some (fitsAt w cap new u) (withoutTicket t left)) (suc (lastUntil new - clock)) clock next
+        = first-fit-first (fitsAt w cap) clock new (withoutTicket t left) next f in
         absurd
         (true≢false
-        (sym (after .here) ∙ none-below-stays cap clock begun placed d t left s (now .least) next (after .low) h))
+        (sym (after .here) ∙ none-below-stays w cap clock base placed d t left s (now .least) next (after .low) h))
     go (inr h) = h

@@ -7,6 +7,8 @@ pub mod Searches
 pub mod TestedStarts
 pub mod Sorting
 pub mod Tables
+pub mod Sites
+pub mod Apart
 pub mod Granted
 pub mod Judgements
 pub mod Rounds
@@ -18,8 +20,10 @@ pub mod Fitting
 pub mod Picking
 pub mod Foremost
 pub mod Queues
+pub mod Distinct
 pub mod Reporting
 pub mod Ends
+pub mod Holding
 pub mod Changes
 pub mod Restarts
 pub mod Validity

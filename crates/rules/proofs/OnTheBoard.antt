@@ -8,12 +8,14 @@ use native.Mathlib.Omega.{arith}
 use lib.Dec.{eqb}
 use lib.ListN.{length, getD, drop}
 use Rattle.rules.specs.Basics.{Each, keep, some}
-use Rattle.rules.specs.Charge.{Charge, endOf, hasTicket}
-use Rattle.rules.specs.Calls.{State, notHeld, startOrNotHeld, isLookedAt, boarding}
-use Rattle.rules.specs.Valid.{ValidState}
+use Rattle.rules.specs.Charge.{Charge, activeUntil, hasTicket}
+use Rattle.rules.specs.Site.{State, siteCharges}
+use Rattle.rules.specs.Calls.{notHeld, startOrNotHeld, isLookedAt, boarding}
+use Rattle.rules.specs.Valid.{longestTail, ValidState}
 use Rattle.rules.proofs.Ranges.{or-left, or-right, fails}
 use Rattle.rules.proofs.Lists.{length-keep}
-use Rattle.rules.proofs.Ends.{each-lastEnd}
+use Rattle.rules.proofs.Ends.{each-until}
+use Rattle.rules.proofs.Sites.{tails-high}
 
 -- The places
 
@@ -26,9 +28,9 @@ front f (x ∷ xs) rest (suc i) h = front f xs rest i (omega arith)
 pub place-shown :
     (s : State) (asked list : List ℕ) (i : ℕ)
     → i < length asked
-    → getD (boarding s asked list .list) i 0 ≡ startOrNotHeld (s .charges) (getD asked i 0)
+    → getD (boarding s asked list .list) i 0 ≡ startOrNotHeld (siteCharges s) (getD asked i 0)
 unfolding boarding
-place-shown s asked list i h = front (startOrNotHeld (s .charges)) asked _ i h
+place-shown s asked list i h = front (startOrNotHeld (siteCharges s)) asked _ i h
 
 behind :
     (f : ℕ → ℕ) (xs list : List ℕ) (i : ℕ)
@@ -47,7 +49,7 @@ pub place-kept :
     → length asked ≤ length list
     → getD (boarding s asked list .list) i 0 ≡ getD list i 0
 unfolding boarding
-place-kept s asked list i h j = behind (startOrNotHeld (s .charges)) asked list i h j
+place-kept s asked list i h j = behind (startOrNotHeld (siteCharges s)) asked list i h j
 
 -- The ticket of a place is held, or not
 
@@ -60,7 +62,7 @@ not-held-shown (c ∷ cs) t e =
 held-shown :
     (cs : List Charge) (t b : ℕ)
     → some (hasTicket t) cs ≡ true
-    → Each (λ c. endOf c ≤ b) cs
+    → Each (λ c. activeUntil c ≤ b) cs
     → startOrNotHeld cs t ≤ b
 held-shown [] t b e ends = absurd (false≢true e)
 held-shown (c ∷ cs) t b e ends = go (eqb (c .ticket) t) e (λ u. held-shown cs t b u (ends .1))
@@ -73,23 +75,24 @@ held-shown (c ∷ cs) t b e ends = go (eqb (c .ticket) t) e (λ u. held-shown cs
     go true u later = omega (arith, ends .0)
     go false u later = later u
 
--- no end on a valid station comes near 4,294,967,295, so this number says that no held charge has the ticket
+-- no end on a valid site comes near 4,294,967,295, so this number says that no held charge has the ticket
 pub shown-exactly :
     (s : State) (t : ℕ)
     → ValidState s
-    → (startOrNotHeld (s .charges) t ≡ notHeld) ↔ (some (hasTicket t) (s .charges) ≡ false)
+    → (startOrNotHeld (siteCharges s) t ≡ notHeld) ↔ (some (hasTicket t) (siteCharges s) ≡ false)
 shown-exactly s t v = (
   (λ e.
-      fails (some (hasTicket t) (s .charges))
+      fails (some (hasTicket t) (siteCharges s))
       (λ h.
       omega (
         arith,
         v .clock-high,
         v .next-high,
-        held-shown (s .charges) t (s .clock + 1445 * (s .next - 1)) h
-            (each-lastEnd (s .clock + 1445 * (s .next - 1)) (s .charges) (v .ends-high)),
+        tails-high s v,
+        held-shown (siteCharges s) t (s .clock + 1445 * (s .next - 1) + longestTail (s .feeders)) h
+            (each-until (s .clock + 1445 * (s .next - 1) + longestTail (s .feeders)) (siteCharges s) (v .ends-high)),
       ))),
-  not-held-shown (s .charges) t,
+  not-held-shown (siteCharges s) t,
 )
 
 -- The charges looked at

@@ -10,7 +10,7 @@ use lib.ListN.{length}
 use borrow.Author.Tests.{eq-eqb, ne-eqb}
 use Rattle.rules.specs.Basics.{Each, at, keep, some}
 use Rattle.rules.specs.Load.{Load, lastUntil, IsLine}
-use Rattle.rules.specs.Charge.{Charge, starting, drawOf, loadsOf, isWaiting, begunCharges, waitingCharges}
+use Rattle.rules.specs.Charge.{Charge, starting, drawOf, loadsOf, isWaiting, waitingCharges}
 use Rattle.rules.specs.Search.{Caps}
 use Rattle.rules.specs.Priority.{Crowd, crowdOf, takenBefore, Pick, chosen, foremost, Fitting, fitsAt, firstFit, picked, withoutTicket}
 use Rattle.rules.specs.Replan.{all, placeOn, onLine, placeLines}
@@ -160,9 +160,9 @@ upToLine zero cs = []
 upToLine (suc l) cs = upToLine l cs ++ onLine (suc l) cs
 
 -- the charges of the first l lines are placed, each once
-pub record LinesPlaced (fits : Fitting) (clock : ℕ) (begun waiting : List Charge) (l : ℕ) : Type 0 where
+pub record LinesPlaced (fits : Fitting) (clock : ℕ) (base : List Load) (waiting : List Charge) (l : ℕ) : Type 0 where
   pub plan : List Charge
-  pub gives : placeLines fits clock begun waiting l ≡ all plan
+  pub gives : placeLines fits clock base waiting l ≡ all plan
   pub each : Rearranged (tickets plan) (tickets (upToLine l waiting))
 
 -- charges that fit wherever nothing else is drawn
@@ -188,9 +188,9 @@ module _
       go : (s : ℕ) × (firstFit fits clock xs (c ∷ cs) ≡ at s) → Picked fits clock xs q (c ∷ cs)
       go (s, e) = picked-at fits clock xs q (c ∷ cs) s e
 
-  module _ (begun : List Charge) (q : Crowd) where
+  module _ (base : List Load) (q : Crowd) where
     abbrev pickIn : List Charge → List Charge → Pick
-    pickIn placed left = picked fits clock (loadsOf (begun ++ placed)) q left
+    pickIn placed left = picked fits clock (base ++ loadsOf placed) q left
 
     pub line-placed :
         (k i : ℕ) (placed left : List Charge) → length left ≡ k → Rising i left → Each P left → LinePlaced pickIn k placed left
@@ -199,10 +199,10 @@ module _
     line-placed zero i placed (c ∷ cs) e r h = absurd (omega arith)
     line-placed (suc k) i placed [] e r h = absurd (omega arith)
     line-placed (suc k) i placed (c ∷ cs) e r h =
-        go (picked-one (loadsOf (begun ++ placed)) q c cs (h .0)) (line-placed k i)
+        go (picked-one (base ++ loadsOf placed) q c cs (h .0)) (line-placed k i)
       where
         go :
-            Picked fits clock (loadsOf (begun ++ placed)) q (c ∷ cs)
+            Picked fits clock (base ++ loadsOf placed) q (c ∷ cs)
             → ((placed left : List Charge) → length left ≡ k → Rising i left → Each P left → LinePlaced pickIn k placed left)
             → LinePlaced pickIn (suc k) placed (c ∷ cs)
         go p next =
@@ -230,14 +230,14 @@ module _
   -- The lines of a round
 
   pub lines-placed :
-      (begun waiting : List Charge) (l : ℕ) → Rising 1 waiting → Each P waiting → LinesPlaced fits clock begun waiting l
-  lines-placed begun waiting zero r h = record { plan = []; gives = refl; each = none }
-  lines-placed begun waiting (suc l) r h = go (lines-placed begun waiting l r h)
+      (base : List Load) (waiting : List Charge) (l : ℕ) → Rising 1 waiting → Each P waiting → LinesPlaced fits clock base waiting l
+  lines-placed base waiting zero r h = record { plan = []; gives = refl; each = none }
+  lines-placed base waiting (suc l) r h = go (lines-placed base waiting l r h)
     where
-      go : LinesPlaced fits clock begun waiting l → LinesPlaced fits clock begun waiting (suc l)
+      go : LinesPlaced fits clock base waiting l → LinesPlaced fits clock base waiting (suc l)
       go p =
           let own : List Charge = onLine (suc l) waiting in
-          let n = line-placed begun (crowdOf own) (length own) 1 (p .plan) own refl
+          let n = line-placed base (crowdOf own) (length own) 1 (p .plan) own refl
           (rising-keep 1 (λ c. eqb (c .line) (suc l)) waiting r) (keep-each P (λ c. eqb (c .line) (suc l)) waiting h) in
           record {
             plan = p .plan ++ n .new;
@@ -287,24 +287,27 @@ lines-whole (c ∷ cs) e = more (lines-whole cs (e .1)) (go (below-or-not (c .li
         )
         (put (onLine 1 cs) (onLine 2 cs ++ onLine 3 cs))
 
--- A charge fits under the caps wherever nothing else is drawn, if its rate is not above them.
+-- A charge fits under the caps wherever nothing else is drawn, if its rate is not above them and W.
 pub fits-alone :
-    (k : ℕ) (cap : Caps)
+    (k w : ℕ) (cap : Caps)
+    → k ≤ w
     → AtLeast k cap
     → (xs : List Load) (s : ℕ) (c : Charge)
     → c .rate ≤ k
     → lastUntil xs ≤ s
-    → fitsAt cap xs s c ≡ true
-fits-alone k cap h xs s c r past = under-past cap xs (drawOf c) s (λ t. omega (arith, h (c .line) t)) past
+    → fitsAt w cap xs s c ≡ true
+fits-alone k w cap n h xs s c r past =
+    under-past w cap xs (drawOf c) s (λ t. omega (arith, h (c .line) t)) (omega arith) past
 
--- In a round every waiting charge gets a start: no cap is below D, for it is N or a count plus D, and no rate is above D.
+-- In a round every waiting charge gets a start: no cap is below D, for it is N or a count plus D, and no rate is above D or W.
 pub round-places :
-    (k : ℕ) (cap : Caps) (clock : ℕ) (held : List Charge)
+    (k w : ℕ) (cap : Caps) (clock : ℕ) (base : List Load) (held : List Charge)
+    → k ≤ w
     → AtLeast k cap
     → Each (λ c. c .rate ≤ k) held
     → Rising 1 held
-    → LinesPlaced (fitsAt cap) clock (begunCharges clock held) (waitingCharges clock held) 3
-round-places k cap clock held h rates r =
-    lines-placed (fitsAt cap) (λ c. c .rate ≤ k) (fits-alone k cap h) clock (begunCharges clock held) (waitingCharges clock held) 3
+    → LinesPlaced (fitsAt w cap) clock base (waitingCharges clock held) 3
+round-places k w cap clock base held n h rates r =
+    lines-placed (fitsAt w cap) (λ c. c .rate ≤ k) (fits-alone k w cap n h) clock base (waitingCharges clock held) 3
     (rising-keep 1 (isWaiting clock) held r)
     (keep-each (λ c. c .rate ≤ k) (isWaiting clock) held rates)

@@ -1,5 +1,5 @@
--- Charges with other starts, and that a taken plan leaves a valid station.
-use mathlib.Core.Path.{_≡_, refl}
+-- Charges with other starts, and that a taken plan leaves a valid site.
+use mathlib.Core.Path.{_≡_, refl, sym}
 use Prim.Native.Nat.{ℕ, suc, _≤_}
 use mathlib.Core.Bool.{Bool, true, false, cond}
 use mathlib.Core.List.{List, [], _∷_}
@@ -7,13 +7,14 @@ use native.Mathlib.Omega.{arith}
 use lib.ListN.{length}
 use borrow.Author.Tests.{ltb-false}
 use Rattle.rules.specs.Basics.{Each}
-use Rattle.rules.specs.Charge.{Charge, starting, isBegun, loadsOf}
+use Rattle.rules.specs.Charge.{Charge, starting, seen, isBegun}
 use Rattle.rules.specs.Judgement.{restarted}
-use Rattle.rules.specs.Calls.{State, limitsOf, holding}
-use Rattle.rules.specs.Valid.{ValidCharge, Rising, ValidState}
+use Rattle.rules.specs.Site.{Feeder, State, feederOf, chargesOn, limitsOf, withCharges, holding}
+use Rattle.rules.specs.Valid.{ValidCharge, Rising, IsFeeder, ValidState}
+use Rattle.rules.proofs.Lists.{each-map}
 use Rattle.rules.proofs.Counts.{sound-true}
 use Rattle.rules.proofs.Judgements.{Meets}
-use Rattle.rules.proofs.Changes.{still-valid}
+use Rattle.rules.proofs.Holding.{charge-held, last-site, holding-valid}
 
 -- the second list is the first with other starts, at or above the clock, for some waiting charges
 pub data Restarted (clock : ℕ) : List Charge → List Charge → Type 0 where
@@ -91,35 +92,47 @@ restarted-rising i (other {c = c} h j r) n = (n .0, restarted-rising (suc (c .ti
 -- A taken plan
 
 pub plan-valid :
-    (s : State) (ss : List ℕ)
+    (s : State) (f : ℕ) (ss : List ℕ)
     → ValidState s
-    → Meets (limitsOf s) (s .clock) (s .charges) ss (restarted (s .clock) (s .charges) ss)
-    → ValidState (holding s (s .clock) (restarted (s .clock) (s .charges) ss))
-plan-valid s ss v m =
-    let new : List Charge = restarted (s .clock) (s .charges) ss in
-    let r : Restarted (s .clock) (s .charges) (restarted (s .clock) (s .charges) ss)
-    = restarted-is (s .clock) (s .charges) ss (m .none-early) in
-    still-valid s (s .clock) (s .next) new v (v .clock-high) (v .next-low) (v .next-high)
-    (rw (restarted-length r) (v .few))
-    (restarted-each (ValidCharge (limitsOf s) (s .tail) (s .clock) (s .next))
-    (λ c u h p.
-    record {
-      ticket-low = p .ticket-low;
-      ticket-given = p .ticket-given;
-      line = p .line;
-      time-low = p .time-low;
-      time-high = p .time-high;
-      active = p .active;
-      due-high = p .due-high;
-      ordered = p .ordered;
-      not-early = omega (arith, p .ordered);
-      unfinished = omega (arith, p .time-low, p .active);
-      rate = p .rate;
-      within-limit = p .within-limit;
-      within-bound = p .within-bound;
+    → IsFeeder s f
+    → Meets (limitsOf s f) (s .clock) (chargesOn s f) ss (restarted (s .clock) (chargesOn s f) ss)
+    → ValidState (holding s f (restarted (s .clock) (chargesOn s f) ss) (s .next))
+plan-valid s f ss v h m =
+    let own : Feeder = feederOf s f in
+    let new : List Charge = restarted (s .clock) (chargesOn s f) ss in
+    let r : Restarted (s .clock) (chargesOn s f) (restarted (s .clock) (chargesOn s f) ss)
+    = restarted-is (s .clock) (chargesOn s f) ss (m .none-early) in
+    holding-valid s v f h (s .next) new (omega arith) (v .next-high)
+    (record {
+      few = rw (restarted-length r) (v .plan f h .few);
+      each =
+          each-map (ValidCharge own (s .site) (s .clock) (s .next)) (ValidCharge (withCharges own new) (s .site) (s .clock) (s .next))
+          (λ c p. charge-held own new (s .site) (s .clock) (s .next) c p)
+          new
+          (restarted-each (ValidCharge own (s .site) (s .clock) (s .next))
+          (λ c u j p.
+          record {
+            ticket-low = p .ticket-low;
+            ticket-given = p .ticket-given;
+            line = p .line;
+            time-low = p .time-low;
+            time-high = p .time-high;
+            active = p .active;
+            due-high = p .due-high;
+            ordered = p .ordered;
+            not-early = omega (arith, p .ordered);
+            unfinished = omega (arith, p .time-low, p .active);
+            rate = p .rate;
+            within-limit = p .within-limit;
+            within-bound = p .within-bound;
+            within-site = p .within-site;
+          })
+          r (v .plan f h .each));
+      rising = restarted-rising 1 r (v .plan f h .rising);
     })
-    r (v .each))
-    (restarted-rising 1 r (v .rising))
-    (omega (arith, m .not-later, v .ends-high))
-    (sound-true (limitsOf s) (s .clock) (loadsOf new)
-    (λ t h. record { limit = m .limit t h; balance = m .balance t h }))
+    (λ k j n.
+    restarted-each (λ c. Each (λ x. c .ticket ≡ x .ticket → ⊥) (chargesOn s k)) (λ c u i p. p) r
+    (v .apart f k h j (λ q. n (sym q))))
+    (sound-true (limitsOf s f) (s .clock) (seen (limitsOf s f) new)
+    (λ t j. record { limit = m .limit t j; site = m .site t j; balance = m .balance t j }))
+    (omega (arith, m .not-later, v .ends-high, last-site s f h))

@@ -2,13 +2,14 @@
 use mathlib.Core.Logic.{_⊎_, inl, inr, _↔_}
 use mathlib.Core.Path.{_≡_, refl, sym}
 use Prim.Native.Nat.{ℕ, _+_, _*_, _/_, _%_, _≤_, _<_}
-use mathlib.Core.Bool.{Bool, true, false, cond}
-use mathlib.Core.List.{[]}
+use mathlib.Core.Bool.{Bool, true, false, cond, _||_, true≢false}
+use mathlib.Core.List.{[], map}
 use native.Mathlib.Omega.{arith}
 use native.Mathlib.Nat.{mul-le-mul-right}
 use lib.Dec.{ltb, eqb}
-use borrow.Author.Tests.{ltb-true, ltb-false, le-ltb, eqb-true, eqb-false}
-use Rattle.rules.specs.Calls.{Settings, settings, refused, opened, answering, nearestHundreds, boundOf, fresh, opening}
+use borrow.Author.Tests.{ltb-true, ltb-false, eqb-true, eqb-false}
+use Rattle.rules.specs.Basics.{some}
+use Rattle.rules.specs.Calls.{Asked, settingsRead, refused, opened, answering, nearestHundreds, boundOf, fresh, least, opening}
 use Rattle.rules.proofs.Ranges.{below-or-not}
 
 -- d hundreds are within 50 of x, and d is even where they are exactly 50 away
@@ -66,24 +67,27 @@ bound-zero n c = (
       (nearest-only (c * n) 0 (record { low = omega arith; high = h; even-above = λ e. refl; even-below = λ e. refl }))),
 )
 
--- "Refusal 3 is given when this D is 0": where N and c are in range, then and in no other case
+-- "Refusal 3 is given when this D is 0": where the count is in range, and N and c of each feeder up to it, then and in no other case
 pub refused-three :
-    (x : Settings)
-    → 1 ≤ x .limit
-    → x .limit ≤ 60
-    → x .percent ≤ 100
-    → (opening x .answer ≡ refused 3) ↔ (boundOf (x .limit) (x .percent) ≡ 0)
+    (a : Asked)
+    → ltb (a .count) 1 || ltb 4 (a .count) ≡ false
+    → some (λ x. ltb (x .limit) 1 || ltb 60 (x .limit)) (settingsRead a) ≡ false
+    → some (λ x. ltb 100 (x .percent)) (settingsRead a) ≡ false
+    → (opening a .answer ≡ refused 3) ↔ (some (λ x. eqb (boundOf (x .limit) (x .percent)) 0) (settingsRead a) ≡ true)
 unfolding opening
-refused-three x low high percent =
-    rw (le-ltb (x .limit) 1 low, le-ltb 60 (x .limit) high, le-ltb 100 (x .percent) percent)
-    (go (boundOf (x .limit) (x .percent)) (eqb (boundOf (x .limit) (x .percent)) 0) (ltb 5 (x .tail)) refl)
+refused-three a count limit percent =
+    rw (count, limit, percent)
+    (go (some (λ x. eqb (boundOf (x .limit) (x .percent)) 0) (settingsRead a)) (some (λ x. ltb 5 (x .tail)) (settingsRead a))
+    (ltb (a .site) 1 || ltb 720 (a .site)))
   where
     go :
-        (d : ℕ) (b long : Bool)
-        → eqb d 0 ≡ b
-        → (answering (cond b 3 (cond long 19 0)) (fresh (settings 1 100 0)) [] (record { answer = opened d; state = fresh x; list = [] }) .answer
+        (zero long wide : Bool)
+        → (answering (cond zero 3 (cond long 19 (cond wide 28 0))) (fresh least) []
+        (record { answer = opened (map (λ g. g .bound) (fresh a .feeders)); state = fresh a; list = [] })
+        .answer
         ≡ refused 3)
-        ↔ (d ≡ 0)
-    go d true long e = ((λ r. eqb-true d 0 e), (λ z. refl))
-    go d false true e = ((λ r. let z : _≡_ {A = ℕ} 19 3 = cc in absurd (omega arith)), (λ z. absurd (eqb-false d 0 e z)))
-    go d false false e = ((λ r. let z : _≡_ {A = ℕ} 0 1 = cc in absurd (omega arith)), (λ z. absurd (eqb-false d 0 e z)))
+        ↔ (zero ≡ true)
+    go true long wide = ((λ r. refl), (λ z. refl))
+    go false true wide = ((λ r. let z : _≡_ {A = ℕ} 19 3 = cc in absurd (omega arith)), (λ z. absurd (true≢false (sym z))))
+    go false false true = ((λ r. let z : _≡_ {A = ℕ} 28 3 = cc in absurd (omega arith)), (λ z. absurd (true≢false (sym z))))
+    go false false false = ((λ r. let z : _≡_ {A = ℕ} 0 1 = cc in absurd (omega arith)), (λ z. absurd (true≢false (sym z))))

@@ -8,10 +8,10 @@ use native.Mathlib.Omega.{arith}
 use lib.Dec.{leb}
 use borrow.Author.Tests.{le-leb, leb-true, not-false}
 use Rattle.rules.specs.Basics.{at, nothing}
-use Rattle.rules.specs.Load.{Load, Draw, loadFrom, draws, count, counts, lastUntil, Limits, balanceAt, sound}
-use Rattle.rules.specs.Search.{added, earliest, Caps, fitsUnder, firstUnbalanced}
-use Rattle.rules.proofs.Ranges.{fails, below-or-not, throughout-all, throughout-at, IsFirst, first-found, first-none, found-or-not}
-use Rattle.rules.proofs.Counts.{share-own, draws-before, draws-in, draws-most, count-append, count-past, Sound, sound-same, sound-few, sound-from, sound-true, balance-past, Balanced, balanced-at}
+use Rattle.rules.specs.Load.{Load, Draw, loadFrom, draws, count, counts, lastUntil, Limits, wholeOf, balanceAt, sound}
+use Rattle.rules.specs.Search.{added, earliest, Caps, roomFor, fitsUnder, firstUnbalanced}
+use Rattle.rules.proofs.Ranges.{and-left, and-right, and-both, fails, below-or-not, throughout-all, IsFirst, first-found, first-none, found-or-not}
+use Rattle.rules.proofs.Counts.{draws-before, draws-most, count-append, count-past, whole-draws, whole-past, Sound, sound-same, sound-few, sound-from, sound-true, balance-past, Balanced, balanced-at}
 
 -- One more load
 
@@ -31,6 +31,19 @@ pub count-added-past :
 count-added-past xs a s l t h =
     rw (count-added xs a s l t, count-past xs l t h) (omega (arith, draws-most (loadFrom a s) l t))
 
+-- all that is drawn, with one more load
+pub whole-added :
+    (xs : List Load) (a : Draw) (s t : ℕ) → wholeOf (counts (added xs a s) t) ≤ wholeOf (counts xs t) + a .rate
+whole-added xs a s t =
+    omega (
+      arith,
+      count-added xs a s 1 t,
+      count-added xs a s 2 t,
+      count-added xs a s 3 t,
+      count-added xs a s 4 t,
+      whole-draws (loadFrom a s) t,
+    )
+
 -- The smallest sound start
 
 -- the start found is sound, not below the clock nor past the last end, and no smaller one not below the clock is sound
@@ -46,32 +59,35 @@ earliest-first y k xs a s e =
 at-the-end :
     (y : Limits) (k : ℕ) (xs : List Load) (a : Draw) (s : ℕ)
     → a .rate ≤ y .limit
+    → a .rate ≤ y .site
     → a .rate ≤ y .bound
     → lastUntil xs ≤ s
     → ((t : ℕ) → k ≤ t → t < s → Sound y (counts xs t))
     → sound y k (added xs a s) ≡ true
-at-the-end y k xs a s n d le h = sound-true y k (added xs a s) (λ t j. go t j (below-or-not t s))
+at-the-end y k xs a s n w d le h = sound-true y k (added xs a s) (λ t j. go t j (below-or-not t s))
   where
     go : (t : ℕ) → k ≤ t → (t < s) ⊎ (s ≤ t) → Sound y (counts (added xs a s) t)
     go t j (inl i) =
         sound-same y (counts xs t) (counts (added xs a s) t)
-        (λ l q. count-added-before xs a s l t i)
+        (λ l. count-added-before xs a s l t i)
         (h t j i)
     go t j (inr i) =
-        sound-few y (counts (added xs a s) t) (a .rate) n d
+        sound-few y (counts (added xs a s) t) (a .rate) n w d
         (λ l. count-added-past xs a s l t (omega arith))
+        (omega (arith, whole-added xs a s t, whole-past xs t (omega arith)))
 
 -- nothing found: no start at all is sound
 pub earliest-none :
     (y : Limits) (k : ℕ) (xs : List Load) (a : Draw)
     → a .rate ≤ y .limit
+    → a .rate ≤ y .site
     → a .rate ≤ y .bound
     → earliest y k xs a ≡ nothing
     → (s : ℕ)
     → k ≤ s
     → sound y k (added xs a s) ≡ false
 unfolding earliest
-earliest-none y k xs a n d e s h = go (below-or-not s (k + suc (lastUntil xs - k)))
+earliest-none y k xs a n w d e s h = go (below-or-not s (k + suc (lastUntil xs - k)))
   where
     f : ℕ → Bool
     f u = sound y k (added xs a u)
@@ -87,10 +103,10 @@ earliest-none y k xs a n d e s h = go (below-or-not s (k + suc (lastUntil xs - k
     beyond j p =
         true≢false
         (sym
-        (at-the-end y k xs a end n d (omega arith)
+        (at-the-end y k xs a end n w d (omega arith)
         (λ t i l.
         sound-same y (counts (added xs a s) t) (counts xs t)
-        (λ x q. sym (count-added-before xs a s x t (omega arith)))
+        (λ x. sym (count-added-before xs a s x t (omega arith)))
         (sound-from y k (added xs a s) p t i)))
         ∙ last)
 
@@ -98,59 +114,61 @@ earliest-none y k xs a n d e s h = go (below-or-not s (k + suc (lastUntil xs - k
     go (inl j) = first-none f (suc (lastUntil xs - k)) k e s h j
     go (inr j) = fails (f s) (beyond (omega arith))
 
--- a sound plan always leaves a start for a rate that is neither above N nor above D
+-- a sound plan always leaves a start for a rate that is not above N, W or D
 pub earliest-found :
     (y : Limits) (k : ℕ) (xs : List Load) (a : Draw)
     → a .rate ≤ y .limit
+    → a .rate ≤ y .site
     → a .rate ≤ y .bound
     → sound y k xs ≡ true
     → (s : ℕ) × (earliest y k xs a ≡ at s)
-earliest-found y k xs a n d e =
+earliest-found y k xs a n w d e =
     found-or-not (earliest y k xs a)
     (λ none.
     true≢false
     (sym
-    (at-the-end y k xs a (max k (lastUntil xs)) n d (omega arith)
+    (at-the-end y k xs a (max k (lastUntil xs)) n w d (omega arith)
     (λ t j i. sound-from y k xs e t j))
-    ∙ earliest-none y k xs a n d none (max k (lastUntil xs)) (omega arith)))
+    ∙ earliest-none y k xs a n w d none (max k (lastUntil xs)) (omega arith)))
 
 -- Under a cap
 
--- the line's count, the load itself included, is at or below the cap in all its minutes
-abbrev pub Under : Caps → List Load → Draw → ℕ → Type 0
-Under cap xs a s = (t : ℕ) → s ≤ t → t < s + a .time → count xs (a .line) t + a .rate ≤ cap (a .line) t
+-- in minute t the line's count, with one more of the rate, is at or below the cap, and the site within w
+pub record Under (w : ℕ) (cap : Caps) (xs : List Load) (line rate t : ℕ) : Type 0 where
+  pub own : count xs line t + rate ≤ cap line t
+  pub whole : wholeOf (counts xs t) + rate ≤ w
 
-pub count-added-own :
-    (xs : List Load) (a : Draw) (s t : ℕ)
-    → s ≤ t
-    → t < s + a .time
-    → count (added xs a s) (a .line) t ≡ count xs (a .line) t + a .rate
-count-added-own xs a s t h j =
-    rw (count-added xs a s (a .line) t, draws-in (loadFrom a s) (a .line) t h j, share-own (a .line) (a .rate))
+module _ (w : ℕ) (cap : Caps) (xs : List Load) (line rate : ℕ) where
+  pub room-under : (t : ℕ) → roomFor w cap xs line rate t ≡ true → Under w cap xs line rate t
+  room-under t e =
+      let own : Bool = leb (count xs line t + rate) (cap line t) in
+      let whole : Bool = leb (wholeOf (counts xs t) + rate) w in
+      record {
+        own = leb-true (count xs line t + rate) (cap line t) (and-left own whole e);
+        whole = leb-true (wholeOf (counts xs t) + rate) w (and-right own whole e);
+      }
 
-pub under-at :
-    (cap : Caps) (xs : List Load) (a : Draw) (s : ℕ) → fitsUnder cap xs a s ≡ true → Under cap xs a s
-under-at cap xs a s e t h j =
-    rw (← (count-added-own xs a s t h j))
-    (leb-true (count (added xs a s) (a .line) t) (cap (a .line) t)
-    (throughout-at (λ u. leb (count (added xs a s) (a .line) u) (cap (a .line) u)) (a .time) s e t h j))
+  pub under-room : (t : ℕ) → Under w cap xs line rate t → roomFor w cap xs line rate t ≡ true
+  under-room t u =
+      and-both (leb (count xs line t + rate) (cap line t)) (leb (wholeOf (counts xs t) + rate) w)
+      (le-leb (count xs line t + rate) (cap line t) (u .own))
+      (le-leb (wholeOf (counts xs t) + rate) w (u .whole))
 
-pub under-all :
-    (cap : Caps) (xs : List Load) (a : Draw) (s : ℕ) → Under cap xs a s → fitsUnder cap xs a s ≡ true
-under-all cap xs a s h =
-    throughout-all (λ u. leb (count (added xs a s) (a .line) u) (cap (a .line) u)) (a .time) s
-    (λ t i j.
-    le-leb (count (added xs a s) (a .line) t) (cap (a .line) t)
-    (rw (count-added-own xs a s t i j) (h t i j)))
-
--- past the last end a cap that is not below the rate leaves room
+-- past the last end a cap and a site limit that are not below the rate leave room
 pub under-past :
-    (cap : Caps) (xs : List Load) (a : Draw) (s : ℕ)
+    (w : ℕ) (cap : Caps) (xs : List Load) (a : Draw) (s : ℕ)
     → ((t : ℕ) → a .rate ≤ cap (a .line) t)
+    → a .rate ≤ w
     → lastUntil xs ≤ s
-    → fitsUnder cap xs a s ≡ true
-under-past cap xs a s h le =
-    under-all cap xs a s (λ t i j. rw (count-past xs (a .line) t (omega arith)) (omega (arith, h t)))
+    → fitsUnder w cap xs a s ≡ true
+under-past w cap xs a s h n le =
+    throughout-all (roomFor w cap xs (a .line) (a .rate)) (a .time) s
+    (λ t i j.
+    under-room w cap xs (a .line) (a .rate) t
+    (record {
+      own = rw (count-past xs (a .line) t (omega arith)) (omega (arith, h t));
+      whole = rw (whole-past xs t (omega arith)) (omega arith);
+    }))
 
 -- The first unbalanced minute
 

@@ -155,11 +155,11 @@ module _ (y : Limits) (k : ℕ) (xs : List Load) (a : Draw) (s : ℕ) where
           → (t < s + a .time) ⊎ (s + a .time ≤ t)
           → Sound y (counts (added xs a s) t)
       go t i (inl b) d =
-          sound-same y (counts xs t) (counts (added xs a s) t) (λ l q. count-added-before xs a s l t b) (sound-from y k xs e t i)
+          sound-same y (counts xs t) (counts (added xs a s) t) (λ l. count-added-before xs a s l t b) (sound-from y k xs e t i)
       go t i (inr b) (inl d) = sound-at y (counts (added xs a s) t) (h t b d)
       go t i (inr b) (inr d) =
           sound-same y (counts xs t) (counts (added xs a s) t)
-          (λ l q. omega (arith, count-added xs a s l t, draws-after (loadFrom a s) l t d))
+          (λ l. omega (arith, count-added xs a s l t, draws-after (loadFrom a s) l t d))
           (sound-from y k xs e t i)
 
   -- the verdict is soundness of the plan with the charge, where the plan alone is sound

@@ -1,6 +1,6 @@
 -- A ticket stands once among the charges of a valid station: who waits with it has not begun, and without it one place is free.
 use mathlib.Core.Path.{_≡_, refl, sym, ap, _∙_}
-use Prim.Native.Nat.{ℕ, suc, _≤_}
+use Prim.Native.Nat.{ℕ, suc}
 use mathlib.Core.Bool.{Bool, true, false, cond, not, _&&_, _||_, true≢false}
 use mathlib.Core.List.{List, [], _∷_}
 use native.Mathlib.Omega.{arith}
@@ -11,7 +11,7 @@ use Rattle.rules.specs.Charge.{Charge, isBegun, isWaiting, hasTicket, wi
 use Rattle.rules.specs.Valid.{Rising}
 use Rattle.rules.proofs.Ranges.{or-none}
 use Rattle.rules.proofs.Lists.{each-map, keep-all}
-use Rattle.rules.proofs.Tickets.{rising-from}
+use Rattle.rules.proofs.Queues.{Distinct, rising-other}
 
 -- no charge of a list has this ticket
 abbrev pub NoneHas : ℕ → List Charge → Type 0
@@ -21,12 +21,19 @@ pub none-some : {A : Type 0} (f : A → Bool) (l : List A) → Each (λ a. f a �
 none-some f [] e = refl
 none-some f (a ∷ l) e = or-none (f a) (some f l) (e .0) (none-some f l (e .1))
 
+-- where all tickets differ from that of a charge which has ticket t, none has it
+pub none-other :
+    (t : ℕ) (c : Charge) (cs : List Charge)
+    → Each (λ d. c .ticket ≡ d .ticket → ⊥) cs
+    → hasTicket t c ≡ true
+    → NoneHas t cs
+none-other t c cs r p =
+    let e : c .ticket ≡ t = eqb-true (c .ticket) t p in
+    each-map (λ d. c .ticket ≡ d .ticket → ⊥) (λ d. hasTicket t d ≡ false) (λ d j. ne-eqb (d .ticket) t (λ q. j (e ∙ sym q))) cs r
+
 -- behind the charge of a ticket none has it again
 pub none-behind : (t : ℕ) (c : Charge) (cs : List Charge) → Rising (suc (c .ticket)) cs → hasTicket t c ≡ true → NoneHas t cs
-none-behind t c cs r p =
-    let e : c .ticket ≡ t = eqb-true (c .ticket) t p in
-    each-map (λ d. suc (c .ticket) ≤ d .ticket) (λ d. hasTicket t d ≡ false) (λ d j. ne-eqb (d .ticket) t (λ q. omega arith)) cs
-    (rising-from (suc (c .ticket)) cs r)
+none-behind t c cs r p = none-other t c cs (rising-other (c .ticket) (c ∷ cs) (omega arith, r) .0) p
 
 none-with : (t : ℕ) (g : Charge → Bool) (cs : List Charge) → NoneHas t cs → some (λ c. hasTicket t c && g c) cs ≡ false
 none-with t g cs e =
@@ -68,14 +75,14 @@ waits-held k t (c ∷ cs) h = go (hasTicket t c) h (waits-held k t cs)
     go true u ih = refl
     go false u ih = ih u
 
-pub waits-not-begun :
-    (k t i : ℕ) (cs : List Charge)
-    → Rising i cs
+pub distinct-not-begun :
+    (k t : ℕ) (cs : List Charge)
+    → Distinct cs
     → some (λ c. hasTicket t c && isWaiting k c) cs ≡ true
     → some (λ c. hasTicket t c && isBegun k c) cs ≡ false
-waits-not-begun k t i [] r h = refl
-waits-not-begun k t i (c ∷ cs) r h =
-    go (hasTicket t c) (isBegun k c) (none-behind t c cs (r .1)) h (waits-not-begun k t (suc (c .ticket)) cs (r .1))
+distinct-not-begun k t [] r h = refl
+distinct-not-begun k t (c ∷ cs) r h =
+    go (hasTicket t c) (isBegun k c) (none-other t c cs (r .0)) h (distinct-not-begun k t cs (r .1))
   where
     go :
         (x y : Bool)
@@ -86,6 +93,14 @@ waits-not-begun k t i (c ∷ cs) r h =
     go true true none u ih = absurd (true≢false (sym u ∙ none-with t (isWaiting k) cs (none refl)))
     go true false none u ih = none-with t (isBegun k) cs (none refl)
     go false y none u ih = ih u
+
+-- of one feeder
+pub waits-not-begun :
+    (k t i : ℕ) (cs : List Charge)
+    → Rising i cs
+    → some (λ c. hasTicket t c && isWaiting k c) cs ≡ true
+    → some (λ c. hasTicket t c && isBegun k c) cs ≡ false
+waits-not-begun k t i cs r h = distinct-not-begun k t cs (rising-other i cs r) h
 
 -- "its place is free"
 pub place-free :

@@ -1,8 +1,8 @@
 -- Cases a to l (docs/RULES.md, section 7), each with the results that stand there: "an order is a commit with the start listed".
 use Prim.Native.Nat.{ℕ}
 use mathlib.Core.List.{List, [], _∷_, _++_, map}
-use Rattle.rules.specs.Calls.{settings, refused, opened, previewed, committed, moved, planned, waiting, charging, Call, preview, commit, move, offer, replanLatest, replanLines, enquire}
-use Rattle.rules.specs.Entry.{Given, gives, givesWith, Minute, Case, lentList, startsFrom, reports, opens, case}
+use Rattle.rules.specs.Calls.{refused, previewed, committed, moved, planned, waiting, charging, Call, move, enquire}
+use Rattle.rules.specs.Entry.{preview, commit, offer, replanLatest, replanLines, oneFeeder, openedOne, Given, gives, givesWith, Minute, Case, lentList, startsFrom, reports, opens, case}
 
 -- the orders of case e, with what they give
 abbrev pub ordersE : List Call
@@ -39,10 +39,10 @@ givenH = startsFrom 1 (0 ∷ 10 ∷ [])
 abbrev pub casesAToL : List Case
 casesAToL =
     -- a to d
-    opens 5 20 (opened 1)
-    ∷ opens 10 10 (opened 1)
-    ∷ opens 9 11 (opened 1)
-    ∷ opens 60 100 (opened 60)
+    opens 5 20 (openedOne 1)
+    ∷ opens 10 10 (openedOne 1)
+    ∷ opens 9 11 (openedOne 1)
+    ∷ opens 60 100 (openedOne 60)
     ∷ opens 61 100 (refused 1)
     -- e
     ∷ case 2 50 1 ordersE givenE
@@ -50,9 +50,9 @@ casesAToL =
     ∷ case 2 50 1 (ordersE ++ (move 1 lentList ∷ [])) (givenE ++ (givenF ∷ []))
     -- g
     ∷ record {
-      settings = settings 2 50 0;
+      asked = oneFeeder 2 50 0;
       calls = callsG ++ (replanLatest ∷ []);
-      opening = opened 1;
+      opening = openedOne 1;
       given = givenE ++ (givenF ∷ gives (previewed 1) ∷ gives (committed 7 1) ∷ gives (planned 1 0 0 0) ∷ []);
       minutes = map minuteG (5 ∷ 6 ∷ 7 ∷ 8 ∷ 9 ∷ []);
     }

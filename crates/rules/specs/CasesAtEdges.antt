@@ -3,8 +3,8 @@
 use Prim.Native.Nat.{ℕ, zero, suc}
 use mathlib.Core.List.{List, [], _∷_, _++_, map}
 use lib.ListN.{replicate}
-use Rattle.rules.specs.Calls.{refused, opened, committed, moved, planned, charging, withdrawn, Call, preview, commit, move, offer, replanLatest, replanLines, enquire, withdraw}
-use Rattle.rules.specs.Entry.{gives, givesWith, Case, lentList, startsFrom, reports, opens, case, replanned}
+use Rattle.rules.specs.Calls.{refused, committed, moved, planned, charging, withdrawn, Call, move, enquire, withdraw}
+use Rattle.rules.specs.Entry.{preview, commit, offer, replanLatest, replanLines, openedOne, gives, givesWith, Case, lentList, startsFrom, reports, opens, case, replanned}
 use Rattle.rules.specs.CasesAToL.{ordersH, givenH}
 
 -- d − p is 50, 10 and 13, so ticket 2 goes first and then ticket 3; by d alone, 20 and 15, ticket 3 would go first. By lines n is
@@ -43,12 +43,12 @@ refusalsAtEdges =
     opens 0 100 (refused 1)
     ∷ opens 1 101 (refused 2)
     -- An exact half goes to the even number: 1.5 up to 2, 4.5 down to 4.
-    ∷ opens 30 5 (opened 2)
-    ∷ opens 30 15 (opened 4)
+    ∷ opens 30 5 (openedOne 2)
+    ∷ opens 30 15 (openedOne 4)
     -- A D of 0 is refused: 0.5 goes down to it, 0.51 does not.
     ∷ opens 10 5 (refused 3)
     ∷ opens 50 1 (refused 3)
-    ∷ opens 17 3 (opened 1)
+    ∷ opens 17 3 (openedOne 1)
     -- The refusals of a station that stands, each with the next condition of its table met too where it can be. The start
     -- that the commits show, 9, is not the earliest.
     ∷ case 1 100 1

@@ -1,7 +1,7 @@
 -- Cases of N1, drivers in a hurry, each worked out by hand: due minutes that cannot be met, at and below the clock.
 use mathlib.Core.List.{List, [], _∷_, _++_}
-use Rattle.rules.specs.Calls.{moved, planned, Call, commit, move, offer, replanLatest, replanLines}
-use Rattle.rules.specs.Entry.{givesWith, Case, lentList, startsFrom, reports, case, replanned}
+use Rattle.rules.specs.Calls.{moved, planned, Call, move}
+use Rattle.rules.specs.Entry.{commit, offer, replanLatest, replanLines, givesWith, Case, lentList, startsFrom, reports, case, replanned}
 
 -- d − p is 4, −3, 0 and −10, so that the tickets go 4, 2, 3, 1: starts 0, 12, 16, 26. Held are starts 0, 20, 24, 34 with
 -- ends 20, 24, 34, 46: lateness 0 + 23 + 24 + 44. Then the ends are 12, 16, 26, 46: lateness 10 + 15 + 16 + 22.

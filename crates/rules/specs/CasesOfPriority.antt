@@ -1,8 +1,8 @@
 -- Cases of N5, the paper's own priority, each worked out by hand: which charge of a line is taken at the smallest start.
 use Prim.Native.Nat.{ℕ, _+_}
 use mathlib.Core.List.{List, [], _∷_, _++_, map}
-use Rattle.rules.specs.Calls.{planned, waiting, Call, commit, replanLatest, replanLines, enquire}
-use Rattle.rules.specs.Entry.{gives, Case, startsFrom, case, replanned}
+use Rattle.rules.specs.Calls.{planned, waiting, Call, enquire}
+use Rattle.rules.specs.Entry.{commit, replanLatest, replanLines, gives, Case, startsFrom, case, replanned}
 
 -- Orders of line 1, and behind them two of line 2, of a minute each. The second of these is due at 1 and has no slack, so that starts 0,
 -- 1 become 1, 0 and lateness falls by 1: the plan is taken where line 1 is as late as before, and its starts are seen.

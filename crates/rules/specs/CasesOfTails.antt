@@ -2,14 +2,14 @@
 -- with tails, and openings with r.
 use Prim.Native.Nat.{ℕ}
 use mathlib.Core.List.{List, [], _∷_, _++_, map}
-use Rattle.rules.specs.Calls.{settings, Answer, refused, opened, previewed, committed, moved, planned, waiting, charging, Call, preview, commit, move, offer, replanLatest, replanLines, enquire}
-use Rattle.rules.specs.Entry.{Given, gives, givesWith, Case, lentList, startsFrom, reports, caseWithTail}
+use Rattle.rules.specs.Calls.{Answer, refused, previewed, committed, moved, planned, waiting, charging, Call, move, enquire}
+use Rattle.rules.specs.Entry.{preview, commit, offer, replanLatest, replanLines, oneFeeder, openedOne, Given, gives, givesWith, Case, lentList, startsFrom, reports, caseWithTail}
 
 -- An opening with r, and the starts of two orders of 10 minutes on line 1 of the station beside it.
 abbrev openedWith : ℕ → ℕ → ℕ → Answer → ℕ → Case
 openedWith n c r a second =
     record {
-      settings = settings n c r;
+      asked = oneFeeder n c r;
       calls = commit 1 10 60 1 0 ∷ commit 1 10 60 1 second ∷ [];
       opening = a;
       given = startsFrom 1 (0 ∷ second ∷ []);
@@ -100,8 +100,8 @@ casesOfTails =
     ++ (reports (moved 2 0) (1 ∷ 0 ∷ 2 ∷ 0 ∷ [])
     ∷ map gives (committed 3 1 ∷ committed 4 13 ∷ planned 2 0 0 1 ∷ planned 7 0 0 2 ∷ [])))
     -- Openings: r from 0 to 5; 6 is refused with 19, and 3 goes before 19. The station beside a refused opening has r 0.
-    ∷ openedWith 1 100 0 (opened 1) 10
-    ∷ openedWith 1 100 5 (opened 1) 15
+    ∷ openedWith 1 100 0 (openedOne 1) 10
+    ∷ openedWith 1 100 5 (openedOne 1) 15
     ∷ openedWith 1 100 6 (refused 19) 10
     ∷ openedWith 10 5 6 (refused 3) 10
     ∷ openedWith 61 100 5 (refused 1) 10

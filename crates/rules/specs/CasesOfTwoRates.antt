@@ -1,8 +1,8 @@
 -- Cases of N4, points with two rates, each worked out by hand: what a charge of rate 2 leaves room for, the refusals of a rate,
 -- and a cap that falls by two.
 use mathlib.Core.List.{List, [], _∷_, _++_, map}
-use Rattle.rules.specs.Calls.{refused, previewed, committed, moved, planned, waiting, charging, Call, preview, commit, move, offer, replanLatest, replanLines, enquire}
-use Rattle.rules.specs.Entry.{Given, gives, givesWith, Case, lentList, startsFrom, reports, case}
+use Rattle.rules.specs.Calls.{refused, previewed, committed, moved, planned, waiting, charging, Call, move, enquire}
+use Rattle.rules.specs.Entry.{preview, commit, offer, replanLatest, replanLines, Given, gives, givesWith, Case, lentList, startsFrom, reports, case}
 
 -- Open 4, 50: D is 2. Tickets 1 and 2 are of rate 2, ticket 3 of rate 1. Beside empty lines line 1 has room for 2, so each
 -- waits for the end of the one before; ticket 3 ends at 30 and is late by 5.

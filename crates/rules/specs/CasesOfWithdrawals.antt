@@ -1,7 +1,7 @@
 -- Cases of N11, withdrawing an order, each worked out by hand: who may withdraw, what the rest needs, and what is left.
 use mathlib.Core.List.{List, [], _∷_, _++_, map}
-use Rattle.rules.specs.Calls.{settings, refused, opened, committed, moved, waiting, looked, withdrawn, notHeld, commit, move, enquire, board, withdraw}
-use Rattle.rules.specs.Entry.{gives, givesWith, Case, lentList, reports, case}
+use Rattle.rules.specs.Calls.{refused, committed, moved, waiting, looked, withdrawn, notHeld, move, enquire, board, withdraw}
+use Rattle.rules.specs.Entry.{commit, oneFeeder, openedOne, gives, givesWith, Case, lentList, reports, case}
 use Rattle.rules.specs.CasesAToL.{ordersE, givenE, givenF, minuteG, ordersH, givenH}
 
 abbrev pub casesOfWithdrawals : List Case
@@ -9,9 +9,9 @@ casesOfWithdrawals =
     -- In case f's station without ticket 5 minutes 5 to 9 count 2, 0, 1, as in g: 26. Tickets 1 and 2 have begun: 25, also where the
     -- rest would not be sound, as without ticket 2, of line 3, in minutes 1 to 4. Nothing has changed: the same again.
     record {
-      settings = settings 2 50 0;
+      asked = oneFeeder 2 50 0;
       calls = ordersE ++ (move 1 lentList ∷ withdraw 9 ∷ withdraw 5 ∷ withdraw 1 ∷ withdraw 2 ∷ withdraw 5 ∷ enquire 5 ∷ []);
-      opening = opened 1;
+      opening = openedOne 1;
       given =
           givenE
           ++ (givenF ∷ map gives (refused 15 ∷ refused 26 ∷ refused 25 ∷ refused 25 ∷ refused 26 ∷ waiting 5 1 ∷ []));

@@ -40,22 +40,22 @@ takenOnAll = loadFrom (draw 1 7 1) 13 ∷ loadFrom (draw 2 7 1) 13 ∷ loadFrom 
 abbrev pub casesOnBusyEvenings : List CandidateCase
 casesOnBusyEvenings =
     -- The limit: one point a line. A charge of 5 minutes on line 1 fails from start 10 in its fourth minute.
-    entry (limits 1 1) taken (draw 1 5 1) 10 false 4
+    entry (limits 1 1 720 []) taken (draw 1 5 1) 10 false 4
     -- From start 15 it fails in its first.
-    ∷ entry (limits 1 1) taken (draw 1 5 1) 15 false 1
+    ∷ entry (limits 1 1 720 []) taken (draw 1 5 1) 15 false 1
     -- From start 9 only its last minute fails, and all five have been looked at.
-    ∷ entry (limits 1 1) taken (draw 1 5 1) 9 false 5
+    ∷ entry (limits 1 1 720 []) taken (draw 1 5 1) 9 false 5
     -- From starts 8 and 20 none fails: it ends, or begins, where the other draws nothing.
-    ∷ entry (limits 1 1) taken (draw 1 5 1) 8 true 5
-    ∷ entry (limits 1 1) taken (draw 1 5 1) 20 true 5
+    ∷ entry (limits 1 1 720 []) taken (draw 1 5 1) 8 true 5
+    ∷ entry (limits 1 1 720 []) taken (draw 1 5 1) 20 true 5
     -- Balance: two points a line, and two counts differ by at most 1. The first and the last of 12 minutes are sound, the fourth
     -- is not: 2, 0, 0.
-    ∷ entry (limits 2 1) taken (draw 1 12 1) 10 false 4
+    ∷ entry (limits 2 1 720 []) taken (draw 1 12 1) 10 false 4
     -- Beside one more on each other line it is sound, 2, 1, 1: what is held helps a candidate too.
-    ∷ entry (limits 2 1) takenOnAll (draw 1 12 1) 10 true 12
+    ∷ entry (limits 2 1 720 []) takenOnAll (draw 1 12 1) 10 true 12
     -- On line 3 the same charge fails nowhere: 1, 0, 1 at most.
-    ∷ entry (limits 2 1) taken (draw 3 12 1) 10 true 12
+    ∷ entry (limits 2 1 720 []) taken (draw 3 12 1) 10 true 12
     -- The rate: of 2, beside a bound of 2, it is alone in minute 12 and above the bound with the other in minute 13.
-    ∷ entry (limits 3 2) taken (draw 1 5 2) 12 false 2
-    ∷ entry (limits 3 2) taken (draw 1 5 1) 12 true 5
+    ∷ entry (limits 3 2 720 []) taken (draw 1 5 2) 12 false 2
+    ∷ entry (limits 3 2 720 []) taken (draw 1 5 1) 12 true 5
     ∷ []

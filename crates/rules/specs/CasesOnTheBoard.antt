@@ -4,8 +4,8 @@ use Prim.Native.Nat.{ℕ}
 use mathlib.Core.List.{List, [], _∷_, _++_}
 use lib.ListN.{replicate}
 use Rattle.rules.specs.Basics.{tabulate}
-use Rattle.rules.specs.Calls.{refused, committed, moved, looked, notHeld, Call, commit, move, board}
-use Rattle.rules.specs.Entry.{Given, gives, givesWith, Case, lentList, startsFrom, reports, case, caseWithTail}
+use Rattle.rules.specs.Calls.{refused, committed, moved, looked, notHeld, Call, move, board}
+use Rattle.rules.specs.Entry.{commit, Given, gives, givesWith, Case, lentList, startsFrom, reports, case, caseWithTail}
 
 -- Tickets 1, 2 and 4 on line 1 one behind the other, from 0, 3 and 13 on, and ticket 3 on line 2. At clock 4 tickets 1 and 3 are
 -- dropped, 2 is charging and 4 waits.

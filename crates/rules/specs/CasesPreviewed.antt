@@ -1,8 +1,8 @@
 -- Cases of N2, see the minute, then decide, each worked out by hand: what a preview leaves, and starts that were shown before
 -- something else was called.
 use mathlib.Core.List.{List, [], _∷_, _++_, map}
-use Rattle.rules.specs.Calls.{refused, previewed, committed, moved, planned, preview, commit, move, offer}
-use Rattle.rules.specs.Entry.{gives, givesWith, Case, lentList, startsFrom, reports, case}
+use Rattle.rules.specs.Calls.{refused, previewed, committed, moved, planned, move}
+use Rattle.rules.specs.Entry.{preview, commit, offer, gives, givesWith, Case, lentList, startsFrom, reports, case}
 
 abbrev pub casesPreviewed : List Case
 casesPreviewed =

@@ -1,12 +1,12 @@
 -- Charges: what they draw, begun and waiting, finished, last end, lateness (docs/RULES.md, section 1).
 use Prim.Native.Nat.{ℕ, _+_, _-_, max}
 use mathlib.Core.Bool.{Bool, not, _&&_, _||_}
-use mathlib.Core.List.{List, [], _∷_, map}
+use mathlib.Core.List.{List, [], _∷_, _++_, map}
 use lib.Dec.{ltb, leb, eqb}
 use lib.IntN.{ℤ, subℕ}
 use lib.Signed.{ltZ, leZ}
 use Rattle.rules.specs.Basics.{keep}
-use Rattle.rules.specs.Load.{Load, Draw, draw, loadFrom}
+use Rattle.rules.specs.Load.{Load, Draw, draw, loadFrom, Limits}
 
 -- "A charge has a ticket, a line, an order minute, a charging time p, a due minute d and a start s." "Each order states a
 -- rate, 1 or 2." `activeTime` is p + r, the minutes in which it is active: "The new edition counts a point as drawing for r
@@ -49,6 +49,10 @@ loadOf c = loadFrom (drawOf c) (c .start)
 
 abbrev pub loadsOf : List Charge → List Load
 loadsOf cs = map loadOf cs
+
+-- what the other feeders draw, and these charges
+abbrev pub seen : Limits → List Charge → List Load
+seen y cs = y .others ++ loadsOf cs
 
 -- "It is begun when s is below the clock, else waiting; so a start equal to the clock still waits."
 abbrev pub isBegun : ℕ → Charge → Bool

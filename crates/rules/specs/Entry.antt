@@ -4,7 +4,9 @@ use mathlib.Core.List.{List, [], _∷_, _++_, map}
 use lib.ListN.{length, replicate}
 use Rattle.rules.specs.Load.{count}
 use Rattle.rules.specs.Charge.{Charge, loadsOf, withoutTicket}
-use Rattle.rules.specs.Calls.{Settings, settings, State, Answer, opened, committed, waiting, Result, opening, Call, enquire, run}
+use Rattle.rules.specs.Site.{State, chargesOn}
+use Rattle.rules.specs.Calls as calls
+use Rattle.rules.specs.Calls.{settings, Asked, Answer, opened, committed, waiting, Result, opening, Call, enquire, run}
 
 -- what a call gave: the answer, and the lent list whole
 pub record Given : Type 0 where
@@ -25,9 +27,9 @@ pub record Minute : Type 0 where
   pub two : ℕ
   pub three : ℕ
 
--- an entry: the opening's settings, the calls, and what they have to give; the minutes are those to be counted at the end
+-- an entry: what the opening asks for, the calls, and what they have to give; the minutes are those to be counted at the end
 pub record Case : Type 0 where
-  pub settings : Settings
+  pub asked : Asked
   pub calls : List Call
   pub opening : Answer
   pub given : List Given
@@ -55,14 +57,14 @@ countedIn cs m =
 
 abbrev pub computed : Case → Case
 computed e =
-    let opened : Result = opening (e .settings) in
+    let opened : Result = opening (e .asked) in
     let results : List Result = run (opened .state) (e .calls) in
     record {
-      settings = e .settings;
+      asked = e .asked;
       calls = e .calls;
       opening = opened .answer;
       given = map gave results;
-      minutes = map (countedIn (stateAfter (opened .state) results .charges)) (e .minutes);
+      minutes = map (countedIn (chargesOn (stateAfter (opened .state) results) 1)) (e .minutes);
     }
 
 -- a report list of 360 places with a 7 in each
@@ -83,14 +85,37 @@ abbrev enquiries : ℕ → ℕ → List Call
 enquiries zero i = []
 enquiries (suc k) i = enquire i ∷ enquiries k (suc i)
 
+-- One feeder under W 720, as before several feeders: its settings, the answer of its opening, and calls that name it
+
+abbrev pub oneFeeder : ℕ → ℕ → ℕ → Asked
+oneFeeder n c r = record { count = 1; site = 720; settings = settings n c r ∷ [] }
+
+abbrev pub openedOne : ℕ → Answer
+openedOne d = opened (d ∷ [])
+
+abbrev pub preview : ℕ → ℕ → ℕ → ℕ → Call
+preview line p d rate = calls.preview 1 line p d rate
+
+abbrev pub commit : ℕ → ℕ → ℕ → ℕ → ℕ → Call
+commit line p d rate shown = calls.commit 1 line p d rate shown
+
+abbrev pub offer : List ℕ → Call
+offer ss = calls.offer 1 ss
+
+abbrev pub replanLatest : Call
+replanLatest = calls.replanLatest 1
+
+abbrev pub replanLines : ℕ → Call
+replanLines allowance = calls.replanLines 1 allowance
+
 -- an opening alone, with r 0
 abbrev pub opens : ℕ → ℕ → Answer → Case
-opens n c a = record { settings = settings n c 0; calls = []; opening = a; given = []; minutes = [] }
+opens n c a = record { asked = oneFeeder n c 0; calls = []; opening = a; given = []; minutes = [] }
 
 -- Open N, c and r: D, and what the calls give.
 abbrev pub caseWithTail : ℕ → ℕ → ℕ → ℕ → List Call → List Given → Case
 caseWithTail n c r d calls given =
-    record { settings = settings n c r; calls = calls; opening = opened d; given = given; minutes = [] }
+    record { asked = oneFeeder n c r; calls = calls; opening = openedOne d; given = given; minutes = [] }
 
 abbrev pub case : ℕ → ℕ → ℕ → List Call → List Given → Case
 case n c d calls given = caseWithTail n c 0 d calls given

@@ -4,8 +4,8 @@ use mathlib.Core.Bool.{Bool, cond, not}
 use mathlib.Core.List.{List, [], _∷_}
 use lib.Dec.{ltb}
 use Rattle.rules.specs.Basics.{firstOf, some}
-use Rattle.rules.specs.Load.{Limits, limitAt, balanceAt, fromOn}
-use Rattle.rules.specs.Charge.{Charge, starting, isBegun, loadsOf, lastEnd, lateness}
+use Rattle.rules.specs.Load.{Limits, lastUntil, limitAt, balanceAt, fromOn}
+use Rattle.rules.specs.Charge.{Charge, starting, isBegun, seen, lateness}
 
 -- "the waiting charges get these starts": the held charges with the listed starts, in ticket order
 abbrev pub restarted : ℕ → List Charge → List ℕ → List Charge
@@ -19,13 +19,13 @@ abbrev pub causes : Limits → ℕ → List Charge → List ℕ → List Charge 
 causes y clock held ss new =
     -- "a start is below the clock"
     (some (λ s. ltb s clock) ss, 3)
-    -- "the last end of held charges (0 if none) is later than now held"
-    ∷ (ltb (lastEnd held) (lastEnd new), 4)
-    -- "a count above N in some minute from the clock on"
-    ∷ (not (fromOn clock (loadsOf new) (limitAt y (loadsOf new))), 5)
+    -- "the last end of held charges (0 if none) is later than now held": "Cause 4 compares the largest s + p + r of the site"
+    ∷ (ltb (lastUntil (seen y held)) (lastUntil (seen y new)), 4)
+    -- "a count above N in some minute from the clock on", and "cause 5 includes W"
+    ∷ (not (fromOn clock (seen y new) (limitAt y (seen y new))), 5)
     -- "a difference above D in some minute from the clock on"
-    ∷ (not (fromOn clock (loadsOf new) (balanceAt y (loadsOf new))), 6)
-    -- "lateness is not smaller than now held"
+    ∷ (not (fromOn clock (seen y new) (balanceAt y (seen y new))), 6)
+    -- "lateness is not smaller than now held": "lateness is the feeder's"
     ∷ (not (ltb (lateness new) (lateness held)), 7)
     ∷ []
 

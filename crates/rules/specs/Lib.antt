@@ -2,6 +2,7 @@ pub mod Basics
 pub mod Load
 pub mod Charge
 pub mod Search
+pub mod Site
 pub mod Priority
 pub mod Candidate
 pub mod Replan
@@ -19,3 +20,4 @@ pub mod CasesOnBusyEvenings
 pub mod CasesOfTails
 pub mod CasesOnTheBoard
 pub mod CasesOfWithdrawals
+pub mod CasesOfFeeders

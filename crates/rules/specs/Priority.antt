@@ -96,9 +96,9 @@ takenAt s (chosen c) = chosen (starting c s)
 abbrev pub Fitting : Type 0
 Fitting = List Load → ℕ → Charge → Bool
 
--- "with the line's count, itself included, at or below the cap in all its minutes"
-abbrev pub fitsAt : Caps → Fitting
-fitsAt cap xs s c = fitsUnder cap xs (drawOf c) s
+-- "with the line's count, itself included, at or below the cap in all its minutes", and the site within w
+abbrev pub fitsAt : ℕ → Caps → Fitting
+fitsAt w cap xs s c = fitsUnder w cap xs (drawOf c) s
 
 -- "the smallest start at which any unplaced charge fits"
 unfoldable pub firstFit : Fitting → ℕ → List Load → List Charge → Found

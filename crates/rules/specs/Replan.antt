@@ -5,8 +5,8 @@ use mathlib.Core.List.{List, [], _∷_, _++_, map}
 use lib.Dec.{leb, eqb}
 use lib.ListN.{length}
 use Rattle.rules.specs.Basics.{Found, at, nothing, keep, some, sortedBy}
-use Rattle.rules.specs.Load.{active, counts, Limits, onLines}
-use Rattle.rules.specs.Charge.{Charge, starting, drawOf, loadOf, loadsOf, begunCharges, waitingCharges, latestStartBefore}
+use Rattle.rules.specs.Load.{Load, active, counts, Limits, onLines}
+use Rattle.rules.specs.Charge.{Charge, starting, drawOf, loadOf, loadsOf, seen, begunCharges, waitingCharges, latestStartBefore}
 use Rattle.rules.specs.Search.{earliest, Caps, firstUnbalanced}
 use Rattle.rules.specs.Priority.{crowdOf, Pick, chosen, nobody, Fitting, fitsAt, picked, withoutTicket}
 
@@ -45,14 +45,18 @@ proposed waiting stuck = none 1
 
 -- "Give each the smallest start, not below the clock, after which the begun charges and those placed so far,
 -- itself included, are sound in every minute from the clock on."
-abbrev pub soundStart : Limits → ℕ → List Charge → List Charge → Charge → Found
-soundStart y clock begun placed c = earliest y clock (loadsOf (begun ++ placed)) (drawOf c)
+abbrev pub soundStart : Limits → ℕ → List Load → List Charge → Charge → Found
+soundStart y clock base placed c = earliest y clock (base ++ loadsOf placed) (drawOf c)
+
+-- what stands while a replan places: "other feeders' charges, all begun ones"
+abbrev pub standing : Limits → ℕ → List Charge → List Load
+standing y clock held = seen y (begunCharges clock held)
 
 -- Replan by latest start: "Keep the begun charges. Take the waiting ones by d − p, then ticket."
 unfoldable pub latest : Limits → ℕ → List Charge → Proposal
 latest y clock held =
     proposed (waitingCharges clock held)
-    (placeAll (soundStart y clock (begunCharges clock held)) [] (byLatestStart (waitingCharges clock held)))
+    (placeAll (soundStart y clock (standing y clock held)) [] (byLatestStart (waitingCharges clock held)))
 
 -- One charge after another, as many as `k`: the one that `pick` takes of those left, with its start.
 unfoldable pub placeOn : (List Charge → List Charge → Pick) → ℕ → List Charge → List Charge → Placed
@@ -68,19 +72,19 @@ onLine l cs = keep (λ c. eqb (c .line) l) cs
 
 -- "In a line, replan by lines now finds the smallest start at which any unplaced charge fits, and among those that fit there
 -- takes the one .."; n and P are those of the line's waiting charges "when the round begins", before any of them is placed.
-abbrev pub placeLine : Fitting → ℕ → List Charge → List Charge → ℕ → Placed → Placed
-placeLine fits clock begun waiting l stuck = stuck
-placeLine fits clock begun waiting l (all before) =
-    placeOn (λ placed left. picked fits clock (loadsOf (begun ++ placed)) (crowdOf (onLine l waiting)) left)
+abbrev pub placeLine : Fitting → ℕ → List Load → List Charge → ℕ → Placed → Placed
+placeLine fits clock base waiting l stuck = stuck
+placeLine fits clock base waiting l (all before) =
+    placeOn (λ placed left. picked fits clock (base ++ loadsOf placed) (crowdOf (onLine l waiting)) left)
     (length (onLine l waiting))
     before
     (onLine l waiting)
 
 -- "with no waiting charge placed, for each line, 1 to 3 in turn": the first l lines
-abbrev pub placeLines : Fitting → ℕ → List Charge → List Charge → ℕ → Placed
-placeLines fits clock begun waiting zero = all []
-placeLines fits clock begun waiting (suc l) =
-    placeLine fits clock begun waiting (suc l) (placeLines fits clock begun waiting l)
+abbrev pub placeLines : Fitting → ℕ → List Load → List Charge → ℕ → Placed
+placeLines fits clock base waiting zero = all []
+placeLines fits clock base waiting (suc l) =
+    placeLine fits clock base waiting (suc l) (placeLines fits clock base waiting l)
 
 -- the lowest line at which f holds, 3 where it holds on neither of the others
 abbrev pub lowestLine : (ℕ → Bool) → ℕ
@@ -108,24 +112,24 @@ pub data Outcome : Type 0 where
 
 -- "If no placed charge of i is active in t: cause 1. Else .. i's cap from t on becomes the smaller of itself and
 -- j's count in t plus D."
-abbrev pub unbalancedIn : Limits → List Charge → List Charge → ℕ → Outcome
-unbalancedIn y begun placed t =
-    let f : ℕ → ℕ = counts (loadsOf (begun ++ placed)) t in
+abbrev pub unbalancedIn : Limits → List Load → List Charge → ℕ → Outcome
+unbalancedIn y base placed t =
+    let f : ℕ → ℕ = counts (base ++ loadsOf placed) t in
     cond (placedActive placed (largestLine f) t) (lowers (largestLine f) t (f (smallestLine f) + y .bound)) (ends (none 1))
 
 -- "Then find the first minute t in which two counts differ by more than D, from the clock on. None: done."
 abbrev pub afterRound : Limits → ℕ → List Charge → Placed → Outcome
 afterRound y clock held stuck = ends (none 1)
 afterRound y clock held (all placed) =
-    elim (firstUnbalanced y clock (loadsOf (begunCharges clock held ++ placed))) [
+    elim (firstUnbalanced y clock (standing y clock held ++ loadsOf placed)) [
       | nothing ↦ ends (starts (startsIn placed (waitingCharges clock held)))
-      | at t ↦ unbalancedIn y (begunCharges clock held) placed t
+      | at t ↦ unbalancedIn y (standing y clock held) placed t
     ]
 
 -- "One round: with no waiting charge placed, for each line, 1 to 3 in turn .."
 unfoldable pub round : Limits → ℕ → List Charge → Caps → Outcome
 round y clock held cap =
-    afterRound y clock held (placeLines (fitsAt cap) clock (begunCharges clock held) (waitingCharges clock held) 3)
+    afterRound y clock held (placeLines (fitsAt (y .site) cap) clock (standing y clock held) (waitingCharges clock held) 3)
 
 -- a proposal, and the rounds made for it
 pub record Replanned : Type 0 where

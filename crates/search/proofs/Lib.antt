@@ -4,5 +4,6 @@ pub mod Within
 pub mod Unsounds
 pub mod Starts
 pub mod Candidates
+pub mod Fittings
 pub mod Lowerings
 pub mod Unders

@@ -181,8 +181,8 @@ lowered-shows {c} {d} {line} {t} {v} x cap s = record { size = x .size; rooms = 
     room l h k u (inr ne) = x .kept l h k u (λ e f g. ne e) ∙ s .rooms l h k u ∙ rw (ne-eqb l line ne) refl
 
 -- caps that are never below the rate meet what a search for a start asks
-pub can-cap : (c : LineCaps) (cap : Caps) (l rate : ℕ) → CapsShown c cap → IsLine l → ((t : ℕ) → rate ≤ cap l t) → CanCap c l rate
-can-cap c cap l rate s h enough =
+pub can-cap : (c : LineCaps) (cap : Caps) (site l rate : ℕ) → CapsShown c cap → IsLine l → ((t : ℕ) → rate ≤ cap l t) → rate ≤ site → CanCap c site l rate
+can-cap c cap site l rate s h enough within =
     record {
       size = s .size;
       some =
@@ -194,4 +194,5 @@ can-cap c cap l rate s h enough =
           ∙ room-after (capsOf c l rate) 4294967295 a (omega arith))))
           (λ a. a)
           (below-or-not (capsOf c l rate) 4294967295);
+      within-site = within;
     }

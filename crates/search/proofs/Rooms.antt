@@ -1,7 +1,7 @@
 -- Room in a minute, walks over the steps, and the search over the answers of `first_failing`.
 use Prim.Native.Nat.{ℕ, _+_, _-_, _^_, _≤_, _<_, max}
 use mathlib.Core.Path.{_≡_, refl, sym, _∙_, ap, subst}
-use mathlib.Core.Bool.{Bool, true, false, cond, _||_, or-true}
+use mathlib.Core.Bool.{Bool, true, false, cond, _||_, or-true, true≢false}
 use mathlib.Core.List.{List}
 use mathlib.Core.Logic.{_⊎_, ⊎-elim}
 use native.Mathlib.Omega.{arith}
@@ -10,10 +10,10 @@ use lib.Dec.{ltb}
 use lib.ListN.{getD}
 use Rattle.rules.proofs.Ranges.{below-or-not}
 use Rattle.profile.specs.Steps.{In, Rising}
-use Rattle.search.specs.Rooms.{hasRoom, roomAt, End, FailsAt, FirstFailing, Misses, Least, CanSearch}
+use Rattle.search.specs.Rooms.{hasRoom, End, FailsAt, FirstFailing, Misses, Least}
 use Rattle.search.specs.declared.walk.Failing.{Failing}
 use Rattle.search.specs.declared.walk.Failing.the-variants.{At, Nothing}
-use Rattle.profile.proofs.Levels.{level-in, at-step, in-more, rising-le}
+use Rattle.profile.proofs.Levels.{at-step, in-more, rising-le}
 
 -- Room
 
@@ -33,10 +33,6 @@ room-always room t h = ap (λ (b : Bool). ltb t room || b) (le-leb 4294967295 ro
 pub room-cond : (b : Bool) (t : ℕ) → hasRoom (cond b 4294967295 0) t ≡ b
 room-cond true t = room-always 4294967295 t (omega arith)
 room-cond false t = room-after 0 t (omega arith) (omega arith)
-
--- in a step the level is that of the step
-pub room-in : {ats : List ℕ} (rooms : List ℕ) {n i t : ℕ} → In ats n i t → roomAt ats rooms n t ≡ hasRoom (getD rooms i 0) t
-room-in {ats} rooms {n} {i} {t} h = ap (λ (x : ℕ). hasRoom x t) (level-in ats (λ i. getD rooms i 0) n i t h)
 
 -- The walk
 
@@ -93,39 +89,37 @@ module _ {f : ℕ → Bool} {ats : List ℕ} {n from until i t end m : ℕ} (roo
 
 -- what an answer says
 pub told-at :
-    (ats rooms : List ℕ) (n from until : ℕ) (r : Failing) (m i : ℕ) → FirstFailing ats rooms n from until r → r ≡ At m i → FailsAt (roomAt ats rooms n) ats n from until m i
-told-at ats rooms n from until r m i h e = subst (λ (r : Failing). FirstFailing ats rooms n from until r) e h
+    (f : ℕ → Bool) (ats : List ℕ) (n from until : ℕ) (r : Failing) (m i : ℕ) → FirstFailing f ats n from until r → r ≡ At m i → FailsAt f ats n from until m i
+told-at f ats n from until r m i h e = subst (λ (r : Failing). FirstFailing f ats n from until r) e h
 
 pub told-nothing :
-    (ats rooms : List ℕ) (n from until : ℕ) (r : Failing) → FirstFailing ats rooms n from until r → r ≡ Nothing →
-    (t : ℕ) → from ≤ t → t < until → roomAt ats rooms n t ≡ true
-told-nothing ats rooms n from until r h e = subst (λ (r : Failing). FirstFailing ats rooms n from until r) e h
+    (f : ℕ → Bool) (ats : List ℕ) (n from until : ℕ) (r : Failing) → FirstFailing f ats n from until r → r ≡ Nothing →
+    (t : ℕ) → from ≤ t → t < until → f t ≡ true
+told-nothing f ats n from until r h e = subst (λ (r : Failing). FirstFailing f ats n from until r) e h
 
 -- The search
 
 -- no start below s will do
-pub record Seek (ats rooms : List ℕ) (n time start i s : ℕ) : Type 0 where
+pub record Seek (f : ℕ → Bool) (ats : List ℕ) (n time start i s : ℕ) : Type 0 where
   pub low : start ≤ s
   pub high : s ≤ getD ats (n - 1) 0
   pub here : In ats n i s
-  pub failed : (j : ℕ) → start ≤ j → j < s → Misses (roomAt ats rooms n) time j
+  pub failed : (j : ℕ) → start ≤ j → j < s → Misses f time j
 
-pub seek-start : {ats rooms : List ℕ} {n time start i : ℕ} → CanSearch ats rooms n time start → In ats n i start → Seek ats rooms n time start i start
-seek-start c h = record { low = omega arith; high = c .high; here = h; failed = λ j a b. absurd (omega arith) }
+pub seek-start :
+    (f : ℕ → Bool) {ats : List ℕ} {n : ℕ} (time : ℕ) {start i : ℕ} → start ≤ getD ats (n - 1) 0 → In ats n i start → Seek f ats n time start i start
+seek-start f time high h = record { low = omega arith; high = high; here = h; failed = λ j a b. absurd (omega arith) }
 
-module _ {ats rooms : List ℕ} {n time start i s m k : ℕ} (c : CanSearch ats rooms n time start) (w : Seek ats rooms n time start i s)
-    (h : FailsAt (roomAt ats rooms n) ats n s (s + time) m k) where
-  -- the last step has room
+-- in the last step every minute passes the test, and of those from s on minute m of step k fails it
+module _ {f : ℕ → Bool} {ats : List ℕ} {n time start i s until m k : ℕ} (r : Rising ats n)
+    (rests : (t : ℕ) → In ats n (n - 1) t → f t ≡ true) (w : Seek f ats n time start i s) (h : FailsAt f ats n s until m k) where
   pub seek-below : k + 1 < n
-  seek-below = ⊎-elim (λ a. a) (λ a. absurd (last a)) (below-or-not (k + 1) n)
+  seek-below = ⊎-elim (λ a. a) (λ a. absurd (true≢false (last a))) (below-or-not (k + 1) n)
     where
-      last : n ≤ k + 1 → ⊥
+      last : n ≤ k + 1 → true ≡ false
       last a =
           let e : k ≡ n - 1 = omega (arith, h .inside .below) in
-          let full : 4294967295 ≤ getD rooms k 0 = omega (arith, c .rests, ap (λ (x : ℕ). getD rooms x 0) e) in
-          let x : true ≡ false = sym (room-always (getD rooms k 0) m (omega arith)) ∙ sym (room-in rooms (h .inside)) ∙ h .fails m (omega arith) (h .inside) in
-          let z : _≡_ {A = ℕ} 0 1 = cc in
-          omega arith
+          sym (rests m (subst (λ (x : ℕ). In ats n x m) e (h .inside))) ∙ h .fails m (omega arith) (h .inside)
 
   pub seek-order : i ≤ k
   seek-order =
@@ -134,13 +128,13 @@ module _ {ats rooms : List ℕ} {n time start i s m k : ℕ} (c : CanSearch ats 
       (λ a. a)
       (below-or-not k i)
 
-  pub seek-on : Seek ats rooms n time start (k + 1) (getD ats (k + 1) 0)
-  seek-on =
+  pub seek-on : until ≡ s + time → Seek f ats n time start (k + 1) (getD ats (k + 1) 0)
+  seek-on all =
       let next : m < getD ats (k + 1) 0 = h .inside .later (k + 1) (omega arith) seek-below in
       record {
         low = omega (arith, w .low, h .low);
-        high = rising-le ats n (c .rises) (k + 1) (n - 1) (omega (arith, seek-below)) (omega (arith, c .some));
-        here = at-step ats n (k + 1) (c .rises) seek-below;
+        high = rising-le ats n r (k + 1) (n - 1) (omega (arith, seek-below)) (omega (arith, seek-below));
+        here = at-step ats n (k + 1) r seek-below;
         failed = λ j a b.
             ⊎-elim
             (λ x. w .failed j a x)
@@ -150,7 +144,7 @@ module _ {ats rooms : List ℕ} {n time start i s m k : ℕ} (c : CanSearch ats 
               minute = j;
               low = omega arith;
               high = omega (arith, h .low, h .high);
-              fails = h .fails j (omega arith) (in-more j (c .rises) (h .inside) (omega arith) (λ z. b));
+              fails = h .fails j (omega arith) (in-more j r (h .inside) (omega arith) (λ z. b));
             })
             (λ y. record { minute = m; low = y; high = omega (arith, h .high); fails = h .fails m (omega arith) (h .inside) })
             (below-or-not m j))
@@ -158,6 +152,7 @@ module _ {ats rooms : List ℕ} {n time start i s m k : ℕ} (c : CanSearch ats 
       }
 
 pub seek-done :
-    {ats rooms : List ℕ} {n time start i s r : ℕ} → Seek ats rooms n time start i s → r ≡ s →
-    ((t : ℕ) → s ≤ t → t < s + time → roomAt ats rooms n t ≡ true) → Least (roomAt ats rooms n) time start r × (r ≤ getD ats (n - 1) 0)
-seek-done w e h = rw e (record { low = w .low; passes = h; failed = w .failed }, w .high)
+    {f : ℕ → Bool} {ats : List ℕ} {n time start i s until r : ℕ} → Seek f ats n time start i s → r ≡ s → until ≡ s + time →
+    ((t : ℕ) → s ≤ t → t < until → f t ≡ true) → Least f time start r × (r ≤ getD ats (n - 1) 0)
+seek-done w e all h =
+    rw e (record { low = w .low; passes = λ t a b. h t a (omega arith); failed = w .failed }, w .high)

@@ -2,32 +2,25 @@
 use Prim.Native.Nat.{ℕ, _+_, _-_, _^_, _≤_, _<_}
 use mathlib.Core.Path.{_≡_}
 use mathlib.Core.Bool.{Bool, true, false}
-use mathlib.Core.List.{List}
-use Rattle.rules.specs.Load as rules
-use Rattle.rules.specs.Load.{Load, IsRate, share, limits, draw, soundCounts}
+use mathlib.Core.List.{List, []}
+use Rattle.rules.specs.Load.{Load, IsRate, soundCounts}
 use Rattle.rules.specs.Candidate as tests
 use Rattle.rules.specs.Candidate.{testedBy, candidate}
 use Rattle.profile.specs.Steps.{In}
-use Rattle.profile.specs.Shows.{levelOf, firstMinute, Formed, Small, Shows}
-use Rattle.profile.specs.declared.Profile.{Profile}
+use Rattle.profile.specs.Shows.{Profile, levels, firstMinute, Formed, Small, ShowsIn}
+use Rattle.search.specs.Numbers.{limitsBeside, drawOf, withDraw, SoundAlone}
 use Rattle.search.specs.Starts.{CanStart}
-use Rattle.search.specs.declared.candidate.Limits.{Limits}
-use Rattle.search.specs.declared.candidate.Draw.{Draw}
+use Rattle.search.specs.declared.limits.Limits.{Limits}
+use Rattle.search.specs.declared.limits.Draw.{Draw}
 use Rattle.search.specs.declared.candidate.Tested.{Tested}
 
--- the code's numbers as the rules have them
-abbrev pub limitsOf : Limits → rules.Limits
-limitsOf y = limits (y .limit) (y .bound)
-
-abbrev pub drawOf : Draw → rules.Draw
-drawOf a = draw (a .line) (a .time) (a .rate)
-
+-- the code's answer as the rules have it
 abbrev pub testedOf : Tested → tests.Tested
 testedOf r = record { fits = r .fits; looked = r .looked }
 
--- the levels in minute t and what a charge draws are within limit and bound
+-- the levels in minute t and what a charge draws are within both limits and the bound
 abbrev pub fitsIn : Profile → Limits → Draw → ℕ → Bool
-fitsIn p y a t = soundCounts (limitsOf y) (λ l. levelOf p l t + share (a .line) (a .rate) l)
+fitsIn p y a t = soundCounts (limitsBeside y []) (withDraw (levels p t) a)
 
 -- what the test of a candidate start in a step asks
 pub record CanTest (p : Profile) (a : Draw) (start step : ℕ) : Type 0 where
@@ -45,14 +38,15 @@ pub record TestedAs (p : Profile) (y : Limits) (a : Draw) (start : ℕ) (r : Tes
 -- whatever loads p shows, the answer is that of the rules' test
 abbrev pub TestShows : Profile → Limits → Draw → ℕ → Tested → Type 0
 TestShows p y a start r =
-    (clock : ℕ) (loads : List Load) → Shows p clock loads → clock ≤ start → testedOf r ≡ candidate (limitsOf y) loads (drawOf a) start
+    (size clock : ℕ) (loads others : List Load)
+    → ShowsIn size p clock loads
+    → clock ≤ start
+    → testedOf r ≡ candidate (limitsBeside y others) loads (drawOf a) start
 
 -- what a search over candidates asks: the last step has room
 pub record CanFit (p : Profile) (y : Limits) (a : Draw) (start : ℕ) : Type 0 where
   pub can : CanStart p (a .time)
-  pub is-rate : IsRate (a .rate)
-  pub within-limit : a .rate ≤ y .limit
-  pub within-bound : a .rate ≤ y .bound
+  pub alone : SoundAlone y a
   pub some : 1 ≤ a .time
   pub low : firstMinute p ≤ start
   pub ends-fit : start + a .time < 2 ^ 32

@@ -1,17 +1,17 @@
--- The caps of the lines, as a list of minutes: place k of a line has the first minute from which on its cap is below k.
+-- The caps of the lines, as a list of minutes: place k of a line has the first minute from which on its cap is below k. And the
+-- room under a cap, within the site's limit.
 use Prim.Native.Nat.{ℕ, _+_, _*_, _^_, _≤_, _<_, min}
 use mathlib.Core.Path.{_≡_}
-use mathlib.Core.Bool.{Bool, false, cond}
+use mathlib.Core.Bool.{Bool, false, cond, _&&_}
 use mathlib.Core.List.{List}
 use lib.Dec.{ltb, leb}
 use lib.ListN.{length, getD}
-use Rattle.rules.specs.Load.{IsLine}
+use Rattle.rules.specs.Load.{IsLine, wholeOf}
 use Rattle.rules.specs.Search.{Caps}
 use Rattle.rules.specs.Replan.{lowered}
 use Rattle.profile.specs.Steps.{columns, lineIn}
-use Rattle.profile.specs.Shows.{levelOf, firstMinute, lastMinute, Formed}
-use Rattle.search.specs.Rooms.{hasRoom, Filled, Least}
-use Rattle.profile.specs.declared.Profile.{Profile}
+use Rattle.profile.specs.Shows.{Profile, levelOf, levels, firstMinute, lastMinute, Formed}
+use Rattle.search.specs.Rooms.{hasRoom, countsOf, Least}
 use Rattle.search.specs.declared.caps.LineCaps.{LineCaps}
 
 -- so many places a line has among the caps: one for each count from 0 to the largest limit, 60
@@ -58,13 +58,15 @@ LoweredAt c d i t v = (cap : Caps) → CapsShown c cap → CapsShown d (lowered 
 abbrev pub Whole : LineCaps → Type 0
 Whole c = length (c .caps) ≡ columns * capPlaces
 
--- the room of each step under a cap
-pub record RoomsUnder (counts caps : ℕ → ℕ) (rate n : ℕ) (rooms : List ℕ) : Type 0 where
-  pub filled : Filled (λ i. caps (counts i + rate)) n rooms
+-- up to which minute step i has room for one more load on the line, under its cap: not at all, where the site would pass its limit
+abbrev pub underIn : List ℕ → List ℕ → ℕ → ℕ → ℕ → ℕ → ℕ
+underIn counts caps site line rate i =
+    cond (leb (wholeOf (countsOf counts i) + rate) site) (lineIn caps line (lineIn counts line i + rate)) 0
 
--- with one more load on the line minute t is still within the cap
-abbrev pub roomUnder : Profile → LineCaps → ℕ → ℕ → ℕ → Bool
-roomUnder p c line rate t = hasRoom (capsOf c line (levelOf p line t + rate)) t
+-- with one more load on the line minute t is still within the cap, and the site within its limit
+abbrev pub roomUnder : Profile → ℕ → LineCaps → ℕ → ℕ → ℕ → Bool
+roomUnder p site c line rate t =
+    hasRoom (capsOf c line (levelOf p line t + rate)) t && leb (wholeOf (levels p t) + rate) site
 
 -- what a run of minutes with room asks
 pub record CanRun (p : Profile) (c : LineCaps) (line most from : ℕ) : Type 0 where
@@ -74,12 +76,13 @@ pub record CanRun (p : Profile) (c : LineCaps) (line most from : ℕ) : Type 0 w
   pub low : firstMinute p ≤ from
   pub ends-fit : from + most < 2 ^ 32
 
--- r is the smallest start, from `start` on, with room under the cap in all its minutes
-pub record EarliestStartUnder (p : Profile) (c : LineCaps) (line time rate start r : ℕ) : Type 0 where
-  pub least : Least (roomUnder p c line rate) time start r
+-- r is the smallest start, from `start` on, with room under the cap and the site's limit in all its minutes
+pub record EarliestStartUnder (p : Profile) (site : ℕ) (c : LineCaps) (line time rate start r : ℕ) : Type 0 where
+  pub least : Least (roomUnder p site c line rate) time start r
   pub high : r ≤ lastMinute p
 
--- a cap is whole and never below the rate
-pub record CanCap (c : LineCaps) (l rate : ℕ) : Type 0 where
+-- a cap is whole and never below the rate, nor is the site's limit
+pub record CanCap (c : LineCaps) (site l rate : ℕ) : Type 0 where
   pub size : length (c .caps) ≡ columns * capPlaces
   pub some : 4294967295 ≤ capsOf c l rate
+  pub within-site : rate ≤ site

@@ -1,3 +1,4 @@
+pub mod Numbers
 pub mod Rooms
 pub mod Starts
 pub mod Candidates

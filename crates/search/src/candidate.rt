@@ -1,28 +1,13 @@
 // The test of an order's candidate start, which ends at its first failing minute, and the first start that fits.
-use crate::room::share_of;
-use crate::room::sound;
+use crate::limits::Draw;
+use crate::limits::Limits;
+use crate::room::sound_with;
 use crate::walk::end_of;
-use profile::COLUMNS;
-use profile::STEPS;
-use profile::counts::count_of;
 use profile::counts::smaller;
 use profile::steps::place;
 ghost use Prim.Native.Nat.{_≤_, max};
 ghost use Rattle.profile.specs.Shows.{profileOf, lastMinute};
 ghost use Rattle.search.specs.Candidates.{CanTest, TestedAs, CanFit, FirstFitting};
-
-// The limit N and the bound D.
-pub struct Limits {
-    pub limit: u32,
-    pub bound: u32,
-}
-
-// What a charge draws wherever it starts: its rate on a line, for `time` minutes.
-pub struct Draw {
-    pub line: u32,
-    pub time: u32,
-    pub rate: u32,
-}
 
 // Whether no minute fails, how many were looked at, and, where one fails, its step.
 pub struct Tested {
@@ -33,8 +18,8 @@ pub struct Tested {
 
 // The test of a candidate start that lies in a step: step after step, up to the first failing minute.
 pub fn test_start<'a>(
-    at: &'a [u32; STEPS],
-    counts: &'a [u32; COLUMNS * STEPS],
+    at: &'a [u32],
+    counts: &'a [u32],
     n: usize,
     limits: Limits,
     draw: Draw,
@@ -44,17 +29,11 @@ pub fn test_start<'a>(
     requires { ⌜ CanTest (profileOf n (now at) (now counts)) draw start step ⌝ }
     ensures { λ r. ⌜ TestedAs (profileOf n (now (at .entry)) (now (counts .entry))) limits draw start r ⌝ }
 {
-    let a = share_of(draw.line, draw.rate, 1);
-    let b = share_of(draw.line, draw.rate, 2);
-    let c = share_of(draw.line, draw.rate, 3);
     let until = start + draw.time;
     let mut i = step;
     let mut t = start;
     while t < until {
-        let x = count_of(counts, i, 1) + a;
-        let y = count_of(counts, i, 2) + b;
-        let z = count_of(counts, i, 3) + c;
-        if !sound(limits.limit, limits.bound, x, y, z) {
+        if !sound_with(counts, i, limits, draw) {
             let looked = t - start + 1;
             return Tested {
                 fits: false,
@@ -75,8 +54,8 @@ pub fn test_start<'a>(
 // The first start, not below the one given, that fits by the minutes below `until`: the answer fits, or it reaches `until` or
 // behind. After a failing minute the next candidate is the end of its step, or `until`, since nothing is known from there on.
 pub fn first_fitting<'a>(
-    at: &'a [u32; STEPS],
-    counts: &'a [u32; COLUMNS * STEPS],
+    at: &'a [u32],
+    counts: &'a [u32],
     n: usize,
     limits: Limits,
     draw: Draw,

@@ -1,19 +1,21 @@
-// The room that each step has for one more load.
+// Whether, and up to which minute, a step has room for one more load.
 use crate::caps::CAP_PLACES;
+use crate::limits::Draw;
+use crate::limits::Limits;
 use profile::COLUMNS;
-use profile::STEPS;
 use profile::counts::count_of;
 use profile::counts::larger;
 use profile::counts::smaller;
 ghost use mathlib.Core.Path.{_≡_};
-ghost use mathlib.Core.Bool.{cond};
-ghost use Prim.Native.Nat.{_+_, _*_, _≤_};
-ghost use Rattle.rules.specs.Load.{IsLine, IsRate, share, limits, soundCounts};
+ghost use mathlib.Core.List.{[]};
+ghost use Prim.Native.Nat.{_+_, _*_, _^_, _<_, _≤_};
+ghost use Rattle.rules.specs.Load.{IsLine, IsRate, share, wholeOf, soundCounts};
 ghost use Rattle.profile.specs.Steps.{mostSteps, columns, lineIn};
 ghost use Rattle.profile.specs.Shows.{ofLines};
 ghost use lib.ListN.{length};
-ghost use Rattle.search.specs.Rooms.{RoomsWithin, SmallSteps};
-ghost use Rattle.search.specs.Caps.{capPlaces, RoomsUnder};
+ghost use Rattle.search.specs.Numbers.{limitsBeside, withDraw};
+ghost use Rattle.search.specs.Rooms.{countsOf, SmallStep};
+ghost use Rattle.search.specs.Caps.{capPlaces, underIn};
 
 // What one load of a line adds to the count of line l.
 pub fn share_of(line: u32, rate: u32, l: u32) -> u32
@@ -22,53 +24,51 @@ pub fn share_of(line: u32, rate: u32, l: u32) -> u32
     if line == l { rate } else { 0 }
 }
 
-// Whether three counts are within limit and bound.
-pub fn sound(limit: u32, bound: u32, a: u32, b: u32, c: u32) -> bool
-    ensures { λ r. ⌜ r ≡ soundCounts (limits limit bound) (ofLines a b c) ⌝ }
+// All that is drawn, by four counts.
+pub fn whole(a: u32, b: u32, c: u32, d: u32) -> usize
+    ensures { λ r. ⌜ r ≡ wholeOf (ofLines a b c d) ⌝ }
+{
+    a as usize + (b as usize + (c as usize + d as usize))
+}
+
+// Whether the counts of the lines and of the other feeders are within both limits and the bound.
+pub fn sound(limits: Limits, a: u32, b: u32, c: u32, d: u32) -> bool
+    ensures { λ r. ⌜ r ≡ soundCounts (limitsBeside limits []) (ofLines a b c d) ⌝ }
 {
     let high = larger(a, larger(b, c));
     let low = smaller(a, smaller(b, c));
-    if limit < high {
+    let all = whole(a, b, c, d);
+    if limits.limit < high {
         return false;
     }
-    high - low <= bound
+    if (limits.site as usize) < all {
+        return false;
+    }
+    high - low <= limits.bound
 }
 
-// Up to which minute three counts are within limit and bound: for ever, or not at all.
-pub fn within(limit: u32, bound: u32, a: u32, b: u32, c: u32) -> u32
-    ensures { λ r. ⌜ r ≡ cond (soundCounts (limits limit bound) (ofLines a b c)) 4294967295 0 ⌝ }
+// Whether the counts of a step, with one more load, are within both limits and the bound.
+pub fn sound_with<'a>(counts: &'a [u32], i: usize, limits: Limits, draw: Draw) -> bool
+    requires { ⌜ SmallStep (now counts) i × IsRate (draw .rate) ⌝ }
+    ensures { λ r. ⌜ r ≡ soundCounts (limitsBeside limits []) (withDraw (countsOf (now (counts .entry)) i) draw) ⌝ }
 {
-    if sound(limit, bound, a, b, c) {
-        return 4294967295;
-    }
-    0
+    let a = count_of(counts, i, 1) + share_of(draw.line, draw.rate, 1);
+    let b = count_of(counts, i, 2) + share_of(draw.line, draw.rate, 2);
+    let c = count_of(counts, i, 3) + share_of(draw.line, draw.rate, 3);
+    let d = count_of(counts, i, 4) + share_of(draw.line, draw.rate, 4);
+    sound(limits, a, b, c, d)
 }
 
-// The room within limit and bound for one more load on the line.
-pub fn rooms_within<'a>(
-    counts: &'a [u32; COLUMNS * STEPS],
-    n: usize,
-    limit: u32,
-    bound: u32,
-    line: u32,
-    rate: u32,
-) -> [u32; STEPS]
-    requires { ⌜ (n ≤ mostSteps) × SmallSteps (now counts) n × IsRate rate ⌝ }
-    ensures { λ r. ⌜ RoomsWithin (now (counts .entry)) n limit bound line rate r ⌝ }
+// All that is drawn in a step.
+pub fn whole_of<'a>(counts: &'a [u32], i: usize) -> usize
+    requires { ⌜ (columns * i + columns ≤ length (now counts)) × (i < mostSteps) ⌝ }
+    ensures { λ r. ⌜ (r ≡ wholeOf (countsOf (now (counts .entry)) i)) × (r < 2 ^ 34) ⌝ }
 {
-    let mut rooms = [0u32; STEPS];
-    let a = share_of(line, rate, 1);
-    let b = share_of(line, rate, 2);
-    let c = share_of(line, rate, 3);
-    let mut i = 0;
-    while i < n {
-        let x = count_of(counts, i, 1) + a;
-        let y = count_of(counts, i, 2) + b;
-        let z = count_of(counts, i, 3) + c;
-        rooms[i] = within(limit, bound, x, y, z);
-        i += 1;
-    }
-    rooms
+    let a = count_of(counts, i, 1);
+    let b = count_of(counts, i, 2);
+    let c = count_of(counts, i, 3);
+    let d = count_of(counts, i, 4);
+    whole(a, b, c, d)
 }
 
 // Up to which minute a count with one more load is at or below a cap.
@@ -83,22 +83,22 @@ pub fn under<'a>(caps: &'a [u32; COLUMNS * CAP_PLACES], line: usize, count: u32,
     0
 }
 
-// The room under a cap for one more load on its line.
-pub fn rooms_under<'a>(
-    counts: &'a [u32; COLUMNS * STEPS],
-    line: usize,
-    rate: u32,
+// Up to which minute a step has room for one more load under its line's cap: not at all, where the site would pass its limit.
+pub fn under_in<'a>(
+    counts: &'a [u32],
+    i: usize,
     caps: &'a [u32; COLUMNS * CAP_PLACES],
-    n: usize,
-) -> [u32; STEPS]
-    requires { ⌜ (n ≤ mostSteps) × IsLine line × (length (now caps) ≡ columns * capPlaces) ⌝ }
-    ensures { λ r. ⌜ RoomsUnder (lineIn (now (counts .entry)) line) (lineIn (now (caps .entry)) line) rate n r ⌝ }
+    site: u32,
+    draw: Draw,
+) -> u32
+    requires { ⌜ (columns * i + columns ≤ length (now counts)) × (i < mostSteps) × (length (now caps) ≡ columns * capPlaces) × IsLine (draw .line) ⌝ }
+    ensures { λ r. ⌜ r ≡ underIn (now (counts .entry)) (now (caps .entry)) site (draw .line) (draw .rate) i ⌝ }
 {
-    let mut rooms = [0u32; STEPS];
-    let mut i = 0;
-    while i < n {
-        rooms[i] = under(caps, line, count_of(counts, i, line), rate);
-        i += 1;
+    let line = draw.line as usize;
+    let rate = draw.rate;
+    let all = whole_of(counts, i) + rate as usize;
+    if (site as usize) < all {
+        return 0;
     }
-    rooms
+    under(caps, line, count_of(counts, i, line), rate)
 }

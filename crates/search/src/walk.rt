@@ -1,16 +1,20 @@
-// Searches over a list that has for each step the minute up to which there is room for one more load.
-use profile::STEPS;
+// Walks over the steps: where a step ends, and the first minute without room for one more load under the cap of its line.
+use crate::caps::CAP_PLACES;
+use crate::limits::Draw;
+use crate::room::under_in;
+use profile::COLUMNS;
 use profile::counts::larger;
 use profile::counts::smaller;
-use profile::steps::place;
-ghost use Prim.Native.Nat.{_-_, _<_, _≤_};
-ghost use lib.ListN.{getD};
-ghost use Rattle.profile.specs.Steps.{mostSteps, In, Rising};
-ghost use Rattle.search.specs.Rooms.{roomAt, End, FirstFailing, Least, CanSearch};
+ghost use Prim.Native.Nat.{_+_, _<_, _≤_};
+ghost use lib.ListN.{length};
+ghost use Rattle.profile.specs.Steps.{mostSteps, In};
+ghost use Rattle.profile.specs.Shows.{profileOf};
+ghost use Rattle.search.specs.Rooms.{End, FirstFailing};
+ghost use Rattle.search.specs.Caps.{capsIn, roomUnder, CanRun};
 
 // Where step i ends, or what is looked at.
-pub fn end_of<'a>(at: &'a [u32; STEPS], n: usize, i: usize, until: u32) -> u32
-    requires { ⌜ (i < n) × (n ≤ mostSteps) ⌝ }
+pub fn end_of<'a>(at: &'a [u32], n: usize, i: usize, until: u32) -> u32
+    requires { ⌜ (i < n) × (n ≤ length (now at)) × (n ≤ mostSteps) ⌝ }
     ensures { λ r. ⌜ End (now (at .entry)) n i until r ⌝ }
 {
     if i + 1 < n {
@@ -25,23 +29,27 @@ pub enum Failing {
     Nothing,
 }
 
-// The first minute of from..until without room, looked for from the step of `from` on.
+// The first of the load's minutes from `from` on without room for it, looked for from the step of `from` on. The room of a step is
+// asked for when the walk comes to it: a search looks at no step twice, and so needs no list of rooms.
 pub fn first_failing<'a>(
-    at: &'a [u32; STEPS],
-    rooms: &'a [u32; STEPS],
+    at: &'a [u32],
+    counts: &'a [u32],
     n: usize,
+    caps: &'a [u32; COLUMNS * CAP_PLACES],
+    site: u32,
+    draw: Draw,
     step: usize,
     from: u32,
-    until: u32,
 ) -> Failing
-    requires { ⌜ (n ≤ mostSteps) × Rising (now at) n × In (now at) n step from ⌝ }
-    ensures { λ r. ⌜ FirstFailing (now (at .entry)) (now (rooms .entry)) n from until r ⌝ }
+    requires { ⌜ CanRun (profileOf n (now at) (now counts)) (capsIn (now caps)) (draw .line) (draw .time) from × In (now at) n step from ⌝ }
+    ensures { λ r. ⌜ FirstFailing (roomUnder (profileOf n (now (at .entry)) (now (counts .entry))) site (capsIn (now (caps .entry))) (draw .line) (draw .rate)) (now (at .entry)) n from (from + draw .time) r ⌝ }
 {
+    let until = from + draw.time;
     let mut i = step;
     let mut t = from;
     while t < until {
         let end = end_of(at, n, i, until);
-        let minute = larger(t, rooms[i]);
+        let minute = larger(t, under_in(counts, i, caps, site, draw));
         if minute < end {
             return Failing::At { minute, step: i };
         }
@@ -49,27 +57,4 @@ pub fn first_failing<'a>(
         t = end;
     }
     Failing::Nothing
-}
-
-// The smallest start, not below the one given, with room in all its minutes.
-pub fn search<'a>(
-    at: &'a [u32; STEPS],
-    rooms: &'a [u32; STEPS],
-    n: usize,
-    time: u32,
-    start: u32,
-) -> u32
-    requires { ⌜ CanSearch (now at) (now rooms) n time start ⌝ }
-    ensures { λ r. ⌜ Least (roomAt (now (at .entry)) (now (rooms .entry)) n) time start r × (r ≤ getD (now (at .entry)) (n - 1) 0) ⌝ }
-{
-    let mut i = place(at, n, start);
-    let mut s = start;
-    loop {
-        let f = first_failing(at, rooms, n, i, s, s + time);
-        let Failing::At { minute: _, step } = f else {
-            return s;
-        };
-        i = step + 1;
-        s = at[i];
-    }
 }

@@ -3,16 +3,18 @@ use mathlib.Core.Path.{_≡_, refl, sym, ap, subst, _∙_}
 use Prim.Native.Nat.{ℕ, zero, suc, _<_}
 use native.Mathlib.Omega.{arith}
 use mathlib.Core.Bool.{cond}
-use mathlib.Core.List.{List, [], _∷_}
-use Rattle.rules.specs.Calls.{State, Answer, Result, answering, Call, lent, step, written}
+use mathlib.Core.List.{List, []}
+use lib.ListN.{length}
+use Rattle.rules.specs.Site.{State}
+use Rattle.rules.specs.Calls.{Answer, Result, answering, Call, lent, step, written}
 use Rattle.layout.specs.Image.{imageOf}
 use Rattle.layout.specs.Reading.{RestoreResult, restoring}
 use Rattle.layout.specs.Blocks.{differing}
-use Rattle.layout.specs.Saving.{SaveResult, saving}
+use Rattle.layout.specs.Saving.{SaveResult}
 use Rattle.layout.proofs.Refusing.{saving-written, accepted}
 use Rattle.station.specs.declared.Station.{Station}
-use Rattle.station.specs.View.{view, Valid}
-use Rattle.station.specs.Answers.{giving, Gives}
+use Rattle.station.specs.View.{view, stationOf}
+use Rattle.station.specs.Given.{Gives}
 use Rattle.calls.specs.declared.Call.{Call as Given}
 use Rattle.calls.specs.declared.Call.the-variants.{Preview, Commit, Move, Offer, ReplanLatest, ReplanLines, Enquire, Board, Withdraw}
 use Rattle.calls.specs.Applied.{callOf, Lends, none, reads, writes, both, lends, lentOf, listAfter, ListStays}
@@ -31,12 +33,12 @@ module _ (call : Given) (numbers : List ℕ) {before after : List ℕ} (e : afte
   list-kept = rw e (go call)
     where
       go : (x : Given) → listAfter x numbers before ≡ lent (callOf x numbers before)
-      go (Preview line time due rate) = refl
-      go (Commit line time due rate shown) = refl
+      go (Preview order) = refl
+      go (Commit order shown) = refl
       go (Move target) = refl
-      go Offer = refl
-      go ReplanLatest = refl
-      go (ReplanLines allowance) = refl
+      go (Offer feeder) = refl
+      go (ReplanLatest feeder) = refl
+      go (ReplanLines feeder allowance) = refl
       go (Enquire ticket) = refl
       go Board = refl
       go (Withdraw ticket) = refl
@@ -59,12 +61,13 @@ alone-served {image} {after} {list} {c} {n} h e = subst (λ (xs : List ℕ). Ser
 
 -- A save
 
-module _ {s : State} {image after : List ℕ} {r : Saved} (w : Whole image) (h : Saves s image image after r) where
+module _ {s : State} {image after : List ℕ} {r : Saved} (one : length (s .feeders) ≡ 1) (w : Whole image)
+    (h : Saves s image image after r) where
   pub saved-whole : after ≡ imageOf s
-  saved-whole = ap (λ (x : SaveResult). x .image) (h .result ∙ saving-written s image image w w)
+  saved-whole = ap (λ (x : SaveResult). x .image) (h .result ∙ saving-written s image image one w w)
 
   pub saved-blocks : r .blocks ≡ differing image (imageOf s)
-  saved-blocks = ap (λ (x : SaveResult). x .blocks) (h .result ∙ saving-written s image image w w)
+  saved-blocks = ap (λ (x : SaveResult). x .blocks) (h .result ∙ saving-written s image image one w w)
 
 -- A call
 
@@ -80,7 +83,7 @@ module _ {image : List ℕ} {restored : Restored} (r : Restores image restored) 
   pub refusal-is : restored .answer ≡ restoring image .refusal
   refusal-is = ap (λ (x : RestoreResult). x .refusal) (r .result)
 
-  pub state-is : view (restored .station) ≡ restoring image .state
+  pub state-is : view (stationOf (restored .one)) ≡ restoring image .state
   state-is = ap (λ (x : RestoreResult). x .state) (r .result)
 
   pub whole : restored .answer ≡ 0 → Whole image
@@ -111,9 +114,9 @@ module _ {image : List ℕ} {restored : Restored} (r : Restores image restored) 
       }
 
   module _ (c : Call) {a : Answer} {next : Station} {list : List ℕ} {n : Numbers} (z : restored .answer ≡ 0)
-      (g : Gives (step (view (restored .station)) c) a next list) (t : Tells a n) where
+      (g : Gives (step (view (stationOf (restored .one))) c) a next list) (t : Tells a n) where
     -- the step, where the restore is not refused
-    called-is : (numbers : List ℕ) → left numbers image (giving a next list) ≡ called numbers image c
+    called-is : (numbers : List ℕ) → left numbers image (record { answer = a; state = view next; list = list }) ≡ called numbers image c
     unfolding called
     called-is numbers =
         ap (left numbers image) (g .result ∙ ap (λ (x : State). step x c) state-is)
@@ -121,8 +124,8 @@ module _ {image : List ℕ} {restored : Restored} (r : Restores image restored) 
 
     told-is : told a ≡ toldOf c n
     told-is =
-        let same : a ≡ step (view (restored .station)) c .answer = ap (λ (x : Result). x .answer) (g .result) in
-        ap told same ∙ told-by (view (restored .station)) c n (r .valid .state) (subst (λ (x : Answer). Tells x n) same t)
+        let same : a ≡ step (view (stationOf (restored .one))) c .answer = ap (λ (x : Result). x .answer) (g .result) in
+        ap told same ∙ told-by (view (stationOf (restored .one))) c n (r .alone .valid .state) (subst (λ (x : Answer). Tells x n) same t)
 
     -- what is left, once it is known which way the call went
     left-as : (x : Told) (numbers : List ℕ) → toldOf c n ≡ x

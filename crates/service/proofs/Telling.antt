@@ -4,10 +4,10 @@ use mathlib.Core.Path.{_≡_, refl, sym, ap, _∙_}
 use Prim.Native.Nat.{ℕ, zero, suc, _<_}
 use native.Mathlib.Omega.{arith}
 use mathlib.Core.Bool.{Bool, cond}
-use mathlib.Core.List.{List, [], _∷_}
 use borrow.Author.Tests.{ne-eqb}
 use Rattle.rules.specs.Basics.{firstOf}
-use Rattle.rules.specs.Calls.{State, Answer, refused, Result, answering, Call, preview, commit, move, offer, replanLatest, replanLines, enquire, board, withdraw, lent, refusals, granted, step}
+use Rattle.rules.specs.Site.{State}
+use Rattle.rules.specs.Calls.{Answer, refused, answering, Call, preview, commit, move, offer, replanLatest, replanLines, enquire, board, withdraw, lent, refusals, granted, step}
 use Rattle.rules.specs.Valid.{ValidState}
 use Rattle.rules.proofs.Granted.{refusals-none}
 use Rattle.guarantee.specs.DemandOne.{AnswerTo}
@@ -20,12 +20,12 @@ use Rattle.service.specs.declared.numbers.Numbers.{Numbers}
 
 -- an answer of the call's own kind
 answer-told : (c : Call) (a : Answer) (n : Numbers) → AnswerTo c a → Tells a n → told a ≡ toldOf c n
-answer-told (preview line p d rate) a n (s, e) h = cc
-answer-told (commit line p d rate shown) a n (t, e) h = cc
+answer-told (preview f line p d rate) a n (s, e) h = cc
+answer-told (commit f line p d rate shown) a n (t, e) h = cc
 answer-told (move target list) a n (i, j, e) h = cc
-answer-told (offer ss) a n (i, b, c, k, e) h = cc
-answer-told replanLatest a n (i, b, c, k, e) h = cc
-answer-told (replanLines allowance) a n (i, b, c, k, e) h = cc
+answer-told (offer f ss) a n (i, b, c, k, e) h = cc
+answer-told (replanLatest f) a n (i, b, c, k, e) h = cc
+answer-told (replanLines f allowance) a n (i, b, c, k, e) h = cc
 answer-told (enquire ticket) a n (inl (s, r, e)) h = cc
 answer-told (enquire ticket) a n (inr (s, u, r, e)) h = cc
 answer-told (board asked list) a n (i, e) h = cc
@@ -88,12 +88,12 @@ withBlocks blocks n =
     }
 
 pub same-numbers : (c : Call) (blocks : ℕ) (n : Numbers) → numbersOf c (withBlocks blocks n) ≡ numbersOf c n
-same-numbers (preview line p d rate) blocks n = refl
-same-numbers (commit line p d rate shown) blocks n = refl
+same-numbers (preview f line p d rate) blocks n = refl
+same-numbers (commit f line p d rate shown) blocks n = refl
 same-numbers (move target list) blocks n = refl
-same-numbers (offer ss) blocks n = refl
-same-numbers replanLatest blocks n = refl
-same-numbers (replanLines allowance) blocks n = refl
+same-numbers (offer f ss) blocks n = refl
+same-numbers (replanLatest f) blocks n = refl
+same-numbers (replanLines f allowance) blocks n = refl
 same-numbers (enquire ticket) blocks n = refl
 same-numbers (board asked list) blocks n = refl
 same-numbers (withdraw ticket) blocks n = refl

@@ -4,7 +4,8 @@ use mathlib.Core.Path.{_≡_}
 use mathlib.Core.Bool.{Bool, true, false, cond}
 use mathlib.Core.List.{List, [], _∷_}
 use lib.ListN.{length}
-use Rattle.rules.specs.Calls.{State, Answer, refused, opened, previewed, committed, moved, planned, waiting, charging, looked, withdrawn, Result, answering, Call, lent, step, written}
+use Rattle.rules.specs.Site.{State}
+use Rattle.rules.specs.Calls.{Answer, refused, opened, previewed, committed, moved, planned, waiting, charging, looked, withdrawn, Result, answering, Call, lent, step, written}
 use Rattle.layout.specs.Image.{imageOf}
 use Rattle.layout.specs.Reading.{restoring}
 use Rattle.layout.specs.Blocks.{differing}
@@ -25,7 +26,7 @@ telling numbers = record { isRefused = false; number = 0; numbers = numbers }
 -- the numbers of an answer in the order of a function's references; an enquiry's first says whether the charge is charging
 abbrev pub told : Answer → Told
 told (refused number) = refusing number
-told (opened bound) = telling (bound ∷ [])
+told (opened bounds) = telling bounds
 told (previewed start) = telling (start ∷ [])
 told (committed ticket start) = telling (ticket ∷ start ∷ [])
 told (moved reported dropped) = telling (reported ∷ dropped ∷ [])

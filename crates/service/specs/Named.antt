@@ -31,7 +31,7 @@ alone number =
 -- those that an answer has, in its own order; an opening is no call of a station that stands, and has none here
 abbrev pub numbersIn : Answer → Numbers → List ℕ
 numbersIn (refused number) n = []
-numbersIn (opened bound) n = bound ∷ []
+numbersIn (opened bounds) n = bounds
 numbersIn (previewed start) n = n .start ∷ []
 numbersIn (committed ticket start) n = n .ticket ∷ n .start ∷ []
 numbersIn (moved reported dropped) n = n .reported ∷ n .dropped ∷ []
@@ -48,12 +48,12 @@ pub record Tells (a : Answer) (n : Numbers) : Type 0 where
 
 -- those that a call tells where it is not refused: of a waiting charge there is no end
 abbrev pub numbersOf : Call → Numbers → List ℕ
-numbersOf (preview line p d rate) n = n .start ∷ []
-numbersOf (commit line p d rate shown) n = n .ticket ∷ n .start ∷ []
+numbersOf (preview f line p d rate) n = n .start ∷ []
+numbersOf (commit f line p d rate shown) n = n .ticket ∷ n .start ∷ []
 numbersOf (move target list) n = n .reported ∷ n .dropped ∷ []
-numbersOf (offer ss) n = n .cause ∷ n .before ∷ n .after ∷ n .rounds ∷ []
-numbersOf replanLatest n = n .cause ∷ n .before ∷ n .after ∷ n .rounds ∷ []
-numbersOf (replanLines allowance) n = n .cause ∷ n .before ∷ n .after ∷ n .rounds ∷ []
+numbersOf (offer f ss) n = n .cause ∷ n .before ∷ n .after ∷ n .rounds ∷ []
+numbersOf (replanLatest f) n = n .cause ∷ n .before ∷ n .after ∷ n .rounds ∷ []
+numbersOf (replanLines f allowance) n = n .cause ∷ n .before ∷ n .after ∷ n .rounds ∷ []
 numbersOf (enquire ticket) n = n .charging ∷ n .start ∷ n .rate ∷ cond (eqb (n .charging) 0) [] (n .end ∷ [])
 numbersOf (board asked list) n = n .looked ∷ []
 numbersOf (withdraw ticket) n = []

@@ -1,4 +1,5 @@
-// One call over an image: the station is restored from it, the call is made to it, and the next station is saved over the image.
+// One call over an image: the station is restored from it, the call is made to its only feeder, and the next station is saved over the
+// image.
 // A refusal, whether of the restore or of the call, leaves the image and the lent lists as they are.
 pub mod numbers;
 
@@ -7,8 +8,9 @@ ghost use mathlib.Core.List.{[]};
 ghost use Rattle.calls.specs.Applied.{callOf, none, lends, listAfter, ListStays};
 ghost use Rattle.service.specs.Named.{Serves};
 use calls::Call;
+use calls::alone::make;
 use image::restoring::restore;
-use image::saving::save_back;
+use image::saving::save_only;
 use numbers::Numbers;
 
 // The lists are those of `calls::apply`: one to read from, and one to write to.
@@ -21,15 +23,15 @@ pub fn serve(image: &mut [u8], call: Call, numbers: &[u32], list: &mut [u32]) ->
     if 0 < refusal {
         return numbers::refused(refusal);
     }
-    let station = restored.station;
-    let applied = calls::apply(station, call, numbers, list);
-    let answer = applied.answer;
+    let one = restored.one;
+    let made = make(one, call, numbers, list);
+    let answer = made.answer;
     let told = numbers::of_answer(answer);
     if 0 < told.refusal {
         return told;
     }
-    let next = applied.station;
-    let saved = save_back(next, image);
+    let left = made.left;
+    let saved = save_only(left, image);
     Numbers {
         blocks: saved.blocks,
         ..told

@@ -1,16 +1,19 @@
 // An answer in numbers, each by its name, so that what calls a call need not tell one kind of answer from another.
 ghost use mathlib.Core.Path.{_≡_};
 ghost use Rattle.calls.specs.Applied.{answerOf};
-ghost use Rattle.station.specs.Answers.{previewAnswer, commitAnswer, moveAnswer, planAnswer, enquiryAnswer, boardAnswer, withdrawalAnswer};
+ghost use Rattle.orders.specs.Shown.{previewAnswer};
+ghost use Rattle.ordering.specs.Answers.{commitAnswer};
+ghost use Rattle.planning.specs.Answers.{planAnswer};
+ghost use Rattle.site.specs.Answers.{moveAnswer, enquiryAnswer, boardAnswer, withdrawalAnswer};
 ghost use Rattle.service.specs.Named.{alone, Tells};
 use calls::Answer;
-use station::board::BoardAnswer;
-use station::clock::MoveAnswer;
-use station::enquiry::EnquiryAnswer;
-use station::order::CommitAnswer;
-use station::order::PreviewAnswer;
-use station::plan::PlanAnswer;
-use station::withdraw::WithdrawalAnswer;
+use ordering::commit::CommitAnswer;
+use orders::sought::PreviewAnswer;
+use planning::PlanAnswer;
+use site::board::BoardAnswer;
+use site::clock::MoveAnswer;
+use site::enquiry::EnquiryAnswer;
+use site::withdraw::WithdrawalAnswer;
 
 // The number of the refusal, or 0, and how many blocks of the image changed; then the numbers of an answer, each 0 where the answer
 // has none of its name. Of an enquiry, `charging` is 1 or 0.

@@ -7,24 +7,24 @@ use native.Mathlib.Omega.{arith}
 use borrow.Author.Tests.{eqb-true}
 use lib.ListN.{length, take, length-take}
 use lib.Seq.{slice, slice-empty, take-all}
-use Rattle.rules.specs.Calls.{settings, State, Answer, Result, fresh, opening}
+use Rattle.rules.specs.Site.{State}
+use Rattle.rules.specs.Calls.{fresh, least}
 use Rattle.text.specs.Parts.{split}
 use Rattle.station.specs.declared.Station.{Station}
-use Rattle.station.specs.Answers.{Gives}
+use Rattle.station.specs.Opened.{FreshLeast}
 use Rattle.station.specs.View.{view}
 use Rattle.reply.specs.Reply.{Told, answered}
 use Rattle.session.specs.Session.{console, Fed, first, served, feed}
 use Rattle.session.specs.declared.turn.Wants.{Wants}
 use Rattle.session.specs.declared.turn.Wants.the-variants.{Bytes, Room as Space, Nothing}
 use Rattle.session.specs.declared.turn.Session.{Session}
-use Rattle.session.specs.declared.turn.Next.{Next}
 use Rattle.session.specs.Turns.{heldOf, readOf, ends, over, Standing, Turned, Chain, opened, turned, EveryChain, Reached}
 use Rattle.session.proofs.Turning.{not-both}
 use Rattle.session.proofs.Sessions.{finish, first-first, feed-append, console-fed}
 
 -- what is known after each turn
 record Known (read written : List ℕ) (s : Session) (block : List ℕ) : Type 0 where
-  pub fed : over (s .wants) ≡ false → feed (fresh (settings 1 100 0)) [] read ≡ first written (feed (view (s .station)) (heldOf s block) [])
+  pub fed : over (s .wants) ≡ false → feed (fresh least) [] read ≡ first written (feed (view (s .station)) (heldOf s block) [])
   pub whole : over (s .wants) ≡ true → console read ≡ record { state = view (s .station); text = written }
   pub request : s .wants ≡ Bytes → (split 10 (heldOf s block) ≡ heldOf s block ∷ []) × (s .held ≤ 4097)
 
@@ -40,12 +40,12 @@ waits s kept w h = rw (append-nil kept, w, take-all 4097 kept h)
 -- one part more of the input
 fed-more :
     (read part written : List ℕ) (s : State) (kept text : List ℕ) (t : Fed)
-    → feed (fresh (settings 1 100 0)) [] read ≡ first written (feed s kept [])
+    → feed (fresh least) [] read ≡ first written (feed s kept [])
     → feed s kept part ≡ first text t
-    → feed (fresh (settings 1 100 0)) [] (read ++ part) ≡ first (written ++ text) t
+    → feed (fresh least) [] (read ++ part) ≡ first (written ++ text) t
 fed-more read part written s kept text t p q =
     let g : Fed = feed s kept [] in
-    feed-append (fresh (settings 1 100 0)) [] read part
+    feed-append (fresh least) [] read part
     ∙ ap (λ (o : Fed). first (o .text) (feed (o .state) (o .kept) part)) p
     ∙ sym (first-first written (g .text) (feed (g .state) (g .kept) part))
     ∙ ap (first written) (sym (feed-append s kept [] part) ∙ q)
@@ -54,7 +54,7 @@ fed-more read part written s kept text t p q =
 -- the end of the input
 fed-last :
     (read written : List ℕ) (s : State) (kept : List ℕ) (t : Told)
-    → feed (fresh (settings 1 100 0)) [] read ≡ first written (feed s kept [])
+    → feed (fresh least) [] read ≡ first written (feed s kept [])
     → split 10 kept ≡ kept ∷ []
     → length kept ≤ 4097
     → answered s kept ≡ t
@@ -79,29 +79,29 @@ standing-request :
     → (split 10 kept ≡ kept ∷ []) × (held ≤ 4097)
 standing-request w kept held there h e = rw e at h
 
-module _ {read written : List ℕ} {s : Session} {before : List ℕ} {count : ℕ} {block : List ℕ} {r : Next} {next out : List ℕ}
+module _ {read written : List ℕ} {s : Session} {before : List ℕ} {count : ℕ} {block : List ℕ} {r : Session} {next out : List ℕ}
     (k : Known read written s before) (g : over (s .wants) ≡ false) (same : heldOf s block ≡ heldOf s before)
     (t : Turned s count block r next out) where
-  known-fed : feed (fresh (settings 1 100 0)) [] read ≡ first written (feed (view (s .station)) (heldOf s block) [])
+  known-fed : feed (fresh least) [] read ≡ first written (feed (view (s .station)) (heldOf s block) [])
   known-fed = k .fed g ∙ ap (λ (x : List ℕ). first written (feed (view (s .station)) x [])) (sym same)
 
-  known-next : Known (read ++ readOf s count block) (written ++ take (r .at) out) (r .session) next
+  known-next : Known (read ++ readOf s count block) (written ++ take (r .at) out) r next
   known-next =
       record {
         fed =
-            λ e. fed-more read (readOf s count block) written (view (s .station)) (heldOf s block) (take (r .at) out) (feed (view (r .session .station)) (heldOf (r .session) next) []) known-fed (t .goes-on (sym (t .over-so) ∙ e));
+            λ e. fed-more read (readOf s count block) written (view (s .station)) (heldOf s block) (take (r .at) out) (feed (view (r .station)) (heldOf r next) []) known-fed (t .goes-on (sym (t .over-so) ∙ e));
         whole =
             λ e. let z = ended-so (s .wants) count g (sym (t .over-so) ∙ e) in
             let l = k .request (z .0) in
             ap console (ap (λ (x : List ℕ). read ++ x) (slice-none (s .held) count block (z .1)) ∙ append-nil read)
-            ∙ fed-last read written (view (s .station)) (heldOf s block) (record { state = view (r .session .station); text = take (r .at) out }) known-fed (rw same (l .0)) (omega (arith, length-take (s .held) block, l .1)) (t .has-ended (sym (t .over-so) ∙ e));
-        request = standing-request (r .session .wants) (heldOf (r .session) next) (r .session .held) (s .held + count) (t .standing);
+            ∙ fed-last read written (view (s .station)) (heldOf s block) (record { state = view (r .station); text = take (r .at) out }) known-fed (rw same (l .0)) (omega (arith, length-take (s .held) block, l .1)) (t .has-ended (sym (t .over-so) ∙ e));
+        request = standing-request (r .wants) (heldOf r next) (r .held) (s .held + count) (t .standing);
       }
 
 known : {read written : List ℕ} {s : Session} {block : List ℕ} → Chain read written s block → Known read written s block
 known (opened {s} {block} v h w) = first-known s block v h w
   where
-    first-known : (s : Session) (block : List ℕ) → view (s .station) ≡ fresh (settings 1 100 0) → s .held ≡ 0 → s .wants ≡ Bytes → Known [] [] s block
+    first-known : (s : Session) (block : List ℕ) → view (s .station) ≡ fresh least → s .held ≡ 0 → s .wants ≡ Bytes → Known [] [] s block
     first-known s block v h w =
         record {
           fed = λ _. rw (v, h);
@@ -122,19 +122,19 @@ every-chain read written s block c =
       whole = λ e. k .whole (ap over e);
     }
 
+-- no turn yet: the session begins with the least station
+pub reached-first :
+    {s : Session} {block : List ℕ} {q : Station} → FreshLeast q → s .station ≡ q → s .held ≡ 0 → s .wants ≡ Bytes → Reached s block
+reached-first f same h w = record { read = []; written = []; chain = opened (ap view same ∙ f .state-is) h w }
+
 -- one turn more
 pub reached-on :
-    {s : Session} {before block : List ℕ} {count : ℕ} {r : Next} {next out : List ℕ}
+    {s : Session} {before block : List ℕ} {count : ℕ} {r : Session} {next out : List ℕ}
     → Reached s before → over (s .wants) ≡ false → heldOf s block ≡ heldOf s before → Turned s count block r next out
-    → Reached (r .session) next
+    → Reached r next
 reached-on {s} {before} {block} {count} {r} {next} {out} c g same t =
     record {
       read = c .read ++ readOf s count block;
       written = c .written ++ take (r .at) out;
       chain = turned (c .chain) g same t;
     }
-
--- the station that `serve` begins with
-pub opened-fresh : {a : Answer} {s : Station} {list : List ℕ} → Gives (opening (settings 1 100 0)) a s list → view s ≡ fresh (settings 1 100 0)
-unfolding opening
-opened-fresh g = ap (λ (x : Result). x .state) (g .result)

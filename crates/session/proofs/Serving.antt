@@ -7,7 +7,7 @@ use native.Mathlib.Omega.{arith}
 use borrow.Author.Tests.{lt-ltb, le-ltb}
 use lib.ListN.{length, take, drop, length-append}
 use lib.Seq.{slice, sets-eq, length-sets, take-at, take-length, length-take-le}
-use Rattle.rules.specs.Calls.{State}
+use Rattle.rules.specs.Site.{State}
 use Rattle.text.specs.Parts.{split, PartEnd}
 use Rattle.text.specs.Printed.{Printed}
 use Rattle.text.proofs.Splitting.{take-slice}
@@ -16,7 +16,7 @@ use Rattle.station.specs.View.{view, Valid}
 use Rattle.reply.specs.Reply.{Replied, answered}
 use Rattle.session.specs.Session.{first, served}
 use Rattle.session.specs.declared.turn.Replies.{Replies}
-use Rattle.session.specs.Turns.{after, requestsAfter, Answers, Stops}
+use Rattle.session.specs.Turns.{full, after, requestsAfter, Answers, Stops}
 use Rattle.session.proofs.Parting.{split-some}
 use Rattle.session.proofs.Sessions.{served-request, first-first}
 
@@ -86,5 +86,5 @@ module _ {s : State} {block : List ℕ} {l : Replies} {out : List ℕ} {end : �
   pub stops-done : end ≡ length block → Stops block l
   stops-done h = record { none-left = λ _. rw (le-ltb end (length block) (omega arith), h) at (e .parts) }
 
-pub stops-full : (block : List ℕ) (l : Replies) → 57000 < l .at → Stops block l
+pub stops-full : (block : List ℕ) (l : Replies) → full < l .at → Stops block l
 stops-full block l h = record { none-left = λ k. absurd (omega arith) }

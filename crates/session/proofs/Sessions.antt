@@ -7,7 +7,8 @@ use native.Mathlib.Omega.{arith}
 use borrow.Author.Tests.{lt-ltb}
 use lib.ListN.{length, length-append}
 use lib.Seq.{take-all, take-append-le, take-take, length-take-le}
-use Rattle.rules.specs.Calls.{settings, State, fresh}
+use Rattle.rules.specs.Site.{State}
+use Rattle.rules.specs.Calls.{fresh, least}
 use Rattle.rules.proofs.Ranges.{below-or-not}
 use Rattle.text.specs.Parts.{joined, split}
 use Rattle.requests.specs.Requests.{readRequest, error}
@@ -118,6 +119,6 @@ finish-requests s [] h = absurd h
 finish-requests s (request ∷ requests) h = finish-served s request requests
 
 -- a whole input as one part
-pub console-fed : (input : List ℕ) → finish (feed (fresh (settings 1 100 0)) [] input) ≡ console input
+pub console-fed : (input : List ℕ) → finish (feed (fresh least) [] input) ≡ console input
 unfolding console
-console-fed input = finish-requests (fresh (settings 1 100 0)) (split 10 input) (split-some 10 input)
+console-fed input = finish-requests (fresh least) (split 10 input) (split-some 10 input)

@@ -7,7 +7,7 @@ use Prim.Native.Nat.{ℕ, _+_, _-_, _≤_, _<_}
 use native.Mathlib.Omega.{arith}
 use lib.ListN.{length, take, drop, length-append, length-take, take-append-drop}
 use lib.Seq.{slice, length-sets, take-at, take-all, take-take, take-length, length-take-le, length-slice}
-use Rattle.rules.specs.Calls.{State}
+use Rattle.rules.specs.Site.{State}
 use Rattle.rules.proofs.Ranges.{below-or-not}
 use Rattle.text.specs.Parts.{split}
 use Rattle.text.proofs.Splitting.{take-slice}
@@ -18,9 +18,8 @@ use Rattle.session.specs.Session.{first, enough, served, feed}
 use Rattle.session.specs.declared.turn.Wants.{Wants}
 use Rattle.session.specs.declared.turn.Wants.the-variants.{Bytes, Room as Space, Nothing}
 use Rattle.session.specs.declared.turn.Session.{Session}
-use Rattle.session.specs.declared.turn.Next.{Next}
 use Rattle.session.specs.declared.turn.Replies.{Replies}
-use Rattle.session.specs.Turns.{after, Answers, Stops, KeptTo, heldOf, readOf, ends, LastTurn, Turned}
+use Rattle.session.specs.Turns.{full, after, Answers, Stops, KeptTo, heldOf, readOf, ends, LastTurn, Turned}
 use Rattle.session.proofs.Parting.{take-whole}
 use Rattle.session.proofs.Serving.{printed-front}
 
@@ -31,7 +30,7 @@ not-both p q = let z : true ≡ false = sym p ∙ q in let n : _≡_ {A = ℕ} 0
 pub last-request :
     {s : Session} {block before : List ℕ} {q : Station} {out : List ℕ} {at : ℕ}
     → Replied (answered (view (s .station)) (heldOf s block)) q before 0 out at
-    → LastTurn s block (record { session = record { station = q; held = 0; wants = Nothing }; at = at }) out
+    → LastTurn s block (record { station = q; held = 0; wants = Nothing; at = at }) out
 last-request {s} {block} {before} {q} {out} {at} r =
     let t : Told = answered (view (s .station)) (heldOf s block) in
     record {
@@ -45,7 +44,7 @@ last-request {s} {block} {before} {q} {out} {at} r =
     }
 
 pub turned-last :
-    {s : Session} {count : ℕ} {block : List ℕ} {r : Next} {out : List ℕ} → ends (s .wants) count ≡ true → LastTurn s block r out
+    {s : Session} {count : ℕ} {block : List ℕ} {r : Session} {out : List ℕ} → ends (s .wants) count ≡ true → LastTurn s block r out
     → Turned s count block r block out
 turned-last {s} {count} {block} {r} {out} e l =
     record {
@@ -58,13 +57,11 @@ turned-last {s} {count} {block} {r} {out} e l =
       text-fits = l .text-fits;
     }
 
--- the session that is handed on has the station, the end of the text and the wants of a turn
-pub turned-as :
-    {s : Session} {count : ℕ} {block : List ℕ} {q kept : Station} {held at end : ℕ} {wants asks : Wants} {next out : List ℕ}
-    → Turned s count block (record { session = record { station = q; held = held; wants = wants }; at = at }) next out
-    → kept ≡ q → asks ≡ wants → end ≡ at
-    → Turned s count block (record { session = record { station = kept; held = held; wants = asks }; at = end }) next out
-turned-as t same-station same-wants same-end = rw (same-station, same-wants, same-end) t
+-- Up to where the bytes that are left stay, and what is wanted then: all of them stay where the buffer is full, and else what
+-- is kept of the last request.
+pub data Stays (at filled kept to : ℕ) (wants : Wants) : Type 0 where
+  all : full < at → to ≡ filled → wants ≡ Space → Stays at filled kept to wants
+  part : at ≤ full → to ≡ kept → wants ≡ Bytes → Stays at filled kept to wants
 
 -- the bytes from `from` on that stay, moved to the front
 carried-front :
@@ -104,8 +101,8 @@ module _ (s : Session) (count : ℕ) (block : List ℕ) {l : Replies} {out : Lis
 
   -- the buffer is full
   pub turned-full :
-      {held : ℕ} {next : List ℕ} → 57000 < l .at → (held ≡ filled - l .from) × (next ≡ slice (l .from) filled block ++ drop (filled - l .from) block)
-      → Turned s count block (record { session = record { station = l .station; held = held; wants = Space }; at = l .at }) next out
+      {held : ℕ} {next : List ℕ} → full < l .at → (held ≡ filled - l .from) × (next ≡ slice (l .from) filled block ++ drop (filled - l .from) block)
+      → Turned s count block (record { station = l .station; held = held; wants = Space; at = l .at }) next out
   turned-full {held} {next} f c =
       let k : take held next ≡ slice (l .from) filled block = carried-front block next (l .from) filled held fits c in
       record {
@@ -121,9 +118,9 @@ module _ (s : Session) (count : ℕ) (block : List ℕ) {l : Replies} {out : Lis
 
   -- no request is left that has ended
   pub turned-waiting :
-      {to held : ℕ} {next : List ℕ} → l .at ≤ 57000 → Stops (take filled block) l → KeptTo (l .from) filled to
+      {to held : ℕ} {next : List ℕ} → l .at ≤ full → Stops (take filled block) l → KeptTo (l .from) filled to
       → (held ≡ to - l .from) × (next ≡ slice (l .from) to block ++ drop (to - l .from) block)
-      → Turned s count block (record { session = record { station = l .station; held = held; wants = Bytes }; at = l .at }) next out
+      → Turned s count block (record { station = l .station; held = held; wants = Bytes; at = l .at }) next out
   unfolding served
   turned-waiting {to} {held} {next} f st kt c =
       let request : List ℕ = slice (l .from) filled block in
@@ -146,3 +143,13 @@ module _ (s : Session) (count : ℕ) (block : List ℕ) {l : Replies} {out : Lis
         within = omega (arith, c .0, kt .low, kt .high, ap length (c .1), length-append (slice (l .from) to block) (drop (to - l .from) block), length-slice (l .from) to block (omega (arith, kt .high)));
         text-fits = a .text-fits;
       }
+
+  -- either, for a session that has the station and the end of the text
+  pub turned-on :
+      {kept to held end : ℕ} {q : Station} {wants : Wants} {next : List ℕ} → Stops (take filled block) l → KeptTo (l .from) filled kept
+      → Stays (l .at) filled kept to wants
+      → (held ≡ to - l .from) × (next ≡ slice (l .from) to block ++ drop (to - l .from) block)
+      → q ≡ l .station → end ≡ l .at
+      → Turned s count block (record { station = q; held = held; wants = wants; at = end }) next out
+  turned-on st k (all f e w) c same-station same-end = rw (same-station, w, same-end) (turned-full f (rw e at c))
+  turned-on st k (part f e w) c same-station same-end = rw (same-station, w, same-end) (turned-waiting f st k (rw e at c))

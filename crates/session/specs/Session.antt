@@ -2,7 +2,8 @@
 use Prim.Native.Nat.{ℕ}
 use mathlib.Core.List.{List, [], _∷_, _++_}
 use lib.ListN.{take}
-use Rattle.rules.specs.Calls.{settings, State, fresh}
+use Rattle.rules.specs.Site.{State}
+use Rattle.rules.specs.Calls.{fresh, least}
 use Rattle.text.specs.Parts.{split}
 use Rattle.reply.specs.Reply.{Told, answered}
 
@@ -16,9 +17,9 @@ session s [] = record { state = s; text = [] }
 session s (request ∷ requests) = saying (answered s request .text) (session (answered s request .state) requests)
 
 -- The whole input. Its requests stand between line feeds (10), so a last one without a line feed counts, and after a last
--- line feed comes an empty request. The station that stands at the beginning is the fresh one of 1, 100.
+-- line feed comes an empty request. The station that stands at the beginning is the fresh one of 1, 100, with one feeder and W 720.
 unfoldable pub console : List ℕ → Told
-console input = session (fresh (settings 1 100 0)) (split 10 input)
+console input = session (fresh least) (split 10 input)
 
 -- Input in parts
 

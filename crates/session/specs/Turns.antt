@@ -6,7 +6,8 @@ use mathlib.Core.List.{List, [], _∷_, _++_}
 use lib.Dec.{eqb}
 use lib.ListN.{length, take}
 use lib.Seq.{slice}
-use Rattle.rules.specs.Calls.{settings, State, fresh}
+use Rattle.rules.specs.Site.{State}
+use Rattle.rules.specs.Calls.{fresh, least}
 use Rattle.text.specs.Parts.{split}
 use Rattle.station.specs.View.{view, Valid}
 use Rattle.reply.specs.Reply.{answered}
@@ -14,14 +15,17 @@ use Rattle.session.specs.Session.{console, first, served, feed}
 use Rattle.session.specs.declared.turn.Wants as declared
 use Rattle.session.specs.declared.turn.Wants.the-variants.{Bytes, Room as Space, Nothing}
 use Rattle.session.specs.declared.turn.Session.{Session}
-use Rattle.session.specs.declared.turn.Next.{Next}
 use Rattle.session.specs.declared.turn.Replies.{Replies}
 
--- what the lent lists have room for
+-- past this place of the buffer no further request is answered
+abbrev pub full : ℕ
+full = 6000
+
+-- what the lent lists have room for: the buffer for an answer, of at most 30,336 bytes, at any place up to that one
 pub record Room (numbers list out : List ℕ) : Type 0 where
   pub numbers-fit : 2048 ≤ length numbers
   pub list-fits : 4096 ≤ length list
-  pub out-fits : 65536 ≤ length out
+  pub out-fits : 36864 ≤ length out
 
 -- Requests of a block
 
@@ -43,7 +47,7 @@ pub record Answers (s : State) (block : List ℕ) (l : Replies) (out : List ℕ)
 
 -- Where the buffer has room left, no request is left that has ended.
 pub record Stops (block : List ℕ) (l : Replies) : Type 0 where
-  pub none-left : l .at ≤ 57000 → requestsAfter block (l .from) ≡ after block (l .from) ∷ []
+  pub none-left : l .at ≤ full → requestsAfter block (l .from) ≡ after block (l .from) ∷ []
 
 -- what is kept of a request that goes on: all of it, or 4,097 bytes
 pub record KeptTo (from filled to : ℕ) : Type 0 where
@@ -80,27 +84,27 @@ Standing Space kept held there = held < there
 Standing Nothing kept held there = held ≡ 0
 
 -- what is held is answered as a last request
-pub record LastTurn (s : Session) (block : List ℕ) (r : Next) (out : List ℕ) : Type 0 where
-  pub last-is : answered (view (s .station)) (heldOf s block) ≡ record { state = view (r .session .station); text = take (r .at) out }
-  pub none-held : r .session .held ≡ 0
-  pub is-over : r .session .wants ≡ Nothing
-  pub valid : Valid (r .session .station)
+pub record LastTurn (s : Session) (block : List ℕ) (r : Session) (out : List ℕ) : Type 0 where
+  pub last-is : answered (view (s .station)) (heldOf s block) ≡ record { state = view (r .station); text = take (r .at) out }
+  pub none-held : r .held ≡ 0
+  pub is-over : r .wants ≡ Nothing
+  pub valid : Valid (r .station)
   pub text-fits : r .at ≤ length out
 
 -- The contract of a turn. While the input goes on, what is held and the bytes just read give the text that is handed out, and
 -- then what the next session holds. Where it has ended, what is held is answered as the last request.
-pub record Turned (s : Session) (count : ℕ) (block : List ℕ) (r : Next) (next out : List ℕ) : Type 0 where
+pub record Turned (s : Session) (count : ℕ) (block : List ℕ) (r : Session) (next out : List ℕ) : Type 0 where
   pub goes-on :
       ends (s .wants) count ≡ false
       → feed (view (s .station)) (heldOf s block) (readOf s count block)
-      ≡ first (take (r .at) out) (feed (view (r .session .station)) (heldOf (r .session) next) [])
+      ≡ first (take (r .at) out) (feed (view (r .station)) (heldOf r next) [])
   pub has-ended :
       ends (s .wants) count ≡ true
-      → answered (view (s .station)) (heldOf s block) ≡ record { state = view (r .session .station); text = take (r .at) out }
-  pub over-so : over (r .session .wants) ≡ ends (s .wants) count
-  pub standing : Standing (r .session .wants) (heldOf (r .session) next) (r .session .held) (s .held + count)
-  pub valid : Valid (r .session .station)
-  pub within : r .session .held ≤ length next
+      → answered (view (s .station)) (heldOf s block) ≡ record { state = view (r .station); text = take (r .at) out }
+  pub over-so : over (r .wants) ≡ ends (s .wants) count
+  pub standing : Standing (r .wants) (heldOf r next) (r .held) (s .held + count)
+  pub valid : Valid (r .station)
+  pub within : r .held ≤ length next
   pub text-fits : r .at ≤ length out
 
 -- Chains of turns
@@ -110,14 +114,14 @@ pub record Turned (s : Session) (count : ℕ) (block : List ℕ) (r : Next) (nex
 -- it, whatever was read; reading keeps the bytes that are held.
 pub data Chain : List ℕ → List ℕ → Session → List ℕ → Type 0 where
   opened :
-      {s : Session} {block : List ℕ} → view (s .station) ≡ fresh (settings 1 100 0) → s .held ≡ 0 → s .wants ≡ Bytes → Chain [] [] s block
+      {s : Session} {block : List ℕ} → view (s .station) ≡ fresh least → s .held ≡ 0 → s .wants ≡ Bytes → Chain [] [] s block
   turned :
-      {read written : List ℕ} {s : Session} {before : List ℕ} {count : ℕ} {block : List ℕ} {r : Next} {next out : List ℕ}
+      {read written : List ℕ} {s : Session} {before : List ℕ} {count : ℕ} {block : List ℕ} {r : Session} {next out : List ℕ}
       → Chain read written s before
       → over (s .wants) ≡ false
       → heldOf s block ≡ heldOf s before
       → Turned s count block r next out
-      → Chain (read ++ readOf s count block) (written ++ take (r .at) out) (r .session) next
+      → Chain (read ++ readOf s count block) (written ++ take (r .at) out) r next
 
 -- THE THEOREM, for every chain of turns. Where bytes are wanted, the texts handed out, the station and what is held are the
 -- definition's for all that was read so far: every request that has ended is answered. Where nothing is wanted any more, the
@@ -125,7 +129,7 @@ pub data Chain : List ℕ → List ℕ → Session → List ℕ → Type 0 where
 pub record AnswersAll (read written : List ℕ) (s : Session) (block : List ℕ) : Type 0 where
   pub so-far :
       s .wants ≡ Bytes
-      → feed (fresh (settings 1 100 0)) [] read ≡ record { state = view (s .station); kept = heldOf s block; text = written }
+      → feed (fresh least) [] read ≡ record { state = view (s .station); kept = heldOf s block; text = written }
   pub whole : s .wants ≡ Nothing → console read ≡ record { state = view (s .station); text = written }
 
 abbrev pub EveryChain : Type 0

@@ -1,5 +1,5 @@
-// The program as a machine without input and output. A turn is handed the bytes that were just read, and hands back the text
-// that is to be written and the next session. The contract of `turn` is an equation with the definition of the program's
+// The program as a machine without input and output. A turn is handed the bytes that were just read, and hands back the next
+// session, with the end of the text that is to be written. The contract of `turn` is an equation with the definition of the program's
 // whole answer (specs/Session.antt), and specs/Turns.antt says what chains of turns come to.
 ghost use mathlib.Core.Path.{_≡_};
 ghost use Prim.Native.Nat.{_+_, _≤_};
@@ -7,8 +7,11 @@ ghost use lib.ListN.{length};
 ghost use Rattle.text.specs.Parts.{PartEnd};
 ghost use Rattle.station.specs.View.{view, Valid};
 ghost use Rattle.session.specs.Turns.{ends, Room, Answers, Stops, KeptTo, LastTurn, Turned};
-use reply::Reply;
 use reply::Said;
+use reply::alone::Way;
+use reply::alone::reply_changed;
+use reply::alone::reply_kept;
+use reply::alone::way_of;
 use reply::reply_request;
 use station::Station;
 
@@ -20,17 +23,16 @@ pub enum Wants {
     Nothing,
 }
 
+// Past this place of the buffer no further request is answered, so that any answer still fits: one takes at most 30,336 bytes.
+const FULL: usize = 6000;
+
 // What is kept from turn to turn: the station, how many bytes that are not yet answered stand at the front of the block, and
-// what is wanted.
+// what is wanted; and the end of the text that is to be written. A turn hands back this one struct: a station is large, and
+// each struct around it would be one more copy on the stack.
 pub struct Session {
     pub station: Station,
     pub held: usize,
     pub wants: Wants,
-}
-
-// The next session, and the end of the text that is to be written.
-pub struct Next {
-    pub session: Session,
     pub at: usize,
 }
 
@@ -49,7 +51,8 @@ fn request_end(block: &[u8], from: usize) -> usize
     text::part_end(block, from, block.len(), 10)
 }
 
-// Answers the requests of a block that have ended, one after another, as long as the buffer has room for any answer.
+// Answers the requests of a block that have ended, one after another, as long as the buffer has room for any answer. The only feeder of a
+// station is taken out and put back here, where the station stands: so the compiled program does not copy four feeders at a call.
 fn answer_requests(
     station: Station,
     block: &[u8],
@@ -63,29 +66,46 @@ fn answer_requests(
 {
     let mut from = 0;
     let mut at = 0;
-    let mut reply = Reply {
-        station,
-        said: Said::Nothing,
-    };
-    while at <= 57000 {
+    let mut next = station;
+    while at <= FULL {
         let end = request_end(block, from);
         if end == block.len() {
-            let last = reply.station;
             return Replies {
-                station: last,
+                station: next,
                 from,
                 at,
             };
         }
         let request = reply::read(&block[from..end], numbers, list);
-        reply = reply_request(reply.station, request, numbers, list);
-        let said = reply.said;
+        let mut said = Said::Nothing;
+        let way = way_of(next.count, request);
+        match way {
+            Way::Kept => {
+                let one = next.one(0);
+                said = reply_kept(one, request, numbers, list);
+            }
+            Way::Changed => {
+                let one = next.one(0);
+                let remains = reply_changed(one, request, numbers, list);
+                let left = remains.one;
+                let feeder = left.feeder;
+                said = remains.said;
+                next.site = left.site;
+                next.clock = left.clock;
+                next.next = left.next;
+                next.feeders[0] = feeder;
+            }
+            Way::Whole => {
+                let reply = reply_request(next, request, numbers, list);
+                said = reply.said;
+                next = reply.station;
+            }
+        }
         at = reply::print(said, list, out, at);
         from = end + 1;
     }
-    let last = reply.station;
     Replies {
-        station: last,
+        station: next,
         from,
         at,
     }
@@ -120,7 +140,7 @@ fn last_turn(
     numbers: &mut [u32],
     list: &mut [u32],
     out: &mut [u8],
-) -> Next
+) -> Session
     requires { ⌜ Valid (session .station) × ((session .held ≤ length (now block)) × Room (now numbers) (now list) (now out)) ⌝ }
     ensures { λ r. ⌜ LastTurn session (now (block .entry)) r (now (out .exit)) ⌝ }
 {
@@ -131,16 +151,17 @@ fn last_turn(
     let last = reply.station;
     let said = reply.said;
     let at = reply::print(said, list, out, 0);
-    let over = Session {
+    Session {
         station: last,
         held: 0,
         wants: Wants::Nothing,
-    };
-    Next { session: over, at }
+        at,
+    }
 }
 
 // One turn. After the bytes that are held stand `count` bytes that were read; none, where some were wanted, are the end of
-// the input. The bytes that are not yet answered move to the front of the block.
+// the input. The bytes that are not yet answered move to the front of the block: all of them where the buffer is full, and of
+// a request that goes on no more than is kept.
 pub fn turn(
     session: Session,
     count: usize,
@@ -148,7 +169,7 @@ pub fn turn(
     numbers: &mut [u32],
     list: &mut [u32],
     out: &mut [u8],
-) -> Next
+) -> Session
     requires { ⌜ Valid (session .station) × ((session .held + count ≤ length (now block)) × Room (now numbers) (now list) (now out)) ⌝ }
     ensures { λ r. ⌜ Turned session count (now (block .entry)) r (now (block .exit)) (now (out .exit)) ⌝ }
 {
@@ -159,27 +180,20 @@ pub fn turn(
     let station = session.station;
     let filled = session.held + count;
     let replies = answer_requests(station, &block[..filled], numbers, list, out);
-    let after = replies.station;
     let from = replies.from;
     let at = replies.at;
-    if at > 57000 {
-        let held = text::carry(block, from, filled);
-        let full = Session {
-            station: after,
-            held,
-            wants: Wants::Room,
-        };
-        return Next { session: full, at };
+    let mut to = kept_to(from, filled);
+    let mut then = Wants::Bytes;
+    if at > FULL {
+        to = filled;
+        then = Wants::Room;
     }
-    let to = kept_to(from, filled);
     let held = text::carry(block, from, to);
-    let waiting = Session {
+    let after = replies.station;
+    Session {
         station: after,
         held,
-        wants: Wants::Bytes,
-    };
-    Next {
-        session: waiting,
+        wants: then,
         at,
     }
 }

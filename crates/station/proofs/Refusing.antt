@@ -1,70 +1,41 @@
--- A refused call and one that is not; and that whatever a call gives is valid.
-use mathlib.Core.Path.{_≡_, refl, ap, sym, subst, _∙_}
+-- A refused call and one that is not.
+use mathlib.Core.Path.{_≡_, refl, sym, _∙_}
 use Prim.Native.Nat.{ℕ, zero, suc, _<_}
-use mathlib.Core.Bool.{Bool, true, false, cond}
-use mathlib.Core.List.{List, []}
+use mathlib.Core.List.{List}
 use native.Mathlib.Omega.{arith}
 use Rattle.rules.specs.Basics.{firstOf}
-use Rattle.rules.specs.Calls.{Settings, State, Answer, refused, Result, answering, opening, Call, lent, refusals, granted, step}
-use Rattle.rules.specs.Valid.{ValidState}
-use Rattle.rules.proofs.Validity.{opening-valid, step-valid}
-use Rattle.charges.specs.Arrays.{Columns}
+use Rattle.rules.specs.Site.{State}
+use Rattle.rules.specs.Calls.{Answer, refused, Result, answering, Call, lent, refusals, granted, step}
 use Rattle.station.specs.declared.Station.{Station}
-use Rattle.station.specs.View.{view, Valid}
-use Rattle.station.specs.Answers.{giving, Gives}
+use Rattle.station.specs.declared.One.{One}
+use Rattle.station.specs.View.{view, LeftOf, stateAfter}
+use Rattle.station.specs.Given.{Leaves}
 
-pub answering-refused :
-    (k : ℕ) (s : State) (list : List ℕ) (r : Result)
-    → 0 < k
-    → answering k s list r ≡ record { answer = refused k; state = s; list = list }
+abbrev pub giving : Answer → State → List ℕ → Result
+giving answer s list = record { answer = answer; state = s; list = list }
+
+answering-refused : (k : ℕ) (s : State) (list : List ℕ) (r : Result) → 0 < k → answering k s list r ≡ giving (refused k) s list
 answering-refused zero s list r h = absurd (omega arith)
 answering-refused (suc k) s list r h = refl
 
-pub answering-granted : (k : ℕ) (s : State) (list : List ℕ) (r : Result) → k ≡ 0 → answering k s list r ≡ r
+answering-granted : (k : ℕ) (s : State) (list : List ℕ) (r : Result) → k ≡ 0 → answering k s list r ≡ r
 answering-granted k s list r e = rw e
 
--- A refused call of a station: "the station and every list stay"
-pub call-refused :
-    (s : Station) (call : Call) (k : ℕ)
+-- "the station and every list stay"
+pub call-refused : (s : State) (call : Call) (k : ℕ) → k ≡ firstOf (refusals s call) → 0 < k → giving (refused k) s (lent call) ≡ step s call
+call-refused s call k e h = rw (← e) (sym (answering-refused k s (lent call) (granted s call) h))
+
+pub call-granted : (s : State) (call : Call) (k : ℕ) → k ≡ firstOf (refusals s call) → k ≡ 0 → granted s call ≡ step s call
+call-granted s call k e h = sym (answering-granted (firstOf (refusals s call)) s (lent call) (granted s call) (sym e ∙ h))
+
+-- what a refused call leaves
+pub leaves-refused :
+    (s : Station) (call : Call) {l : One} {k : ℕ} {answer : Answer} {list : List ℕ}
+    → LeftOf s l × (stateAfter (view s) l ≡ view s)
     → k ≡ firstOf (refusals (view s) call)
     → 0 < k
-    → giving (refused k) s (lent call) ≡ step (view s) call
-call-refused s call k e h = rw (← e) (sym (answering-refused k (view s) (lent call) (granted (view s) call) h))
-
-pub call-granted :
-    (s : Station) (call : Call) (k : ℕ)
-    → k ≡ firstOf (refusals (view s) call)
-    → k ≡ 0
-    → step (view s) call ≡ granted (view s) call
-call-granted s call k e h =
-    answering-granted (firstOf (refusals (view s) call)) (view s) (lent call) (granted (view s) call) (sym e ∙ h)
-
--- Whatever a call gives is valid
-
-gives-valid :
-    (r : Result) (answer : Answer) (s : Station) (list : List ℕ)
-    → ValidState (r .state)
-    → Columns (s .charges)
-    → giving answer s list ≡ r
-    → Gives r answer s list
-gives-valid r answer s list v h e =
-    record {
-      result = e;
-      valid = record { columns = h; state = subst ValidState (sym (ap (λ (x : Result). x .state) e)) v };
-    }
-
-pub call-gives :
-    (s : Station) (call : Call) (answer : Answer) (next : Station) (list : List ℕ)
-    → Valid s
-    → Columns (next .charges)
-    → giving answer next list ≡ step (view s) call
-    → Gives (step (view s) call) answer next list
-call-gives s call answer next list v h e =
-    gives-valid (step (view s) call) answer next list (step-valid (view s) call (v .state)) h e
-
-pub opening-gives :
-    (x : Settings) (answer : Answer) (s : Station)
-    → Columns (s .charges)
-    → giving answer s [] ≡ opening x
-    → Gives (opening x) answer s []
-opening-gives x answer s h e = gives-valid (opening x) answer s [] (opening-valid x) h e
+    → answer ≡ refused k
+    → list ≡ lent call
+    → Leaves (step (view s) call) s answer l list
+leaves-refused s call {l} {k} {answer} {list} o e h a same =
+    record { result = rw (o .1, a, same) (call-refused (view s) call k e h); fits = o .0 }

@@ -1,3 +1,5 @@
 pub mod View
-pub mod Answers
-pub mod Shown
+pub mod Opened
+pub mod Holders
+pub mod Given
+pub mod Beside

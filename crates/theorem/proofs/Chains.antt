@@ -2,8 +2,8 @@
 use mathlib.Core.Path.{_≡_, refl, sym, ap, subst, _∙_}
 use mathlib.Core.List.{List, [], _∷_, map}
 use Rattle.rules.specs.Basics.{Each}
-use Rattle.rules.specs.Calls as rules
-use Rattle.rules.specs.Calls.{Settings, State, Result, opening, run, step}
+use Rattle.rules.specs.Site.{State}
+use Rattle.rules.specs.Calls.{Asked, Result, opening, run, step}
 use Rattle.guarantee.specs.Past.{Past, beginning, extended, after, past}
 use Rattle.guarantee.specs.DemandOne.{DemandOne}
 use Rattle.guarantee.specs.DemandTwo.{DemandTwo}
@@ -12,11 +12,13 @@ use Rattle.guarantee.specs.Demands.{reached}
 use Rattle.guarantee.proofs.Demands.{demands}
 use Rattle.station.specs.declared.Station.{Station}
 use Rattle.station.specs.View.{view, Valid}
-use Rattle.station.specs.Answers.{Gives}
+use Rattle.station.specs.declared.open.OpenAnswer.{OpenAnswer}
+use Rattle.station.specs.Opened.{Opens}
 use Rattle.theorem.specs.Theorem.{Made, MeetsApply, Chain, callMade, given, left, known, Theorem}
 
--- an opening with the settings that were passed in
-pub opened-with : {x y : Settings} {answer : rules.Answer} {first : Station} → Gives (opening x) answer first [] → x ≡ y → Gives (opening y) answer first []
+-- an opening that asks for what was passed in
+pub opened-with :
+    {x y : Asked} {answer : OpenAnswer} {first : Station} → Opens (opening x) answer first → x ≡ y → Opens (opening y) answer first
 opened-with gives same = rw same at gives
 
 -- one call: what it gave is one step of the rules

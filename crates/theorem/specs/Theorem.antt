@@ -1,6 +1,6 @@
 -- The theorem about the program that is run. Read this file first: it says of which calls the rest is true.
 --
--- A station is opened by `Station::open` (crates/station/src/open.rt) with any limit, percentage and r. Then calls are made through
+-- A station is opened by `Station::open` (crates/station/src/open.rt) with any count, W and settings of feeders. Then calls are made through
 -- `apply` (crates/calls/src/lib.rt), any calls with any numbers and any lists, each on the station that the
 -- last one handed back. `MeetsOpen` and `MeetsApply` below are the contracts of the two: src/lib.rt calls them, and the
 -- checker has proved there that what they give meets these. Nothing else is asked of the code.
@@ -9,7 +9,7 @@ use Prim.Native.Nat.{ℕ}
 use mathlib.Core.List.{List, [], _∷_, map}
 use Rattle.rules.specs.Basics.{Each}
 use Rattle.rules.specs.Calls as rules
-use Rattle.rules.specs.Calls.{Settings, Result, opening, run, step}
+use Rattle.rules.specs.Calls.{Asked, Result, opening, run, step}
 use Rattle.guarantee.specs.Past.{Past, beginning, extended, past}
 use Rattle.guarantee.specs.DemandOne.{DemandOne, DemandOneOpening}
 use Rattle.guarantee.specs.DemandTwo.{DemandTwo}
@@ -20,7 +20,7 @@ use Rattle.calls.specs.declared.Call.{Call}
 use Rattle.calls.specs.declared.Answer.{Answer}
 use Rattle.calls.specs.declared.Applied.{Applied}
 use Rattle.station.specs.View.{view, Valid}
-use Rattle.station.specs.Answers.{giving, Gives, openAnswer}
+use Rattle.station.specs.Opened.{openAnswer, Opens}
 use Rattle.calls.specs.Applied.{callOf, listAfter, answerOf, Applies}
 
 -- One call made through `apply`: what was passed in, and what came back.
@@ -46,8 +46,8 @@ made call numbers list written r =
     }
 
 -- The contract of `open`: it asks nothing.
-abbrev pub MeetsOpen : Settings → OpenAnswer → Station → Type 0
-MeetsOpen x answer first = Gives (opening x) (openAnswer answer) first []
+abbrev pub MeetsOpen : Asked → OpenAnswer → Station → Type 0
+MeetsOpen x answer first = Opens (opening x) answer first
 
 -- The contract of `apply`: it asks a valid station.
 abbrev pub MeetsApply : Station → Made → Type 0
@@ -64,7 +64,12 @@ abbrev pub callMade : Made → rules.Call
 callMade m = callOf (m .call) (m .numbers) (m .list)
 
 abbrev pub given : Made → Result
-given m = giving (answerOf (m .answer)) (m .station) (listAfter (m .call) (m .numbers) (m .written))
+given m =
+    record {
+      answer = answerOf (m .answer);
+      state = view (m .station);
+      list = listAfter (m .call) (m .numbers) (m .written);
+    }
 
 -- the station that the calls left
 abbrev pub left : Station → List Made → Station
@@ -76,8 +81,8 @@ abbrev pub known : Past → List Made → Past
 known h [] = h
 known h (m ∷ ms) = known (extended h (callMade m) (given m)) ms
 
--- What is proved of an opening with settings x that gave `answer` and `first`, and of the calls made then.
-pub record Guaranteed (x : Settings) (answer : OpenAnswer) (first : Station) (calls : List Made) : Type 0 where
+-- What is proved of an opening that asks for x and gave `answer` and `first`, and of the calls made then.
+pub record Guaranteed (x : Asked) (answer : OpenAnswer) (first : Station) (calls : List Made) : Type 0 where
   -- every station of the chain is valid, so that what `apply` asks is always met
   pub first-valid : Valid first
   pub valid : Each (λ m. Valid (m .station)) calls
@@ -98,7 +103,7 @@ pub record Guaranteed (x : Settings) (answer : OpenAnswer) (first : Station) (ca
 
 abbrev pub Theorem : Type 0
 Theorem =
-    (x : Settings) (answer : OpenAnswer) (first : Station)
+    (x : Asked) (answer : OpenAnswer) (first : Station)
     → MeetsOpen x answer first
     → (calls : List Made)
     → Chain first calls

@@ -2,16 +2,16 @@
 use calls::Applied;
 use calls::Call;
 use station::Station;
+use station::open::Asked;
 use station::open::Opening;
-use station::open::Settings;
 ghost use Rattle.station.specs.View.{Valid};
-ghost use Rattle.station.specs.Answers.{settingsOf};
+ghost use Rattle.station.specs.Opened.{askedOf};
 ghost use Rattle.theorem.specs.Theorem.{MeetsOpen, MeetsApply, made};
 
-pub fn open(settings: Settings) -> Opening
-    ensures { λ r. ⌜ MeetsOpen (settingsOf settings) (r .answer) (r .station) ⌝ }
+pub fn open(asked: Asked) -> Opening
+    ensures { λ r. ⌜ MeetsOpen (askedOf asked) (r .answer) (r .station) ⌝ }
 {
-    Station::open(settings)
+    Station::open(asked)
 }
 
 pub fn apply(station: Station, call: Call, numbers: &[u32], list: &mut [u32]) -> Applied

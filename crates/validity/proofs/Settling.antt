@@ -1,28 +1,31 @@
--- The records of a station whose settings passed their test, and the whole test.
+-- The records of a feeder whose settings passed their test, and the whole test.
 use mathlib.Core.Logic.{_⊎_, inl, inr}
 use mathlib.Core.Path.{_≡_, refl, ap, sym, _∙_}
 use Prim.Native.Nat.{ℕ, _+_, _≤_, _<_}
 use mathlib.Core.Bool.{Bool, true, false, cond, _&&_}
-use mathlib.Core.List.{List}
+use mathlib.Core.List.{List, []}
 use native.Mathlib.Omega.{arith}
 use lib.Dec.{ltb}
 use lib.ListN.{length, getD}
 use borrow.Author.Tests.{lt-ltb, le-ltb, lt-leb, le-leb, eq-eqb}
-use Rattle.rules.specs.Load.{limits, sound}
-use Rattle.rules.specs.Charge.{Charge, loadsOf}
-use Rattle.rules.specs.Calls.{boundOf, limitsOf}
-use Rattle.rules.proofs.Ranges.{and-right, below-or-not}
-use Rattle.rules.proofs.Lists.{length-tabulate, getD-tabulate}
-use Rattle.charges.specs.Arrays.{chargeAt}
-use Rattle.station.specs.declared.Station.{Station}
-use Rattle.station.specs.View.{view}
+use Rattle.rules.specs.Basics.{Each}
+use Rattle.rules.specs.Load.{Load, IsRate, Limits, limits, sound}
+use Rattle.rules.specs.Charge.{Charge, activeUntil, seen}
+use Rattle.rules.specs.Calls.{boundOf}
+use Rattle.rules.proofs.Ranges.{below-or-not}
+use Rattle.rules.proofs.Lists.{length-tabulate, getD-tabulate, each-map}
+use Rattle.charges.specs.declared.Charges.{Charges}
+use Rattle.charges.specs.Arrays.{chargeAt, chargesOf}
+use Rattle.station.specs.declared.One.{One}
+use Rattle.station.specs.View.{view, stationOf}
 use Rattle.layout.specs.Lists.{every}
 use Rattle.layout.specs.Image.{noCharge, heldAt}
 use Rattle.layout.specs.Validity.{boundRight, chargeRight, ticketAt, ticketRight, recordRight, isValid}
-use Rattle.layout.proofs.Listing.{every-at}
-use Rattle.layout.proofs.Judging.{RightCharge, charge-tested}
+use Rattle.layout.proofs.Judging.{RightCharge}
+use Rattle.layout.proofs.Testing.{each-right}
 use Rattle.planner.specs.Ready.{Profiled}
-use Rattle.validity.specs.Settled.{chargeValid, ticketOrNext, ticketRises, Settled}
+use Rattle.planner.proofs.Showing.{plannable}
+use Rattle.validity.specs.Settled.{chargeValid, ticketOrNext, ticketRises, heldBy, single, Settled}
 use Rattle.validity.proofs.Ranging.{Ranged, ranged, valid-ranged, valid-bound}
 
 -- Tickets that rise, by what was read
@@ -42,113 +45,118 @@ module _ (tickets : List ℕ) (held next q : ℕ) where
   unfolding ticketRises
   rises-is t u r e f h d = rw (← e, ← f, le-leb 1 t h) d
 
-module _ (s : Station) where
+module _ (o : One) where
+  abbrev charges : Charges
+  charges = heldBy o
+
   abbrev held : ℕ
-  held = s .charges .held
+  held = charges .held
 
-  pub held-count : length (view s .charges) ≡ held
-  held-count = length-tabulate (chargeAt (s .charges)) held 0
+  pub held-count : length (chargesOf charges) ≡ held
+  held-count = length-tabulate (chargeAt charges) held 0
 
-  pub held-at : (q : ℕ) → q < held → heldAt (view s) q ≡ chargeAt (s .charges) q
+  pub held-at : (q : ℕ) → q < held → heldAt (single o) q ≡ chargeAt charges q
   held-at q l =
       let e : 0 + q ≡ q = omega arith in
-      getD-tabulate (chargeAt (s .charges)) held 0 q noCharge l ∙ ap (chargeAt (s .charges)) e
+      getD-tabulate (chargeAt charges) held 0 q noCharge l ∙ ap (chargeAt charges) e
 
   abbrev tickets : ℕ → ℕ
-  tickets q = ticketOrNext (s .charges .tickets) held (s .next) q
+  tickets q = ticketOrNext (charges .tickets) held (o .next) q
 
-  ticket-at : (q : ℕ) → ticketAt (view s) q ≡ tickets q
+  ticket-at : (q : ℕ) → ticketAt (single o) q ≡ tickets q
   ticket-at q = go (below-or-not q held)
     where
       go :
           (q < held) ⊎ (held ≤ q)
-          → cond (ltb q (length (view s .charges))) (heldAt (view s) q .ticket) (s .next)
-          ≡ cond (ltb q held) (getD (s .charges .tickets) q 0) (s .next)
+          → cond (ltb q (length (chargesOf charges))) (heldAt (single o) q .ticket) (o .next)
+          ≡ cond (ltb q held) (getD (charges .tickets) q 0) (o .next)
       go (inl l) = rw (held-count, lt-ltb q held l) (ap (λ (c : Charge). c .ticket) (held-at q l))
       go (inr l) = rw (held-count, le-ltb q held l)
 
   abbrev rises : ℕ → Bool
-  rises q = ticketRises (s .charges .tickets) held (s .next) q
+  rises q = ticketRises (charges .tickets) held (o .next) q
 
   -- the test of the charge at a place, on its numbers
   abbrev pub validAt : Charge → Bool
   validAt c =
-      chargeValid (s .limit) (s .bound) (s .tail) (s .clock) (s .next) (c .line) (c .orderMinute) (c .time) (c .activeTime) (c .due) (c .start) (c .rate)
+      chargeValid (o .feeder .limit) (o .feeder .bound) (o .site) (o .feeder .tail) (o .clock) (o .next) (c .line) (c .orderMinute) (c .time)
+      (c .activeTime) (c .due) (c .start) (c .rate)
 
-  valid-right : (c : Charge) → chargeRight (view s) c ≡ validAt c
+  valid-right : (c : Charge) → chargeRight (single o) c ≡ validAt c
   unfolding chargeRight chargeValid
   valid-right c = refl
 
-  rises-right : (q : ℕ) → ticketRight (view s) q ≡ rises q
+  rises-right : (q : ℕ) → ticketRight (single o) q ≡ rises q
   unfolding ticketRight ticketRises
   rises-right q = rw (ticket-at q, ticket-at (q + 1))
 
   -- Records
 
-  record-told : (q : ℕ) → q < held → recordRight (view s) q ≡ rises q && validAt (chargeAt (s .charges) q)
+  record-told : (q : ℕ) → q < held → recordRight (single o) q ≡ rises q && validAt (chargeAt charges q)
   unfolding recordRight
-  record-told q l = rw (rises-right q, held-at q l, valid-right (chargeAt (s .charges) q))
+  record-told q l = rw (rises-right q, held-at q l, valid-right (chargeAt charges q))
 
-  pub ticket-fails : (q : ℕ) (a : Bool) → q < held → a ≡ rises q → a ≡ false → recordRight (view s) q ≡ false
+  pub ticket-fails : (q : ℕ) (a : Bool) → q < held → a ≡ rises q → a ≡ false → recordRight (single o) q ≡ false
   ticket-fails q a l e f = record-told q l ∙ rw (← e, f)
 
   pub record-is :
-      (q : ℕ) (a b : Bool) → q < held → a ≡ rises q → a ≡ true → b ≡ validAt (chargeAt (s .charges) q) → recordRight (view s) q ≡ b
+      (q : ℕ) (a b : Bool) → q < held → a ≡ rises q → a ≡ true → b ≡ validAt (chargeAt charges q) → recordRight (single o) q ≡ b
   record-is q a b l e t f = record-told q l ∙ rw (← e, t, ← f)
 
-  module _ (h : Settled s) where
+  -- what its plan has to keep to: nothing else is drawn
+  abbrev own : List Load → Limits
+  own others = limits (o .feeder .limit) (o .feeder .bound) (o .site) others
+
+  module _ (h : Settled o) where
     -- the whole test, from what is found of the records and the plan
     valid-is :
         (r t : Bool)
-        → r ≡ every (recordRight (view s)) held
-        → t ≡ sound (limitsOf (view s)) (s .clock) (loadsOf (view s .charges))
-        → isValid (view s) ≡ r && t
+        → r ≡ every (recordRight (single o)) held
+        → t ≡ sound (own []) (o .clock) (seen (own []) (chargesOf charges))
+        → isValid (single o) ≡ r && t
     unfolding isValid boundRight
     valid-is r t e f =
         rw (
           held-count,
           le-leb held 180 (h .columns .few),
-          valid-ranged (s .limit) (s .percent) (s .tail) (s .clock) (s .next) (h .settings),
-          eq-eqb (s .bound) (boundOf (s .limit) (s .percent)) (h .bound-is),
-          le-leb 1 (s .bound) (omega (arith, h .bound-is, valid-bound (s .limit) (s .percent) (s .tail) (s .clock) (s .next) (h .settings))),
+          valid-ranged (o .feeder .limit) (o .feeder .percent) (o .feeder .tail) (o .clock) (o .next) (o .site) (h .settings),
+          eq-eqb (o .feeder .bound) (boundOf (o .feeder .limit) (o .feeder .percent)) (h .bound-is),
+          le-leb 1 (o .feeder .bound) (omega (arith, h .bound-is, valid-bound (o .feeder .limit) (o .feeder .percent) (o .feeder .tail) (o .clock) (o .next) (o .site) (h .settings))),
           ← e,
           ← f,
         )
 
-    pub valid-fails : (r : Bool) → r ≡ every (recordRight (view s)) held → r ≡ false → false ≡ isValid (view s)
-    valid-fails r e f = sym (valid-is r (sound (limitsOf (view s)) (s .clock) (loadsOf (view s .charges))) e refl ∙ rw f)
+    pub valid-fails : (r : Bool) → r ≡ every (recordRight (single o)) held → r ≡ false → false ≡ isValid (view (stationOf o))
+    valid-fails r e f = sym (valid-is r (sound (own []) (o .clock) (seen (own []) (chargesOf charges))) e refl ∙ rw f)
 
     pub valid-told :
-        (r t : Bool) (limit bound : ℕ)
-        → r ≡ every (recordRight (view s)) held
+        (r t : Bool) (limit bound site clock : ℕ) (others : List Load)
+        → r ≡ every (recordRight (single o)) held
         → r ≡ true
-        → t ≡ sound (limits limit bound) (s .clock) (loadsOf (view s .charges))
-        → limit ≡ s .limit
-        → bound ≡ s .bound
-        → t ≡ isValid (view s)
-    valid-told r t limit bound e f g a b = sym (valid-is r t e (rw (a, b) at g) ∙ rw f)
+        → t ≡ sound (limits limit bound site others) clock (seen (limits limit bound site others) (chargesOf charges))
+        → others ≡ []
+        → limit ≡ o .feeder .limit
+        → bound ≡ o .feeder .bound
+        → site ≡ o .site
+        → clock ≡ o .clock
+        → t ≡ isValid (view (stationOf o))
+    valid-told r t limit bound site clock others e f g none a b w k = sym (valid-is r t e (rw (none, a, b, w, k) at g) ∙ rw f)
 
-    pub settled-ranged : Ranged (s .limit) (s .percent) (s .tail) (s .clock) (s .next)
-    settled-ranged = ranged (s .limit) (s .percent) (s .tail) (s .clock) (s .next) (valid-ranged (s .limit) (s .percent) (s .tail) (s .clock) (s .next) (h .settings))
+    pub settled-ranged : Ranged (o .feeder .limit) (o .feeder .percent) (o .feeder .tail) (o .clock) (o .next) (o .site)
+    settled-ranged =
+        ranged (o .feeder .limit) (o .feeder .percent) (o .feeder .tail) (o .clock) (o .next) (o .site)
+        (valid-ranged (o .feeder .limit) (o .feeder .percent) (o .feeder .tail) (o .clock) (o .next) (o .site) (h .settings))
 
-    module _ (all : every (recordRight (view s)) held ≡ true) where
-      right-at : (q : ℕ) → q < held → RightCharge (view s) (chargeAt (s .charges) q)
-      right-at q l =
-          charge-tested (view s) (chargeAt (s .charges) q)
-          (valid-right (chargeAt (s .charges) q)
-          ∙ and-right (rises q) (validAt (chargeAt (s .charges) q)) (sym (record-told q l) ∙ every-at (recordRight (view s)) held all q l))
-
-      pub all-profiled : Profiled (s .charges)
-      all-profiled =
-          record {
-            few = h .columns .few;
-            ends = λ q l.
-                let r = right-at q l in
-                let g = settled-ranged in
-                (omega (arith, r .end-high, g .clock-high, g .next-high), omega (arith, r .end-high, r .active, g .tail-high, g .clock-high, g .next-high));
-            rated = λ q l. right-at q l .rate;
-            below = λ q l.
-                let r = right-at q l in
-                let g = settled-ranged in
-                omega (arith, r .end-high, r .time-low, g .clock-high, g .next-high);
-          }
+    pub all-profiled : every (recordRight (single o)) held ≡ true → Profiled charges
+    all-profiled all =
+        record {
+          columns = h .columns;
+          plannable =
+              plannable (chargesOf charges)
+              (each-map (RightCharge (single o)) (λ c. IsRate (c .rate)) (λ c r. r .rate) (chargesOf charges) right)
+              (each-map (RightCharge (single o)) (λ c. activeUntil c ≤ 100001445)
+              (λ c r. omega (arith, r .end-high, r .active, settled-ranged .tail-high, settled-ranged .clock-high, settled-ranged .next-high)) (chargesOf charges) right);
+        }
+      where
+        right : Each (RightCharge (single o)) (chargesOf charges)
+        right = each-right (single o) (rw held-count all)

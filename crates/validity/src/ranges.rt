@@ -14,9 +14,9 @@ fn is_between(low: u32, x: u32, high: u32) -> bool
     x <= high
 }
 
-// N, c, r, clock and next ticket in range.
-fn settings_ranged(limit: u32, percent: u32, tail: u32, clock: u32, next: u32) -> bool
-    ensures { λ r. ⌜ r ≡ settingsRanged limit percent tail clock next ⌝ }
+// N, c, r, clock, next ticket and W in range.
+fn settings_ranged(limit: u32, percent: u32, tail: u32, clock: u32, next: u32, site: u32) -> bool
+    ensures { λ r. ⌜ r ≡ settingsRanged limit percent tail clock next site ⌝ }
 {
     if !is_between(1, limit, 60) {
         return false;
@@ -30,14 +30,17 @@ fn settings_ranged(limit: u32, percent: u32, tail: u32, clock: u32, next: u32) -
     if 1000000 < clock {
         return false;
     }
-    is_between(1, next, 65536)
+    if !is_between(1, next, 65536) {
+        return false;
+    }
+    is_between(1, site, 720)
 }
 
 // "Meet neither refusal 3": D is not 0.
-pub fn settings_valid(limit: u32, percent: u32, tail: u32, clock: u32, next: u32) -> bool
-    ensures { λ r. ⌜ r ≡ settingsValid limit percent tail clock next ⌝ }
+pub fn settings_valid(limit: u32, percent: u32, tail: u32, clock: u32, next: u32, site: u32) -> bool
+    ensures { λ r. ⌜ r ≡ settingsValid limit percent tail clock next site ⌝ }
 {
-    if !settings_ranged(limit, percent, tail, clock, next) {
+    if !settings_ranged(limit, percent, tail, clock, next, site) {
         return false;
     }
     let product = percent * limit;
@@ -61,14 +64,17 @@ fn fields_ranged(line: u32, time: u32, due: u32, rate: u32) -> bool
     is_between(1, rate, 2)
 }
 
-// "Nor 18": the rate is within N and D.
-fn rate_right(limit: u32, bound: u32, rate: u32) -> bool
-    ensures { λ r. ⌜ r ≡ rateRight limit bound rate ⌝ }
+// "Nor 18": the rate is within N, D and W.
+fn rate_right(limit: u32, bound: u32, site: u32, rate: u32) -> bool
+    ensures { λ r. ⌜ r ≡ rateRight limit bound site rate ⌝ }
 {
     if limit < rate {
         return false;
     }
-    rate <= bound
+    if bound < rate {
+        return false;
+    }
+    rate <= site
 }
 
 // Starts are any 32-bit numbers, so ends have 64 bits.
@@ -100,6 +106,7 @@ fn times_right(
 pub fn charge_valid(
     limit: u32,
     bound: u32,
+    site: u32,
     tail: u32,
     clock: u32,
     next: u32,
@@ -112,12 +119,12 @@ pub fn charge_valid(
     rate: u32,
 ) -> bool
     requires { ⌜ (1 ≤ next) × («active_time» ≡ time + tail) ⌝ }
-    ensures { λ r. ⌜ r ≡ chargeValid limit bound tail clock next line «order_minute» time «active_time» due start rate ⌝ }
+    ensures { λ r. ⌜ r ≡ chargeValid limit bound site tail clock next line «order_minute» time «active_time» due start rate ⌝ }
 {
     if !fields_ranged(line, time, due, rate) {
         return false;
     }
-    if !rate_right(limit, bound, rate) {
+    if !rate_right(limit, bound, site, rate) {
         return false;
     }
     times_right(tail, clock, next, order_minute, start, time, active_time)

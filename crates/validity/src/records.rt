@@ -1,14 +1,13 @@
-// The charges of a station, record by record.
+// The charges of a feeder, record by record.
 use crate::ranges::charge_valid;
 use charges::PLACES;
-use station::Station;
+use station::One;
 ghost use mathlib.Core.Path.{_≡_};
 ghost use Prim.Native.Nat.{_<_, _≤_};
-ghost use Rattle.rules.specs.Calls.{places};
+ghost use Rattle.rules.specs.Site.{places};
 ghost use Rattle.layout.specs.Lists.{every};
 ghost use Rattle.layout.specs.Validity.{recordRight};
-ghost use Rattle.station.specs.View.{view};
-ghost use Rattle.validity.specs.Settled.{Settled, ticketOrNext, ticketRises};
+ghost use Rattle.validity.specs.Settled.{heldBy, single, Settled, ticketOrNext, ticketRises};
 
 // The ticket of place q, or the next one behind the last.
 fn ticket_or_next<'a>(tickets: &'a [u32; PLACES], held: usize, next: u32, q: usize) -> u32
@@ -35,14 +34,15 @@ fn ticket_rises<'a>(tickets: &'a [u32; PLACES], held: usize, next: u32, q: usize
 }
 
 // Whether each record is right: its ticket, its fields and its times.
-pub fn records_right(s: Station) -> bool
-    requires { ⌜ Settled s ⌝ }
-    ensures { λ r. ⌜ r ≡ every (recordRight (view s)) (s .charges .held) ⌝ }
+pub fn records_right(one: One) -> bool
+    requires { ⌜ Settled one ⌝ }
+    ensures { λ r. ⌜ r ≡ every (recordRight (single one)) (heldBy one .held) ⌝ }
 {
-    let charges = s.charges;
+    let feeder = one.feeder;
+    let charges = feeder.charges;
     let n = charges.held;
     for q in 0..n {
-        if !ticket_rises(&charges.tickets, n, s.next, q) {
+        if !ticket_rises(&charges.tickets, n, one.next, q) {
             return false;
         }
         let line = charges.lines[q];
@@ -53,11 +53,12 @@ pub fn records_right(s: Station) -> bool
         let start = charges.starts[q];
         let rate = charges.rates[q];
         if !charge_valid(
-            s.limit,
-            s.bound,
-            s.tail,
-            s.clock,
-            s.next,
+            feeder.limit,
+            feeder.bound,
+            one.site,
+            feeder.tail,
+            one.clock,
+            one.next,
             line,
             order_minute,
             time,

@@ -17,8 +17,10 @@ fn print_wall(image: &[u8], out: &mut [u8]) -> usize
     if refusal != 0 {
         return print_no_station(out, 0);
     }
-    let station = restored.station;
-    print_pages(station.clock, station.charges, out)
+    let one = restored.one;
+    let feeder = one.feeder;
+    let charges = feeder.charges;
+    print_pages(one.clock, charges, out)
 }
 
 // Reads once, and answers whether something came.

@@ -115,7 +115,7 @@ mod tests {
     #[test]
     fn the_earlier_image_has_its_records_one_after_the_other() {
         let mut interpreter = Interpreter::new(reference::Station::fresh(1, 100, 0));
-        for line in ["open 2 50 0", "commit 1 10 60 1 0", "commit 2 9 50 1 0"] {
+        for line in ["open 1 720 2 50 0", "commit 1 1 10 60 1 0", "commit 1 2 9 50 1 0"] {
             interpreter.answer(line.as_bytes(), &mut Vec::new());
         }
         let station = interpreter.yard();

@@ -7,6 +7,7 @@ use crate::fast::Station;
 use crate::generate;
 use crate::protocol::{write_call, Call};
 use crate::script::{answers_of, repeated, show, Line};
+use crate::yard::Order;
 
 const MOST_TURNS: usize = 5_000;
 
@@ -111,7 +112,7 @@ impl Measured {
 }
 
 fn lines_call() -> Line {
-    write_call(&Call::Lines { allowance: ALLOWANCE }).into_bytes()
+    write_call(&Call::Lines { feeder: 1, allowance: ALLOWANCE }).into_bytes()
 }
 
 /// A commit that is the last of so many and finds room at once.
@@ -123,7 +124,7 @@ pub fn typical_commit(held: usize) -> Measured {
 }
 
 pub fn typical_latest(held: usize) -> Measured {
-    Measured::kept(states::peak(held), b"latest".to_vec())
+    Measured::kept(states::peak(held), b"latest 1".to_vec())
 }
 
 pub fn typical_lines(held: usize) -> Measured {
@@ -142,8 +143,12 @@ pub fn all_equal() -> Measured {
 
 /// The held plan, offered again.
 pub fn typical_offer(held: usize) -> Measured {
-    let mut first = states::peak(held);
-    first.extend((1..=held as u32).map(|ticket| {
+    offer_again(states::peak(held), 1, 1..=held as u32)
+}
+
+/// The starts that the tickets of a feeder have, offered to it.
+fn offer_again(mut first: Vec<Line>, feeder: u32, tickets: impl Iterator<Item = u32>) -> Measured {
+    first.extend(tickets.map(|ticket| {
         let call = Call::Enquire { ticket };
         write_call(&call).into_bytes()
     }));
@@ -153,7 +158,25 @@ pub fn typical_offer(held: usize) -> Measured {
         text.strip_prefix("waiting ")?.split(' ').next()?.parse().ok()
     };
     let starts = answers.iter().filter_map(start).collect();
-    Measured::kept(first, write_call(&Call::Offer { starts }).into_bytes())
+    Measured::kept(first, write_call(&Call::Offer { feeder, starts }).into_bytes())
+}
+
+/// Calls on the last of so many feeders, each with 180 charges (N14): the order of one more,
+/// which the last one has a place for, the held plan offered again, and both replans.
+pub fn of_site(feeders: u32) -> [(&'static str, Measured); 4] {
+    let full = || states::site(feeders, 180);
+    let call = |call: Call| write_call(&call).into_bytes();
+    let order = Order { feeder: feeders, line: 1, time: 120, due: 600, rate: 1 };
+    let preview = call(Call::Preview { order });
+    let latest = call(Call::Latest { feeder: feeders });
+    let lines = call(Call::Lines { feeder: feeders, allowance: ALLOWANCE });
+    let tickets = (1..=180).map(|place| place * feeders);
+    [
+        ("preview", Measured::repeatable(states::site(feeders, 179), preview)),
+        ("offer", offer_again(full(), feeders, tickets)),
+        ("replan by latest start", Measured::kept(full(), latest)),
+        ("replan by lines", Measured::kept(full(), lines)),
+    ]
 }
 
 /// The last sixth of so many commits.
@@ -218,7 +241,7 @@ pub fn worst_withdrawal(held: usize) -> Measured {
 }
 
 pub fn worst_latest() -> Measured {
-    Measured::kept(states::queue(180), b"latest".to_vec())
+    Measured::kept(states::queue(180), b"latest 1".to_vec())
 }
 
 pub fn worst_offer() -> Measured {
@@ -320,6 +343,21 @@ mod tests {
             assert_eq!(measured.rounds, 1);
             let answers = answers_of(Station::fresh(1, 100, 0), &measured.scripts(2)[0]);
             assert!(show(&answers[answers.len() - 1]).starts_with("plan 7 "));
+        }
+    }
+
+    /// On sites an order finds a start, and plans come to the last question.
+    #[test]
+    fn calls_on_sites() {
+        for feeders in [1, 2, 4] {
+            for (title, measured) in of_site(feeders) {
+                let answers = answers_of(Station::fresh(1, 100, 0), &measured.scripts(2)[0]);
+                let refused = answers.iter().find(|answer| answer.starts_with(b"refused"));
+                assert_eq!(refused.map(|answer| show(answer)), None, "{title}");
+                let last = show(&answers[answers.len() - 1]);
+                let expected = if title == "preview" { "start " } else { "plan 7 " };
+                assert!(last.starts_with(expected), "{feeders} feeders, {title}: {last}");
+            }
         }
     }
 

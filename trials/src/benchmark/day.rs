@@ -6,7 +6,7 @@ use crate::generate::cars::{self, Car};
 use crate::protocol::{write_call, Call};
 use crate::random::Random;
 use crate::script::Line;
-use crate::yard::Order;
+use crate::yard::{Opening, Order};
 
 /// "a car park with 180 spaces": each space has one car in a day, so no order is
 /// ever refused for want of a place.
@@ -65,8 +65,8 @@ impl Replan {
     fn call(self) -> Option<Call> {
         match self {
             Replan::Never => None,
-            Replan::Latest => Some(Call::Latest),
-            Replan::Lines => Some(Call::Lines { allowance: ALLOWANCE }),
+            Replan::Latest => Some(Call::Latest { feeder: 1 }),
+            Replan::Lines => Some(Call::Lines { feeder: 1, allowance: ALLOWANCE }),
         }
     }
 }
@@ -84,11 +84,11 @@ pub fn script(class: Class, number: u64, replan: Replan) -> Vec<Line> {
 /// call; the fast program finds these starts.
 fn script_of(class: Class, cars: &[Car], replan: Replan) -> Vec<Line> {
     let mut day = Day { clock: 0, lines: Vec::new() };
-    day.call(&Call::Open { limit: class.limit, percent: class.percent, tail: 0 });
+    day.call(&Call::Open { opening: Opening::of_one(class.limit, class.percent, 0) });
     for (place, car) in cars.iter().enumerate() {
         day.move_to(car.arrival);
         let Car { line, time, due, .. } = *car;
-        day.lines.push(open_commit(Order { line, time, due, rate: 1 }));
+        day.lines.push(open_commit(Order { feeder: 1, line, time, due, rate: 1 }));
         // The first look after this arrival; a next car that comes before it
         // is part of the same look.
         let look = (car.arrival / SUPERVISED + 1) * SUPERVISED;
@@ -141,19 +141,19 @@ mod tests {
         let lines = script_of(CLASS, &[car(0), car(1), car(2), car(7)], Replan::Latest);
         let text: Vec<String> = lines.iter().map(|line| show(line)).collect();
         let expected = [
-            "open 5 20 0",
-            "commit 1 10 20 1 0",
+            "open 1 720 5 20 0",
+            "commit 1 1 10 20 1 0",
             "move 1 360",
-            "commit 1 10 21 1 10",
+            "commit 1 1 10 21 1 10",
             "move 2 360",
-            "latest",
-            "commit 1 10 22 1 20",
+            "latest 1",
+            "commit 1 1 10 22 1 20",
             "move 4 360",
-            "latest",
+            "latest 1",
             "move 7 360",
-            "commit 1 10 27 1 30",
+            "commit 1 1 10 27 1 30",
             "move 8 360",
-            "latest",
+            "latest 1",
             "move 1000000 360",
         ];
         assert_eq!(text, expected);

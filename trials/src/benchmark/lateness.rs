@@ -99,7 +99,7 @@ mod tests {
     }
 
     const CALLS: &str =
-        "open 1 100 0\ncommit 1 10 60 1 0\ncommit 1 10 15 1 10\nlatest\nmove 100 360\n";
+        "open 1 720 1 100 0\ncommit 1 1 10 60 1 0\ncommit 1 1 10 15 1 10\nlatest 1\nmove 100 360\n";
 
     #[test]
     fn the_reported_start_counts_and_not_the_first_one() {
@@ -122,7 +122,7 @@ mod tests {
     #[test]
     fn tickets_begin_anew_with_each_day() {
         let calls =
-            "open 1 100 0\ncommit 1 10 10 1 3\nmove 9 360\nopen 1 100 0\ncommit 2 5 6 1 2\nmove 9 360\n";
+            "open 1 720 1 100 0\ncommit 1 1 10 10 1 3\nmove 9 360\nopen 1 720 1 100 0\ncommit 1 2 5 6 1 2\nmove 9 360\n";
         let first = "open 0 1\nticket 1 start 3\nmoved 1 dropped 0 1 3\n";
         let second = "open 0 1\nticket 1 start 2\nmoved 1 dropped 1 1 2\n";
         let lateness = of(calls, &format!("{first}{second}")).map(|worth| worth.lateness);
@@ -131,7 +131,9 @@ mod tests {
 
     #[test]
     fn a_refusal_or_an_unknown_ticket() {
-        assert!(of("open 1 100 0\ncommit 4 1 1 1 0\n", "open 0 1\nrefused 4\n").is_err());
-        assert!(of("open 1 100 0\nmove 5 360\n", "open 0 1\nmoved 1 dropped 0 1 0\n").is_err());
+        assert!(of("open 1 720 1 100 0\ncommit 1 4 1 1 1 0\n", "open 0 1\nrefused 4\n").is_err());
+        assert!(
+            of("open 1 720 1 100 0\nmove 5 360\n", "open 0 1\nmoved 1 dropped 0 1 0\n").is_err()
+        );
     }
 }

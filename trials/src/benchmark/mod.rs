@@ -32,12 +32,14 @@ pub fn run(program: &str, bus: Option<&str>, repeat: usize, days: u64) -> Result
     let begun = Instant::now();
     let pair = Pair::new(program, repeat)?;
     // A program that is not there, or does not speak the protocol, is told at once.
-    pair.answers(&[b"open 5 20 0".to_vec()])?;
+    pair.answers(&[b"open 1 720 5 20 0".to_vec()])?;
     print_method(&pair, repeat)?;
     println!("### Whole days\n");
     days::print(&pair)?;
     println!("### Single calls with 180 charges\n");
     single::print(&pair)?;
+    println!("### Sites of several feeders, 180 charges on each\n");
+    single::print_sites(&pair)?;
     println!("### Growth with the charges held\n");
     single::print_growth(&pair)?;
     if let Some(bus) = bus {

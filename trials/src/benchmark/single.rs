@@ -1,4 +1,5 @@
-//! Tables: single calls at 180 charges, and how their cost grows up to there.
+//! Tables: single calls at 180 charges, how their cost grows up to there, and with the feeders
+//! of a site.
 
 use super::calls::{self, Cost, Measured};
 use super::pair::Pair;
@@ -88,6 +89,21 @@ fn print_growing(calls: &[Growing], numbers: &[usize], pair: &Pair) -> Result<()
         println!("{title}:\n");
         table.print();
     }
+    Ok(())
+}
+
+/// Sites of several feeders (N14) beside one of one.
+const FEEDERS: [u32; 3] = [1, 2, 4];
+
+pub fn print_sites(pair: &Pair) -> Result<(), String> {
+    let mut table = Table::new(&["call", "program µs", "Rust µs", "ratio"]);
+    for feeders in FEEDERS {
+        let of = if feeders == 1 { "1 feeder".to_string() } else { format!("{feeders} feeders") };
+        for (title, measured) in calls::of_site(feeders) {
+            rows(&mut table, &format!("{of}, {title}"), &measured, pair)?;
+        }
+    }
+    table.print();
     Ok(())
 }
 

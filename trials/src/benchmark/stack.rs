@@ -19,8 +19,10 @@ fn script() -> Result<Vec<Line>, String> {
     lines.extend(day::script(day::classes()[12], 0, Replan::Lines));
     lines.extend(states::dense(180).0);
     lines.extend(states::queue(180));
-    lines.push(b"latest".to_vec());
-    for kind in ["spent", "full", "malformed", "edges", "leaning"] {
+    lines.push(b"latest 1".to_vec());
+    lines.extend(states::site(4, 180));
+    lines.extend([b"latest 4".to_vec(), b"lines 4 1000".to_vec()]);
+    for kind in ["spent", "full", "malformed", "edges", "leaning", "feeders"] {
         lines.extend(generate::script_of_kind(kind, 1, 0).ok_or("no such kind")?.lines);
     }
     Ok(lines)

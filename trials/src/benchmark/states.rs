@@ -6,11 +6,13 @@ use crate::generate::cars;
 use crate::protocol::{write_call, Call};
 use crate::random::Random;
 use crate::script::Line;
-use crate::yard::Order;
+use crate::yard::{Opening, Order, Settings};
 
 /// With this seed both replans of `peak` come to the last question of the common
 /// test at each number of cars measured; with most others some end before it.
 const SEED: u64 = 18;
+/// The same for `site`.
+const SEED_OF_SITES: u64 = 14;
 /// A due minute that no charge here misses.
 const LOOSE: u32 = 2_000_000;
 
@@ -20,7 +22,7 @@ fn line(call: &Call) -> Line {
 
 /// An order of rate 1 whose start is still open.
 fn order(on: u32, time: u32, due: u32) -> Line {
-    open_commit(Order { line: on, time, due, rate: 1 })
+    open_commit(Order { feeder: 1, line: on, time, due, rate: 1 })
 }
 
 /// The lines with the starts that the fast program would show.
@@ -32,9 +34,27 @@ fn filled(lines: Vec<Line>) -> Vec<Line> {
 /// once and all of them waiting.
 pub fn peak(held: usize) -> Vec<Line> {
     let cars = cars::of_day(&mut Random::new(SEED), 2, true, held as u64);
-    let mut lines = vec![line(&Call::Open { limit: 20, percent: 20, tail: 0 })];
+    let mut lines = vec![line(&Call::Open { opening: Opening::of_one(20, 20, 0) })];
     let orders = cars.iter().map(|car| order(car.line, car.time, car.due - car.arrival));
     lines.extend(orders);
+    filled(lines)
+}
+
+/// A site of so many feeders (N14), each with cars as those of `peak` or, on the last one, with
+/// the first of them. Every feeder may draw 60 and the site three quarters of that for each, so
+/// that they wait for each other. Orders go from feeder to feeder.
+pub fn site(feeders: u32, on_the_last: usize) -> Vec<Line> {
+    let cars = cars::of_day(&mut Random::new(SEED_OF_SITES), 2, true, 180);
+    let settings = vec![Settings { limit: 20, percent: 20, tail: 0 }; feeders as usize];
+    let opening = Opening { count: feeders, site_limit: 45 * feeders, feeders: settings };
+    let mut lines = vec![line(&Call::Open { opening })];
+    for (place, car) in cars.iter().enumerate() {
+        for feeder in (1..=feeders).filter(|feeder| *feeder < feeders || place < on_the_last) {
+            let (due, rate) = (car.due - car.arrival, 1);
+            let order = Order { feeder, line: car.line, time: car.time, due, rate };
+            lines.push(open_commit(order));
+        }
+    }
     filled(lines)
 }
 
@@ -42,7 +62,7 @@ pub fn peak(held: usize) -> Vec<Line> {
 /// their own lines or all on line 1.
 pub fn one_round(spread: bool) -> Vec<Line> {
     let cars = cars::of_day(&mut Random::new(SEED), 2, true, 180);
-    let mut lines = vec![line(&Call::Open { limit: 20, percent: 100, tail: 0 })];
+    let mut lines = vec![line(&Call::Open { opening: Opening::of_one(20, 100, 0) })];
     lines.extend(cars.iter().map(|car| {
         let on = if spread { car.line } else { 1 };
         order(on, car.time, car.due - car.arrival)
@@ -52,7 +72,7 @@ pub fn one_round(spread: bool) -> Vec<Line> {
 
 /// 180 charges of line 1 that differ in nothing but their tickets.
 pub fn all_equal() -> Vec<Line> {
-    let mut lines = vec![line(&Call::Open { limit: 20, percent: 100, tail: 0 })];
+    let mut lines = vec![line(&Call::Open { opening: Opening::of_one(20, 100, 0) })];
     lines.extend((0..180).map(|_| order(1, 60, 240)));
     filled(lines)
 }
@@ -61,7 +81,7 @@ pub fn all_equal() -> Vec<Line> {
 pub const PASSING: u32 = 1_000;
 
 pub fn opening() -> Line {
-    line(&Call::Open { limit: 20, percent: 40, tail: 0 })
+    line(&Call::Open { opening: Opening::of_one(20, 40, 0) })
 }
 
 /// Charges that last and leave a point of line 3 free from the clock on, with ends in
@@ -76,7 +96,7 @@ pub fn lasting(held: usize) -> Vec<Line> {
 }
 
 /// An order that finds a point of line 3 free at once, and takes it for a minute.
-const AT_ONCE: Order = Order { line: 3, time: 1, due: 1, rate: 1 };
+const AT_ONCE: Order = Order { feeder: 1, line: 3, time: 1, due: 1, rate: 1 };
 
 pub fn preview_at_once() -> Line {
     line(&Call::Preview { order: AT_ONCE })
@@ -89,7 +109,7 @@ pub fn commit_at_once() -> Line {
 /// Charges on one point of line 1, one behind the other, all but the first of which start
 /// behind the minute of `preview_at_once`.
 pub fn behind(held: usize) -> Vec<Line> {
-    let mut lines = vec![line(&Call::Open { limit: 1, percent: 100, tail: 0 })];
+    let mut lines = vec![line(&Call::Open { opening: Opening::of_one(1, 100, 0) })];
     lines.extend((0..held).map(|_| order(1, 10, LOOSE)));
     filled(lines)
 }
@@ -100,7 +120,7 @@ pub fn passing(orders: bool) -> Vec<Line> {
     let mut lines = Vec::new();
     for clock in 0..PASSING {
         if orders {
-            let order = Order { line: 3, time: 1, due: clock + 1, rate: 1 };
+            let order = Order { feeder: 1, line: 3, time: 1, due: clock + 1, rate: 1 };
             lines.push(line(&Call::Commit { order, shown: clock }));
         }
         lines.push(line(&Call::Move { target: clock + 1, places: 360 }));
@@ -116,7 +136,7 @@ const LONGEST: u32 = 1_440;
 /// order on it goes through all steps. Orders leave no such gaps; an offer does. The
 /// first ticket lies last, so that every load goes in before all others.
 pub fn dense(held: usize) -> (Vec<Line>, Line) {
-    let mut lines = vec![line(&Call::Open { limit: 1, percent: 100, tail: 0 })];
+    let mut lines = vec![line(&Call::Open { opening: Opening::of_one(1, 100, 0) })];
     let mut starts = vec![0, LONGEST];
     lines.extend([order(1, LONGEST, LOOSE), order(1, LONGEST, LOOSE)]);
     let short = held as u32 - 2;
@@ -126,13 +146,13 @@ pub fn dense(held: usize) -> (Vec<Line>, Line) {
         lines.push(order(2 + place % 2, 10, due));
         starts.push(1 + 16 * (short - 1 - place));
     }
-    let offer = line(&Call::Offer { starts });
+    let offer = line(&Call::Offer { feeder: 1, starts });
     lines.push(offer.clone());
     (filled(lines), offer)
 }
 
 /// An order that finds line 1 of `dense` full to its end.
-const BEHIND_DENSE: Order = Order { line: 1, time: 1, due: LOOSE, rate: 1 };
+const BEHIND_DENSE: Order = Order { feeder: 1, line: 1, time: 1, due: LOOSE, rate: 1 };
 
 /// Such orders, one after the other.
 pub fn behind_dense(count: u32) -> Vec<Line> {
@@ -152,7 +172,7 @@ pub fn preview_behind_dense() -> Line {
 /// All charges on one line with one point, ordered against latest-start order, so
 /// that each goes through all placed before it.
 pub fn queue(held: usize) -> Vec<Line> {
-    let mut lines = vec![line(&Call::Open { limit: 1, percent: 100, tail: 0 })];
+    let mut lines = vec![line(&Call::Open { opening: Opening::of_one(1, 100, 0) })];
     let due = |place: usize| 8 * (held - place) as u32;
     lines.extend((0..held).map(|place| order(1, 8, due(place))));
     filled(lines)
@@ -196,7 +216,9 @@ mod tests {
     #[test]
     fn changes_of_the_dense_plan_fall_in_minutes_of_their_own() {
         let (lines, offer) = dense(180);
-        let Ok(Some(Call::Offer { starts })) = read_call(&offer) else { panic!("no offer") };
+        let Ok(Some(Call::Offer { feeder: 1, starts })) = read_call(&offer) else {
+            panic!("no offer")
+        };
         let times = lines.iter().filter_map(|line| match read_call(line) {
             Ok(Some(Call::Commit { order, .. })) => Some(order.time),
             _ => None,
@@ -208,7 +230,7 @@ mod tests {
     #[test]
     fn a_queue_is_turned_around() {
         let mut lines = queue(180);
-        lines.push(b"latest".to_vec());
+        lines.push(b"latest 1".to_vec());
         let last = last_answer(&lines);
         assert!(last.starts_with("plan 0 ") && last.ends_with(" 0 0"), "{last}");
     }

@@ -7,7 +7,7 @@ use crate::yard::{Refusal, Yard};
 pub trait Images {
     type Yard: Yard;
 
-    /// The station of 1, 100 and r = 0.
+    /// The station of 1, 100 and r = 0, one feeder and W 720.
     fn fresh(&self) -> Self::Yard;
     fn restore(&self, image: &[u8]) -> Result<Self::Yard, Refusal>;
     /// Answers in how many blocks the image differs from the previous one.

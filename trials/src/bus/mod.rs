@@ -84,8 +84,18 @@ impl<I: Images, F: Files> Bus<I, F> {
     }
 
     /// "each of its calls restores, acts and saves"; "opening reads no image: 20 only";
-    /// "a refusal leaves the image as it is".
+    /// "a refusal leaves the image as it is". A site of several feeders is opened and cannot be
+    /// saved (N14): then 22 stands alone, after the opening's own refusals.
     fn try_call(&mut self, call: &Call, out: &mut Vec<u8>) -> Result<(), Refusal> {
+        let length = out.len();
+        let made = self.make_call(call, out);
+        if made.is_err() {
+            out.truncate(length);
+        }
+        made
+    }
+
+    fn make_call(&mut self, call: &Call, out: &mut Vec<u8>) -> Result<(), Refusal> {
         *self.interpreter.yard_mut() = match call {
             Call::Open { .. } => {
                 refuse_size(&self.image)?;

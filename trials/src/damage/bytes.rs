@@ -49,7 +49,7 @@ fn openings_over_checks() -> impl Iterator<Item = Trial> {
     checks.map(move |place| {
         let mut changed = image.clone();
         changed[place] ^= 64;
-        let calls = ["open 2 50 0", "open 2 50 0", "open 61 50 0"];
+        let calls = ["open 1 720 2 50 0", "open 1 720 2 50 0", "open 1 720 61 50 0"];
         Trial {
             title: format!("an opening over an image with byte {place} changed"),
             image: changed,

@@ -23,11 +23,13 @@ fn near(random: &mut Random, value: u64, edges: &[u64], most: u64) -> u64 {
 
 fn edit_settings(random: &mut Random, station: &mut Station) {
     let limit = u64::from(u32::MAX);
-    match random.below(5) {
-        0 => station.limit = near(random, station.limit, &[1, 2, 60], 1_000),
-        1 => station.percent = near(random, station.percent, &[0, 1, 50, 100], limit),
-        2 => station.tail = near(random, station.tail, &[0, 5], limit),
+    let feeder = &mut station.feeders[0];
+    match random.below(6) {
+        0 => feeder.limit = near(random, feeder.limit, &[1, 2, 60], 1_000),
+        1 => feeder.percent = near(random, feeder.percent, &[0, 1, 50, 100], limit),
+        2 => feeder.tail = near(random, feeder.tail, &[0, 5], limit),
         3 => station.clock = near(random, station.clock, &[0, 1_000_000], limit),
+        4 => station.site_limit = near(random, station.site_limit, &[0, 1, 5, 30, 720], limit),
         _ => {
             let next = u64::from(station.next_ticket);
             station.next_ticket = near(random, next, &[0, 1, 181, 65_536], limit) as u32;

@@ -6,7 +6,7 @@ use super::{Trial, CALLS};
 use crate::generate;
 use crate::image::{image_of, restore, rules};
 use crate::random::Random;
-use crate::reference::{last_clear, Charge, Station};
+use crate::reference::{last_clear, Charge, Feeder, Station};
 use crate::script::Line;
 
 /// The reference goes over all minutes up to the last end for orders and replans; where
@@ -42,12 +42,15 @@ fn settings(random: &mut Random) -> Station {
     let percent = (100 * bound + limit / 2) / limit;
     let tail = random.between(0, 5);
     let clock = random.pick(&[0, 1, 90, 5_000, 999_990, 1_000_000]);
-    Station { clock, ..Station::fresh(limit, percent.min(100), tail) }
+    let site_limit = random.pick(&[720, 720, 720, 720, 3 * limit, 2 * limit, limit]);
+    let station = Station::fresh(limit, percent.min(100), tail);
+    Station { clock, site_limit, ..station }
 }
 
 /// A charge that has begun some time ago, starts now, soon, or much later.
 fn charge(random: &mut Random, station: &Station, ticket: u32) -> Charge {
-    let Station { clock, tail, bound, .. } = *station;
+    let Station { clock, site_limit, .. } = *station;
+    let Feeder { tail, bound, .. } = station.feeders[0];
     let time = random.pick(&[1, 2, 10, 60, 400, 1_440]);
     let start = match random.below(5) {
         0 | 1 => clock.saturating_sub(random.below(time + tail)),
@@ -59,11 +62,12 @@ fn charge(random: &mut Random, station: &Station, ticket: u32) -> Charge {
     let order = if random.percent(20) { clock.min(start) } else { order };
     Charge {
         ticket,
+        feeder: 1,
         line: random.between(1, 3) as u32,
         order,
         time,
         due: random.pick(&[0, 1, clock + time, clock + 700, 2_000_000]).min(2_000_000),
-        rate: random.between(1, bound.min(2)) as u32,
+        rate: random.between(1, bound.min(site_limit).min(2)) as u32,
         start,
         tail,
     }
@@ -112,13 +116,13 @@ mod tests {
     fn stations_that_calls_do_not_give() {
         let mut random = Random::new(3);
         let (mut gaps, mut pasts, mut full) = (0, 0, 0);
-        for _ in 0..300 {
+        for _ in 0..400 {
             let station = station(&mut random);
             assert!(rules::broken(&station).is_empty(), "{station:?}");
             let tickets: Vec<u32> = station.charges.iter().map(|charge| charge.ticket).collect();
             gaps += usize::from(tickets.windows(2).any(|pair| pair[0] + 1 < pair[1]));
             let before = counts(&station.charges, station.clock.saturating_sub(1), 1)[0];
-            pasts += usize::from(station.clock > 0 && !station.rules().sound_in(&before));
+            pasts += usize::from(station.clock > 0 && !station.rules(1).sound_in(&before));
             full += usize::from(station.charges.len() > 20);
         }
         assert!(gaps > 100 && pasts > 20 && full > 20, "{gaps} {pasts} {full}");

@@ -120,36 +120,41 @@ fn found(trial: &Trial, what: String) -> Failure {
 
 /// Calls of every kind but openings.
 const CALLS: [&str; 9] = [
-    "preview 1 5 50 1",
-    "commit 1 5 50 1 100",
+    "preview 1 1 5 50 1",
+    "commit 1 1 5 50 1 100",
     "move 1000000 360",
-    "offer",
-    "latest",
-    "lines 5",
+    "offer 1",
+    "latest 1",
+    "lines 1 5",
     "enquire 3",
     "board 2 1 3",
     "withdraw 3",
 ];
 
 /// Calls that have a refusal of their own, which comes after 20 to 22.
-const REFUSED: [&str; 7] = [
-    "preview 4 0 50 9",
-    "commit 1 5 2000001 1 0",
+const REFUSED: [&str; 9] = [
+    "preview 1 4 0 50 9",
+    "commit 1 1 5 2000001 1 0",
     "move 1000001 0",
-    "offer 1 2 3",
-    "lines 0",
+    "offer 1 1 2 3",
+    "lines 1 0",
     "board 1 3 3",
     "withdraw 0",
+    "latest 2",
+    "lines 0 5",
 ];
 
-/// All of them, lines that are no calls, an opening that is refused, and a call after it; an opening in the end
-/// where `opened`.
+/// All of them, lines that are no calls, openings that are refused, for what is passed in and
+/// for feeders that no image holds (N14), and a call after each; an opening in the end where
+/// `opened`.
 fn all_calls(opened: bool) -> Vec<Line> {
     let mut calls: Vec<&str> = CALLS.to_vec();
     calls.extend(REFUSED);
-    calls.extend(["enquire", "x", "open 61 100 0", "latest"]);
+    calls.extend(["enquire", "x", "open 1 720 61 100 0", "latest 1"]);
+    calls.extend(["open 5 720 2 50 0", "open 2 0 2 50 0 61 50 0", "open 2 721 2 50 0 2 50 0"]);
+    calls.extend(["open 2 720 2 50 0 5 20 0", "latest 1", "preview 2 1 5 50 1"]);
     if opened {
-        calls.extend(["open 2 50 0", "commit 1 10 60 1 0"]);
+        calls.extend(["open 1 2 2 50 0", "commit 1 1 10 60 1 0"]);
     }
     calls.into_iter().map(|call| call.as_bytes().to_vec()).collect()
 }

@@ -39,26 +39,30 @@ fn fields() -> Vec<Sample> {
         Rule::Limit,
         wide,
         &[
-            ("N 0", |s| s.limit = 0),
-            ("N 61", |s| s.limit = 61),
-            ("N 256", |s| s.limit = 256),
-            ("N 2^32 - 1", |s| s.limit = 0xffff_ffff),
+            ("N 0", |s| s.feeders[0].limit = 0),
+            ("N 61", |s| s.feeders[0].limit = 61),
+            ("N 256", |s| s.feeders[0].limit = 256),
+            ("N 2^32 - 1", |s| s.feeders[0].limit = 0xffff_ffff),
         ],
     );
-    all.extend(broken(Rule::Limit, some, &[("N 61 with charges", |s| s.limit = 61)]));
+    all.extend(broken(Rule::Limit, some, &[("N 61 with charges", |s| s.feeders[0].limit = 61)]));
     all.extend(broken(
         Rule::Percent,
         some,
         &[
-            ("c 101", |s| s.percent = 101),
-            ("c 286", |s| s.percent = 256 + 30),
-            ("c 2^31", |s| s.percent = 1 << 31),
+            ("c 101", |s| s.feeders[0].percent = 101),
+            ("c 286", |s| s.feeders[0].percent = 256 + 30),
+            ("c 2^31", |s| s.feeders[0].percent = 1 << 31),
         ],
     ));
     all.extend(broken(
         Rule::Tail,
         some,
-        &[("r 6", |s| s.tail = 6), ("r 256", |s| s.tail = 256), ("r 2^31", |s| s.tail = 1 << 31)],
+        &[
+            ("r 6", |s| s.feeders[0].tail = 6),
+            ("r 256", |s| s.feeders[0].tail = 256),
+            ("r 2^31", |s| s.feeders[0].tail = 1 << 31),
+        ],
     ));
     all.extend(broken(Rule::Clock, wide, &[("clock 1,000,001", |s| s.clock = 1_000_001)]));
     all.extend(broken(Rule::Clock, late, &[("clock 1,000,001 with charges", |s| s.clock += 1)]));
@@ -67,6 +71,7 @@ fn fields() -> Vec<Sample> {
         some,
         &[("next 65,537", |s| s.next_ticket = 65_537), ("next 2^31", |s| s.next_ticket = 1 << 31)],
     ));
+    all.extend(site_limits());
     all.extend(broken(
         Rule::Held,
         || crowd(181),
@@ -75,6 +80,55 @@ fn fields() -> Vec<Sample> {
             ("190 held", |s| *s = crowd(190)),
             ("200 held", |s| *s = crowd(200)),
         ],
+    ));
+    all
+}
+
+/// "22 covers W out of range" (N14).
+fn site_limits() -> Vec<Sample> {
+    let mut all = broken(
+        Rule::SiteLimit,
+        wide,
+        &[
+            ("W 0", |s| s.site_limit = 0),
+            ("W 721", |s| s.site_limit = 721),
+            ("W 65,536 + 720", |s| s.site_limit = 65_536 + 720),
+            ("W 2^32 - 1", |s| s.site_limit = 0xffff_ffff),
+        ],
+    );
+    all.extend(broken(
+        Rule::SiteLimit,
+        some,
+        &[
+            ("W 0 with charges", |s| s.site_limit = 0),
+            ("W 721 with charges", |s| s.site_limit = 721),
+        ],
+    ));
+    all
+}
+
+/// "or exceeded" (N14): four draw at the clock, then two.
+fn sites() -> Vec<Sample> {
+    let mut all = broken(
+        Rule::SiteExceeded,
+        some,
+        &[
+            ("W exceeded in the clock's minute", |s| s.site_limit = 3),
+            ("W exceeded in a tail", |s| {
+                s.charges.remove(1);
+                (s.site_limit, s.charges[2].start) = (3, 116);
+            }),
+            ("W exceeded far off", |s| {
+                s.charges.remove(1);
+                s.charges.push(charge(8, 2, 2, 900, 50));
+                (s.site_limit, s.next_ticket) = (3, 9);
+            }),
+        ],
+    );
+    all.extend(broken(
+        Rule::SiteExceeded,
+        || crowd(180),
+        &[("W 179 with 180 at once", |s| s.site_limit = 179)],
     ));
     all
 }
@@ -136,9 +190,9 @@ fn charges() -> Vec<Sample> {
         Rule::Bound,
         wide,
         &[
-            ("refusal 3, 5 and 10", |s| (s.limit, s.percent) = (5, 10)),
-            ("refusal 3, 1 and 50", |s| (s.limit, s.percent) = (1, 50)),
-            ("refusal 3, 60 and 0", |s| (s.limit, s.percent) = (60, 0)),
+            ("refusal 3, 5 and 10", |s| (s.feeders[0].limit, s.feeders[0].percent) = (5, 10)),
+            ("refusal 3, 1 and 50", |s| (s.feeders[0].limit, s.feeders[0].percent) = (1, 50)),
+            ("refusal 3, 60 and 0", |s| (s.feeders[0].limit, s.feeders[0].percent) = (60, 0)),
         ],
     ));
     all.extend(broken(Rule::RateAbove, lean, &[("refusal 18", |s| s.charges[0].rate = 2)]));
@@ -222,7 +276,7 @@ fn plans() -> Vec<Sample> {
         leaning,
         &[
             ("limit, all lines alike", |s| {
-                (s.percent, s.next_ticket) = (100, 10);
+                (s.feeders[0].percent, s.next_ticket) = (100, 10);
                 s.charges =
                     (0..9).map(|place| charge(place + 1, place / 3 + 1, 1, 100, 9)).collect();
             }),
@@ -231,7 +285,7 @@ fn plans() -> Vec<Sample> {
             ("balance after an end", |s| s.charges[2].time = 9),
             ("balance before a start", |s| s.charges[2] = charge(3, 2, 1, 102, 8)),
             ("limit in a tail", |s| {
-                (s.tail, s.next_ticket, s.charges[0].time) = (2, 6, 6);
+                (s.feeders[0].tail, s.next_ticket, s.charges[0].time) = (2, 6, 6);
                 s.charges.push(charge(5, 1, 1, 101, 9));
             }),
             ("balance far off", |s| {
@@ -265,9 +319,14 @@ fn edges() -> Vec<Sample> {
             ("ticket 1", |s| s.charges[0].ticket = 1),
             ("d 2,000,000 and 0", |s| (s.charges[0].due, s.charges[1].due) = (2_000_000, 0)),
             ("p 1", |s| s.charges[2].time = 1),
-            ("r 5", |s| s.tail = 5),
-            ("N 60", |s| s.limit = 60),
-            ("c 100", |s| s.percent = 100),
+            ("r 5", |s| s.feeders[0].tail = 5),
+            ("N 60", |s| s.feeders[0].limit = 60),
+            ("c 100", |s| s.feeders[0].percent = 100),
+            ("W 4", |s| s.site_limit = 4),
+            ("W up to a tail", |s| {
+                s.charges.remove(1);
+                (s.site_limit, s.charges[2].start) = (3, 117);
+            }),
             ("unfinished by a minute", |s| s.charges[0].start = 79),
             ("start at its order minute", |s| s.charges[0].order = 95),
             ("order minute at the clock", |s| s.charges[3].order = 100),
@@ -277,6 +336,8 @@ fn edges() -> Vec<Sample> {
     all.extend(samples(None, alone, &[("the last end that there may be", |_| ())]));
     all.extend(samples(None, late, &[("clock 1,000,000", |_| ())]));
     all.extend(samples(None, || crowd(180), &[("180 held", |_| ())]));
+    all.extend(samples(None, || crowd(180), &[("W 180", |s| s.site_limit = 180)]));
+    all.extend(samples(None, wide, &[("W 1", |s| s.site_limit = 1)]));
     all.extend(samples(None, past, &[("a past that was not in balance", |_| ())]));
     all.extend(samples(None, lean, &[("D 1", |_| ())]));
     let without_a_tail: Change = |s| {
@@ -295,10 +356,11 @@ fn past() -> Station {
 }
 
 pub fn samples_of_rules() -> Vec<Sample> {
-    [fields(), charges(), tickets(), minutes(), plans(), edges()].into_iter().flatten().collect()
+    let samples = [fields(), charges(), tickets(), minutes(), plans(), sites(), edges()];
+    samples.into_iter().flatten().collect()
 }
 
-/// Numbers held that are not the number of records used.
+/// Numbers held that are not the number of records used, and what breaks two rules at once.
 fn held() -> Vec<Trial> {
     let numbers = [0u32, 3, 5, 181, 201, 256 + 4, 65_536 + 4, 1 << 31, u32::MAX];
     let trial = |number: u32| {
@@ -311,6 +373,9 @@ fn held() -> Vec<Trial> {
     let next = |contents: &mut Vec<Vec<u8>>| contents[0][16..20].fill(0);
     let image = resealed(contents_of(&wide()), next);
     all.push(Trial { title: "next 0".to_string(), image, calls: all_calls(false) });
+    // A rate above W exceeds it too.
+    let image = image_of(&settled(Station { site_limit: 1, ..some() }));
+    all.push(Trial { title: "a rate above W".to_string(), image, calls: all_calls(false) });
     all
 }
 
@@ -338,7 +403,7 @@ mod tests {
             assert_eq!(broken, sample.broken.into_iter().collect(), "{}", sample.title);
             seen.extend(sample.broken);
         }
-        assert_eq!(seen.len(), Rule::Unsound as usize + 1);
+        assert_eq!(seen.len(), Rule::SiteExceeded as usize + 1);
     }
 
     #[test]

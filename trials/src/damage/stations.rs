@@ -3,20 +3,20 @@
 use crate::generate;
 use crate::image::blocks::{sealed, Contents};
 use crate::interpret::Interpreter;
-use crate::reference::{bound, Charge, Station};
+use crate::reference::{bound, Charge, Feeder, Station};
 
 /// What an image does not hold, as it follows from the rest: the bound, and the tail that
 /// each charge has from its station.
 pub fn settled(mut station: Station) -> Station {
-    let tail = station.tail;
+    let Feeder { limit, percent, tail, .. } = station.feeders[0];
     station.charges.iter_mut().for_each(|charge| charge.tail = tail);
-    let bounded = station.limit <= 1_000;
-    station.bound = if bounded { bound(station.limit, station.percent) } else { 0 };
+    station.feeders[0].bound = if limit <= 1_000 { bound(limit, percent) } else { 0 };
     station
 }
 
 pub fn charge(ticket: u32, line: u32, rate: u32, start: u64, time: u64) -> Charge {
-    Charge { ticket, line, order: start.min(70), time, due: 200, rate, start, tail: 0 }
+    let (feeder, order, due, tail) = (1, start.min(70), 200, 0);
+    Charge { ticket, feeder, line, order, time, due, rate, start, tail }
 }
 
 /// Clock 100, D 3 and r 2; two have begun, one may begin now, one is far off.

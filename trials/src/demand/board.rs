@@ -22,9 +22,9 @@ impl Trace {
     }
 
     fn shown(&mut self, ticket: u32, start: u64) -> Checked {
-        let (clock, tail) = (self.clock, self.tail);
+        let clock = self.clock;
         let wrong = || format!("the board shows {start} for ticket {ticket}");
-        let held = self.order(u64::from(ticket)).filter(|order| order.held(clock, tail));
+        let held = self.order(u64::from(ticket)).filter(|order| order.held(clock));
         let Some(order) = held else { return ensure(start == u64::from(NOT_HELD), wrong) };
         match order.start() {
             Some(known) => ensure(start == known, wrong),
@@ -41,6 +41,6 @@ impl Trace {
     fn held_up_to(&self, highest: Option<&u32>) -> u64 {
         let most = highest.map_or(0, |ticket| *ticket as usize);
         let orders = self.orders.iter().take(most);
-        orders.filter(|order| order.held(self.clock, self.tail)).count() as u64
+        orders.filter(|order| order.held(self.clock)).count() as u64
     }
 }

@@ -1,8 +1,11 @@
 //! Save and restore (N8, N9) for speed: the bytes go straight between the image and the
-//! station, each once, and the plan is sound if its profile is.
+//! station, each once, and the plan is sound if its profile is. An image is that of a site of
+//! one feeder (N14).
 
 use super::profile::Rules;
-use super::station::{bound, Charge, Station, LAST_CLOCK, LAST_TICKET, PLACES};
+use super::station::{
+    bound, Charge, Feeder, Station, LAST_CLOCK, LAST_TICKET, PLACES, WIDEST_SITE,
+};
 use crate::bus::images::Images;
 use crate::image::blocks::differing;
 use crate::image::{refuse_size, CHECK, CONTENTS};
@@ -12,7 +15,7 @@ const BLOCK: usize = 512;
 const CONTENT: usize = 508;
 const RECORD: usize = 20;
 const RECORDS: usize = 200;
-const HEADER: usize = 24;
+const HEADER: usize = 28;
 
 /// The fast program's images.
 #[derive(Clone, Copy)]
@@ -37,7 +40,8 @@ impl Images for Fast {
     fn save(&self, yard: &Station, previous: &[u8], image: &mut [u8]) -> Result<u32, Refusal> {
         refuse_size(previous)?;
         refuse_size(image)?;
-        write(yard, image);
+        let [feeder] = yard.feeders.as_slice() else { return Err(CONTENTS) };
+        write(yard, feeder, image);
         Ok(differing(previous, image))
     }
 }
@@ -78,36 +82,40 @@ fn spare_is_zero(image: &[u8]) -> bool {
 }
 
 fn station_in(image: &[u8]) -> Option<Station> {
-    let mut header = [0; 6];
+    let mut header = [0; 7];
     header.iter_mut().enumerate().for_each(|(place, value)| *value = number(image, 4 * place));
-    let [limit, percent, tail, clock, next_ticket, held] = header;
+    let [limit, percent, tail, clock, next_ticket, held, site] = header;
     let held = held as usize;
     let ranged = (1..=60).contains(&limit)
         && percent <= 100
         && tail <= 5
         && clock <= LAST_CLOCK
         && (1..=LAST_TICKET + 1).contains(&next_ticket)
-        && held <= PLACES;
+        && held <= PLACES
+        && (1..=WIDEST_SITE).contains(&site);
     if !ranged || bound(limit, percent) == 0 || !spare_is_zero(image) {
         return None;
     }
-    let mut station = Station { clock, next_ticket, ..Station::fresh(limit, percent, tail) };
+    let mut feeder = Feeder::new(limit, percent, tail, site);
     let mut ticket = 0;
     for place in 0..held {
-        let charge = charge(&record(image, place), &station)?;
+        let charge = charge(&record(image, place), &feeder, clock, next_ticket)?;
         if charge.ticket <= ticket {
             return None;
         }
         ticket = charge.ticket;
-        station.charges.push(charge);
+        feeder.charges.push(charge);
     }
     let unused = (held..RECORDS).all(|place| record(image, place) == [0; RECORD]);
-    let sound = station.profile(station.charges.iter()).is_sound(station.rules);
+    let rules = feeder.rules;
+    let station = Station { clock, next_ticket, feeders: vec![feeder] };
+    let profile = station.profile(0, station.feeders[0].charges.iter());
+    let sound = profile.is_sound(rules) && profile.within_site(rules);
     (ticket < next_ticket && unused && sound).then_some(station)
 }
 
-fn charge(record: &[u8; RECORD], station: &Station) -> Option<Charge> {
-    let Station { rules: Rules { limit, bound, .. }, clock, tail, next_ticket, .. } = *station;
+fn charge(record: &[u8; RECORD], feeder: &Feeder, clock: u32, next_ticket: u32) -> Option<Charge> {
+    let Feeder { rules: Rules { limit, bound, site }, tail, .. } = *feeder;
     let [ticket, start, due, order] = [0, 4, 8, 12].map(|at| number(record, at));
     let time = u32::from(u16::from_le_bytes([record[16], record[17]]));
     let (line, rate) = (record[18], u16::from(record[19]));
@@ -117,7 +125,7 @@ fn charge(record: &[u8; RECORD], station: &Station) -> Option<Charge> {
         && due <= 2_000_000
         && (1..=3).contains(&line)
         && (1..=2).contains(&rate)
-        && rate <= limit.min(bound)
+        && rate <= limit.min(bound).min(site)
         && end <= ceiling
         && end + u64::from(tail) > u64::from(clock)
         && order <= start
@@ -125,11 +133,12 @@ fn charge(record: &[u8; RECORD], station: &Station) -> Option<Charge> {
     right.then_some(Charge { ticket, line: line as usize - 1, order, time, due, rate, start })
 }
 
-fn write(station: &Station, image: &mut [u8]) {
+fn write(station: &Station, feeder: &Feeder, image: &mut [u8]) {
     image.fill(0);
-    let Station { rules, percent, tail, clock, next_ticket, charges } = station;
-    let held = charges.len() as u32;
-    let header = [u32::from(rules.limit), *percent, *tail, *clock, *next_ticket, held];
+    let Station { clock, next_ticket, .. } = station;
+    let Feeder { rules: Rules { limit, site, .. }, percent, tail, charges } = feeder;
+    let (limit, held, site) = (u32::from(*limit), charges.len() as u32, u32::from(*site));
+    let header = [limit, *percent, *tail, *clock, *next_ticket, held, site];
     for (bytes, value) in image.chunks_exact_mut(4).zip(header) {
         bytes.copy_from_slice(&value.to_le_bytes());
     }

@@ -1,15 +1,22 @@
 //! "The **count** of a line in a minute": change minutes in rising order with the
-//! three counts from there on, in which a charge of rate 2 counts as two; offers bring
-//! them up to 360. 180 charges make at most 361 steps, since every change is a start or
+//! three counts of a feeder's lines from there on, and as the fourth the count of the whole
+//! site (N14). A charge of rate 2 counts as two; offers bring a line up to 360, and the site
+//! up to 1,440. 180 charges make at most 361 steps, since every change is a start or
 //! an end, and the first step begins at the clock. The last step has no end and counts
 //! nothing.
 
-/// Steps of 180 charges.
+/// Room for the steps of 180 charges; those of further feeders make it grow.
 const STEPS: usize = 361;
 /// Every minute is below it.
 pub const NEVER: u32 = u32::MAX;
+/// The place of the site's count, and the line of a load of another feeder.
+pub const SITE: usize = 3;
 
-/// What a charge draws: line (from 0), rate, first minute, minute after the last.
+/// The counts of lines 1 to 3 of the feeder, and of the site.
+pub type Counts = [u16; 4];
+
+/// What a charge draws: line (from 0, or that of another feeder), rate, first minute, minute
+/// after the last.
 #[derive(Clone, Copy)]
 pub struct Load {
     pub line: usize,
@@ -35,42 +42,64 @@ pub struct Tested {
     pub step: usize,
 }
 
-/// The limit N and the bound D.
+/// The limit N and the bound D of a feeder, and the site limit W.
 #[derive(Clone, Copy)]
 pub struct Rules {
     pub limit: u16,
     pub bound: u16,
+    pub site: u16,
 }
 
 impl Rules {
-    fn balanced(self, counts: [u16; 3]) -> bool {
-        let [a, b, c] = counts;
+    fn balanced(self, counts: Counts) -> bool {
+        let [a, b, c, _] = counts;
         a.max(b).max(c) - a.min(b).min(c) <= self.bound
     }
 
-    fn within_limit(self, counts: [u16; 3]) -> bool {
-        counts.iter().all(|count| *count <= self.limit)
+    fn within_limit(self, counts: Counts) -> bool {
+        let [a, b, c, _] = counts;
+        a.max(b).max(c) <= self.limit
     }
 
-    fn sound(self, counts: [u16; 3]) -> bool {
+    /// Whether the feeder is sound.
+    fn sound(self, counts: Counts) -> bool {
         self.within_limit(counts) && self.balanced(counts)
+    }
+
+    fn within_site(self, counts: Counts) -> bool {
+        counts[SITE] <= self.site
+    }
+
+    /// Whether the feeder is sound and the site within its limit, with one more load.
+    fn fits(self, mut counts: Counts, line: usize, rate: u16) -> bool {
+        counts[line] += rate;
+        counts[SITE] += rate;
+        self.within_site(counts) && self.sound(counts)
     }
 }
 
-/// Step k lasts from `from[k]` to the next one.
-#[derive(Clone)]
+/// A step lasts from its first minute to that of the next one.
+#[derive(Clone, Copy)]
+struct Step {
+    from: u32,
+    counts: Counts,
+}
+
 pub struct Profile {
-    steps: usize,
-    from: [u32; STEPS],
-    counts: [[u16; 3]; STEPS],
+    steps: Vec<Step>,
 }
 
 impl Profile {
     /// Nothing draws from the clock on.
     pub fn empty(clock: u32) -> Profile {
-        let mut from = [0; STEPS];
-        from[0] = clock;
-        Profile { steps: 1, from, counts: [[0; 3]; STEPS] }
+        let mut steps = Vec::with_capacity(STEPS);
+        steps.push(Step { from: clock, counts: [0; 4] });
+        Profile { steps }
+    }
+
+    /// Takes the steps of another one, in the room that it has.
+    pub fn copy_from(&mut self, other: &Profile) {
+        self.steps.clone_from(&other.steps);
     }
 
     /// Load after load, all unfinished, as the proved program makes it.
@@ -83,49 +112,47 @@ impl Profile {
     }
 
     pub fn until(&self, step: usize) -> u32 {
-        if step + 1 < self.steps {
-            self.from[step + 1]
-        } else {
-            NEVER
-        }
+        self.steps.get(step + 1).map_or(NEVER, |next| next.from)
     }
 
     /// The step that a minute lies in.
     pub fn step_of(&self, minute: u32) -> usize {
-        self.from[..self.steps].partition_point(|from| *from <= minute) - 1
+        self.steps.partition_point(|step| step.from <= minute) - 1
     }
 
     /// Adds a load: at most two steps are split, those between are raised.
     pub fn add(&mut self, load: Load) {
         let first = self.split_at(load.from);
         let after = self.split_at(load.until);
-        for counts in &mut self.counts[first..after] {
-            counts[load.line] += load.rate;
+        let mut more = [0; 4];
+        (more[load.line], more[SITE]) = (load.rate, load.rate);
+        for step in &mut self.steps[first..after] {
+            for (count, more) in step.counts.iter_mut().zip(more) {
+                *count += more;
+            }
         }
     }
 
     /// The step that begins at the minute, made if there is none.
     fn split_at(&mut self, minute: u32) -> usize {
         let step = self.step_of(minute);
-        if self.from[step] == minute {
+        let Step { from, counts } = self.steps[step];
+        if from == minute {
             return step;
         }
-        self.from.copy_within(step + 1..self.steps, step + 2);
-        self.counts.copy_within(step..self.steps, step + 1);
-        self.from[step + 1] = minute;
-        self.steps += 1;
+        self.steps.insert(step + 1, Step { from: minute, counts });
         step + 1
     }
 
     /// The first start from `least` on with `time` minutes in a row that have
     /// room. `room` answers, for a step's counts, the minute before which it has
     /// room. After a failing minute the next candidate is the end of that step.
-    pub fn first_run(&self, least: u32, time: u32, room: impl Fn([u16; 3]) -> u32) -> u32 {
+    pub fn first_run(&self, least: u32, time: u32, room: impl Fn(Counts) -> u32) -> u32 {
         let mut start = least;
         let mut step = self.step_of(least);
         loop {
             let until = self.until(step);
-            let room_until = room(self.counts[step]).min(until);
+            let room_until = room(self.steps[step].counts).min(until);
             if room_until > start && room_until - start >= time {
                 return start;
             }
@@ -142,9 +169,7 @@ impl Profile {
     pub fn test(&self, mut step: usize, start: u32, wanted: Wanted, rules: Rules) -> Tested {
         let mut minute = start;
         loop {
-            let mut counts = self.counts[step];
-            counts[wanted.line] += wanted.rate;
-            if !rules.sound(counts) {
+            if !rules.fits(self.steps[step].counts, wanted.line, wanted.rate) {
                 return Tested { fits: false, looked: minute - start + 1, step };
             }
             minute = self.until(step);
@@ -155,52 +180,57 @@ impl Profile {
         }
     }
 
-    /// How many minutes in a row have room from `start` on, up to `most`.
-    pub fn run_from(&self, start: u32, most: u32, room: impl Fn([u16; 3]) -> u32) -> u32 {
+    /// How many minutes in a row have room from `start` on, up to `most`. Other feeders may
+    /// fill the site in a step behind, which then has no room at all.
+    pub fn run_from(&self, start: u32, most: u32, room: impl Fn(Counts) -> u32) -> u32 {
         let mut step = self.step_of(start);
+        let mut reached = start;
         loop {
             let until = self.until(step);
-            let room_until = room(self.counts[step]).min(until);
+            let room_until = room(self.steps[step].counts).min(until);
             if room_until < until || room_until - start >= most {
-                return room_until.saturating_sub(start).min(most);
+                return (room_until.max(reached) - start).min(most);
             }
+            reached = until;
             step += 1;
         }
     }
 
     /// The smallest start from `least` on at which one more load of the line and the
-    /// rate leaves its own minutes sound.
+    /// rate leaves its own minutes sound and the site within its limit.
     pub fn earliest(&self, line: usize, rate: u16, time: u32, least: u32, rules: Rules) -> u32 {
-        self.first_run(least, time, |mut counts| {
-            counts[line] += rate;
-            if rules.sound(counts) {
-                NEVER
-            } else {
-                0
-            }
+        self.first_run(least, time, |counts| match rules.fits(counts, line, rate) {
+            true => NEVER,
+            false => 0,
         })
     }
 
     pub fn is_sound(&self, rules: Rules) -> bool {
-        self.counts[..self.steps].iter().all(|counts| rules.sound(*counts))
+        self.steps.iter().all(|step| rules.sound(step.counts))
     }
 
-    pub fn within_limit(&self, rules: Rules) -> bool {
-        self.counts[..self.steps].iter().all(|counts| rules.within_limit(*counts))
+    pub fn within_site(&self, rules: Rules) -> bool {
+        self.steps.iter().all(|step| rules.within_site(step.counts))
+    }
+
+    /// Each line of the feeder within its limit, and the site within its own.
+    pub fn within_limits(&self, rules: Rules) -> bool {
+        let within =
+            |step: &Step| rules.within_limit(step.counts) && rules.within_site(step.counts);
+        self.steps.iter().all(within)
     }
 
     /// The first minute in which two counts differ by more than D, with the counts.
-    pub fn first_unbalanced(&self, rules: Rules) -> Option<(u32, [u16; 3])> {
-        let steps = &self.counts[..self.steps];
-        let step = steps.iter().position(|counts| !rules.balanced(*counts))?;
-        Some((self.from[step], self.counts[step]))
+    pub fn first_unbalanced(&self, rules: Rules) -> Option<(u32, Counts)> {
+        let step = self.steps.iter().find(|step| !rules.balanced(step.counts))?;
+        Some((step.from, step.counts))
     }
 
-    /// The first unsound minute and the one after the last.
+    /// The first minute in which the feeder is unsound, and the one after the last.
     pub fn unsound_span(&self, rules: Rules) -> Option<(u32, u32)> {
-        let unsound = |step: &usize| !rules.sound(self.counts[*step]);
-        let first = (0..self.steps).find(unsound)?;
-        let last = (0..self.steps).rfind(unsound)?;
-        Some((self.from[first], self.until(last)))
+        let unsound = |step: &usize| !rules.sound(self.steps[*step].counts);
+        let first = (0..self.steps.len()).find(unsound)?;
+        let last = (0..self.steps.len()).rfind(unsound)?;
+        Some((self.steps[first].from, self.until(last)))
     }
 }

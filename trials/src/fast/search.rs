@@ -3,7 +3,8 @@
 //! to the profile only as far as the search looks: those that start in a window from the
 //! clock on, which is as long as the charge at first and reaches more than twice as far
 //! whenever the search has come to its end. The windows are those of the proved program
-//! (`earliest_start` in `crates/orders/src/start.rt`).
+//! (`earliest_start` in `crates/orders/src/start.rt`). Loads of other feeders count for the
+//! site alone (N14) and come in the same windows.
 
 use super::profile::{Load, Profile, Rules, Wanted};
 use super::station::Station;
@@ -11,12 +12,15 @@ use super::station::Station;
 /// So many minutes more than twice as far as the last one a window reaches.
 const WIDER: u32 = 240;
 
-/// Adds the loads of the charges with a start from `low` up to `high`.
-fn add_started(profile: &mut Profile, station: &Station, low: u32, high: u32) {
-    for charge in &station.charges {
-        if low <= charge.start && charge.start < high {
-            let load = charge.load(station.tail);
-            profile.add(Load { from: load.from.max(station.clock), ..load });
+/// Adds the loads, as the feeder in this place sees them, of the charges with a start from
+/// `low` up to `high`.
+fn add_started(profile: &mut Profile, station: &Station, place: usize, low: u32, high: u32) {
+    for (other, feeder) in station.feeders.iter().enumerate() {
+        for charge in &feeder.charges {
+            if low <= charge.start && charge.start < high {
+                let load = charge.load(feeder.tail).seen_from(place == other);
+                profile.add(Load { from: load.from.max(station.clock), ..load });
+            }
         }
     }
 }
@@ -42,14 +46,15 @@ fn first_fitting(
     start
 }
 
-/// The smallest start, not below the clock, with which the held charges, which are sound,
-/// and this one are sound together. The time wanted has the tail in it.
-pub fn earliest(station: &Station, wanted: Wanted) -> u32 {
-    let Station { clock, rules, .. } = *station;
+/// The smallest start, not below the clock, with which the feeder's held charges, which are
+/// sound, and this one are sound together and the site is within its limit. The time wanted has
+/// the tail in it.
+pub fn earliest(station: &Station, place: usize, wanted: Wanted) -> u32 {
+    let (clock, rules) = (station.clock, station.feeders[place].rules);
     let mut profile = Profile::empty(clock);
     let (mut start, mut low, mut until) = (clock, 0, clock + wanted.time);
     loop {
-        add_started(&mut profile, station, low, until);
+        add_started(&mut profile, station, place, low, until);
         start = first_fitting(&profile, wanted, rules, start, until);
         if start + wanted.time <= until {
             return start;
@@ -63,12 +68,12 @@ pub fn earliest(station: &Station, wanted: Wanted) -> u32 {
 mod tests {
     use super::*;
     use crate::fast::profile::Tested;
-    use crate::fast::station::Charge;
+    use crate::fast::station::{Charge, Feeder};
     use crate::random::Random;
     use crate::reference::{self, minutes};
 
     const CLOCK: u32 = 100;
-    const RULES: Rules = Rules { limit: 3, bound: 2 };
+    const RULES: Rules = Rules { limit: 3, bound: 2, site: 9 };
     const TAIL: u32 = 4;
 
     fn charges(random: &mut Random, count: u64) -> Vec<Charge> {
@@ -84,32 +89,42 @@ mod tests {
         (0..count).map(charge).collect()
     }
 
-    fn slow(charge: &Charge) -> reference::Charge {
+    fn slow(charge: &Charge, feeder: u32) -> reference::Charge {
         let Charge { ticket, line, time, due, rate, start, .. } = *charge;
-        let (line, rate) = (line as u32 + 1, rate.into());
+        let (line, rate, tail) = (line as u32 + 1, rate.into(), TAIL.into());
         let (time, due, start) = (time.into(), due.into(), start.into());
-        reference::Charge { ticket, line, order: 0, time, due, rate, start, tail: TAIL.into() }
+        reference::Charge { ticket, feeder, line, order: 0, time, due, rate, start, tail }
     }
 
-    /// Number and verdict are those of the reference, for any plan and candidate.
+    /// Number and verdict are those of the reference, for any plan and candidate, and with
+    /// charges of another feeder beside it.
     #[test]
     fn minutes_looked_at() {
         let mut random = Random::new(5);
         for _ in 0..300 {
-            let count = random.below(9);
-            let plan = charges(&mut random, count);
-            let profile = Profile::of(plan.iter().map(|charge| charge.load(TAIL)), CLOCK);
+            let (count, beside) = (random.below(9), random.below(6));
+            let (plan, others) = (charges(&mut random, count), charges(&mut random, beside));
+            let seen = |plan: &[Charge], own| {
+                let load = |charge: &Charge| charge.load(TAIL).seen_from(own);
+                plan.iter().map(load).collect::<Vec<Load>>()
+            };
+            let loads = [seen(&plan, true), seen(&others, false)].concat();
+            let profile = Profile::of(loads.into_iter(), CLOCK);
             let candidate = charges(&mut random, 1)[0];
             let Charge { line, rate, time, .. } = candidate;
             let time = time + TAIL;
+            let site = random.between(2, 12);
+            let rules = Rules { site: site as u16, ..RULES };
+            let own = plan.iter().map(|charge| slow(charge, 1));
+            let slow_plan: Vec<_> =
+                own.chain(others.iter().map(|charge| slow(charge, 2))).collect();
             for start in CLOCK..CLOCK + 260 {
-                let rules = minutes::Rules { limit: 3, bound: 2 };
-                let slow_plan: Vec<_> = plan.iter().map(slow).collect();
-                let candidate = slow(&candidate).starting_at(start.into());
-                let expected = reference::search::test(&slow_plan, &candidate, rules);
+                let slow_rules = minutes::Rules { limit: 3, bound: 2, site };
+                let candidate = slow(&candidate, 1).starting_at(start.into());
+                let expected = reference::search::test(&slow_plan, &candidate, slow_rules);
                 let step = profile.step_of(start);
                 let Tested { fits, looked, .. } =
-                    profile.test(step, start, Wanted { line, rate, time }, RULES);
+                    profile.test(step, start, Wanted { line, rate, time }, rules);
                 assert_eq!((fits, u64::from(looked)), (expected.fits, expected.looked));
                 assert!(1 <= looked && looked <= time);
             }
@@ -122,15 +137,21 @@ mod tests {
     fn windows_leave_nothing_out() {
         let mut random = Random::new(6);
         for _ in 0..2_000 {
-            let count = random.below(12);
-            let plan = charges(&mut random, count);
             let mut station = Station::fresh(1, 100, TAIL);
-            (station.rules, station.clock, station.charges) = (RULES, CLOCK, plan);
-            let profile = station.profile(station.charges.iter());
+            let others = random.below(4) as usize;
+            station.clock = CLOCK;
+            station.feeders.extend((0..others).map(|_| Feeder::new(1, 100, TAIL, 9)));
+            let rules = Rules { site: random.between(3, 20) as u16, ..RULES };
+            for feeder in &mut station.feeders {
+                let count = random.below(12);
+                (feeder.rules, feeder.charges) = (rules, charges(&mut random, count));
+            }
+            let place = random.below(others as u64 + 1) as usize;
+            let profile = station.profile(place, station.feeders[place].charges.iter());
             let time = random.pick(&[1, 2, 7, 30, 200]);
             let (line, rate) = (random.below(3) as usize, random.between(1, 2) as u16);
-            let expected = profile.earliest(line, rate, time, CLOCK, RULES);
-            assert_eq!(earliest(&station, Wanted { line, rate, time }), expected);
+            let expected = profile.earliest(line, rate, time, CLOCK, rules);
+            assert_eq!(earliest(&station, place, Wanted { line, rate, time }), expected);
         }
     }
 }

@@ -8,11 +8,11 @@
 use crate::interpret::Interpreter;
 use crate::protocol::{read_call, write_call, Call};
 use crate::random::Random;
-use crate::reference::Station;
+use crate::reference::{Charge, Feeder, Station};
 use crate::script::{Line, Script};
-use crate::yard::Order;
+use crate::yard::{Opening, Order};
 
-/// Enough places for every move that is meant to succeed.
+/// Enough places, for each feeder, for every move that is meant to succeed.
 pub const PLACES: u32 = 360;
 /// Up to so many orders every ticket is asked for; past it only the held ones
 /// and some others.
@@ -20,6 +20,8 @@ const ALL_TICKETS: u32 = 400;
 
 pub struct Author {
     pub random: Random,
+    /// The feeder that the next orders, offers and replans name; there is one.
+    pub feeder: u32,
     interpreter: Interpreter<Station>,
     script: Script,
 }
@@ -27,13 +29,14 @@ pub struct Author {
 impl Author {
     pub fn new(kind: &'static str, number: u64, random: Random) -> Author {
         let interpreter = Interpreter::new(Station::fresh(1, 100, 0));
-        Author { random, interpreter, script: Script { kind, number, ..Script::default() } }
+        let script = Script { kind, number, ..Script::default() };
+        Author { random, feeder: 1, interpreter, script }
     }
 
     /// With this station in the place of the first.
     pub fn from_station(station: Station, random: Random) -> Author {
         let interpreter = Interpreter::new(station);
-        Author { random, interpreter, script: Script::default() }
+        Author { random, feeder: 1, interpreter, script: Script::default() }
     }
 
     pub fn lines_so_far(self) -> Vec<Line> {
@@ -68,7 +71,13 @@ impl Author {
     }
 
     pub fn open_with_tail(&mut self, limit: u32, percent: u32, tail: u32) {
-        self.call(Call::Open { limit, percent, tail });
+        self.open_site(Opening::of_one(limit, percent, tail));
+    }
+
+    /// Any opening; orders go to the first feeder, until another one is chosen.
+    pub fn open_site(&mut self, opening: Opening) {
+        self.call(Call::Open { opening });
+        self.feeder = 1;
     }
 
     pub fn preview(&mut self, order: Order) {
@@ -92,11 +101,12 @@ impl Author {
 
     /// Such an order of rate 1.
     pub fn order(&mut self, line: u32, time: u32, due: u32) {
-        self.take(Order { line, time, due, rate: 1 });
+        self.take(Order { feeder: self.feeder, line, time, due, rate: 1 });
     }
 
     pub fn move_to(&mut self, target: u32) {
-        self.call(Call::Move { target, places: PLACES });
+        let places = PLACES * self.station().feeders.len() as u32;
+        self.call(Call::Move { target, places });
     }
 
     pub fn move_on(&mut self, minutes: u64) {
@@ -105,15 +115,15 @@ impl Author {
     }
 
     pub fn offer(&mut self, starts: Vec<u32>) {
-        self.call(Call::Offer { starts });
+        self.call(Call::Offer { feeder: self.feeder, starts });
     }
 
     pub fn latest(&mut self) {
-        self.call(Call::Latest);
+        self.call(Call::Latest { feeder: self.feeder });
     }
 
     pub fn lines(&mut self, allowance: u32) {
-        self.call(Call::Lines { allowance });
+        self.call(Call::Lines { feeder: self.feeder, allowance });
     }
 
     pub fn enquire(&mut self, ticket: u32) {
@@ -132,8 +142,18 @@ impl Author {
         self.station().clock as u32
     }
 
+    /// The feeder that is chosen.
+    pub fn own(&self) -> Feeder {
+        self.station().feeders[self.feeder as usize - 1]
+    }
+
+    /// How many charges it holds.
     pub fn held(&self) -> usize {
-        self.station().charges.len()
+        self.station().held(self.feeder).len()
+    }
+
+    pub fn waiting(&self) -> Vec<Charge> {
+        self.station().waiting(self.feeder)
     }
 
     /// Asks for the tickets given, for 0 and for the one not yet given.

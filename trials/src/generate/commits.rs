@@ -48,7 +48,7 @@ fn another(author: &mut Author, earliest: u32) -> u32 {
     }
 }
 
-fn one_driver(author: &mut Author, longest: u64) {
+pub fn one_driver(author: &mut Author, longest: u64) {
     let order = order(author, longest);
     match author.random.below(10) {
         0..=2 => {

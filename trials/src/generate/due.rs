@@ -20,12 +20,13 @@ pub fn due(author: &mut Author, time: u32) -> u32 {
 /// An order that is refused, if at all, for what the station holds.
 pub fn some(author: &mut Author, line: u32, longest: u64) -> Order {
     let time = author.random.between(1, longest) as u32;
-    Order { line, time, due: due(author, time), rate: rate(author) }
+    Order { feeder: author.feeder, line, time, due: due(author, time), rate: rate(author) }
 }
 
 /// A rate that the station takes: mostly 1, and 2 at times where limit and bound allow.
 pub fn rate(author: &mut Author) -> u32 {
-    let two = author.random.percent(30) && author.station().bound.min(author.station().limit) >= 2;
+    let two = author.random.percent(30)
+        && author.own().bound.min(author.own().limit).min(author.station().site_limit) >= 2;
     if two {
         2
     } else {

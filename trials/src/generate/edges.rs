@@ -49,7 +49,7 @@ fn order(author: &mut Author) {
     let due = argument(author, usual, &edges);
     let usual = author.random.pick(&[1, 1, 2]);
     let rate = argument(author, usual, &[0, 1, 2, 3]);
-    let order = Order { line, time, due, rate };
+    let order = Order { feeder: author.feeder, line, time, due, rate };
     if author.random.percent(25) {
         author.preview(order);
     }

@@ -35,7 +35,7 @@ pub fn write(author: &mut Author) {
         let in_a_hurry = author.random.percent(10);
         let due = if in_a_hurry { hurry::due(author, car.time) } else { car.due };
         let rate = due::rate(author);
-        author.take(Order { line: car.line, time: car.time, due, rate });
+        author.take(Order { feeder: author.feeder, line: car.line, time: car.time, due, rate });
         if author.random.percent(6) {
             supervise(author);
         }

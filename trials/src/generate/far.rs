@@ -13,7 +13,7 @@ fn queue(author: &mut Author, count: u64) {
         let tight = author.random.percent(50);
         let due = if tight { author.clock() + time } else { 2_000_000 };
         let rate = due::rate(author);
-        author.take(Order { line, time, due, rate });
+        author.take(Order { feeder: author.feeder, line, time, due, rate });
     }
 }
 

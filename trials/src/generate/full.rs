@@ -18,7 +18,7 @@ fn one_too_many(author: &mut Author) {
     author.order(1, 1, clock + 1);
     author.order(2, 1_440, 2_000_000);
     author.order(3, 5, clock + 4);
-    let order = Order { line: 3, time: 1, due: clock + 1, rate: 1 };
+    let order = Order { feeder: author.feeder, line: 3, time: 1, due: clock + 1, rate: 1 };
     author.preview(order);
     let shown = author.random.pick(&[0, clock, u32::MAX]);
     author.commit(order, shown);

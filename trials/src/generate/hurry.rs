@@ -27,7 +27,7 @@ fn of_few_latest_starts(author: &mut Author, line: u32, longest: u64) {
     let latest_start = author.random.pick(&[-10, -3, -3, -1, 0, 1, 4]);
     let due = time.saturating_add_signed(latest_start);
     let rate = due::rate(author);
-    author.take(Order { line, time, due, rate });
+    author.take(Order { feeder: author.feeder, line, time, due, rate });
 }
 
 /// One line gets most, so that the turn of its charges decides who is late.

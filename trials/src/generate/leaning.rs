@@ -48,7 +48,7 @@ fn nothing_placed_there(author: &mut Author) {
     due::open_with_bound(author, limit, rate.into());
     for (line, time) in [(1, long), (2, short), (2, long - short), (3, long), (1, long)] {
         let due = due::due(author, time);
-        author.take(Order { line, time, due, rate });
+        author.take(Order { feeder: author.feeder, line, time, due, rate });
     }
     let minutes = author.random.between(0, u64::from(short) - 1);
     author.move_on(minutes);

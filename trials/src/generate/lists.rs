@@ -11,7 +11,7 @@ const FAULTS: [&[u8]; 6] = [b"x", b"", b"4294967296", b"7x", b"-1", b"9999999999
 
 /// Numbers until the line is just full: the last one has what room is left.
 fn filled() -> Vec<u8> {
-    let mut line = b"offer".to_vec();
+    let mut line = b"offer 1".to_vec();
     while line.len() + 2 <= LONGEST_LINE {
         line.extend_from_slice(b" 7");
     }
@@ -21,10 +21,10 @@ fn filled() -> Vec<u8> {
 
 /// The held plan, made longer or shorter to so many starts.
 fn of_length(author: &Author, count: usize) -> Vec<u8> {
-    let waiting = author.station().waiting();
+    let waiting = author.waiting();
     let starts = waiting.iter().map(|charge| charge.start).chain(std::iter::repeat(7));
     let words = starts.take(count).map(|start| format!(" {start}"));
-    let mut line = b"offer".to_vec();
+    let mut line = format!("offer {}", author.feeder).into_bytes();
     line.extend(words.flat_map(String::into_bytes));
     line
 }
@@ -34,7 +34,7 @@ fn spoil(author: &mut Author, line: &[u8]) -> Vec<u8> {
     let mut words: Vec<&[u8]> = line.split(|byte| *byte == b' ').collect();
     for _ in 0..author.random.between(1, 2) {
         let last = words.len() as u64 - 1;
-        let place = author.random.pick(&[1, 180, 181, last]).clamp(1, last);
+        let place = author.random.pick(&[1, 180, 181, last - 1]).clamp(1, last - 1) + 1;
         words[place as usize] = author.random.pick(&FAULTS);
     }
     words.join(&b' ')
@@ -71,7 +71,7 @@ mod tests {
     #[test]
     fn a_full_line_is_a_call() {
         assert_eq!(filled().len(), LONGEST_LINE);
-        let Ok(Some(Call::Offer { starts })) = read_call(&filled()) else { panic!("no offer") };
-        assert_eq!(starts.len(), 2045);
+        let Ok(Some(Call::Offer { starts, .. })) = read_call(&filled()) else { panic!("no offer") };
+        assert_eq!(starts.len(), 2044);
     }
 }

@@ -10,6 +10,7 @@ mod due;
 mod edges;
 mod evening;
 mod far;
+mod feeders;
 mod full;
 mod hurry;
 mod leaning;
@@ -22,6 +23,7 @@ mod plans;
 mod priority;
 mod rates;
 mod rounds;
+mod row;
 mod searches;
 mod spent;
 mod tails;
@@ -43,7 +45,7 @@ pub struct Kind {
     write: fn(&mut Author),
 }
 
-pub const KINDS: [Kind; 23] = [
+pub const KINDS: [Kind; 25] = [
     Kind { name: "edges", share: 15, write: edges::write },
     Kind { name: "mixed", share: 24, write: mixed::write },
     Kind { name: "offers", share: 15, write: offers::write },
@@ -63,8 +65,10 @@ pub const KINDS: [Kind; 23] = [
     Kind { name: "tails", share: 15, write: tails::write },
     Kind { name: "boards", share: 8, write: boards::write },
     Kind { name: "withdraw", share: 15, write: withdraw::write },
+    Kind { name: "feeders", share: 40, write: feeders::write },
     // These are long and come once in a thousand, at turns of their own.
     Kind { name: "tickets", share: 0, write: tickets::write },
+    Kind { name: "row", share: 0, write: row::write },
     Kind { name: "spent", share: 0, write: spent::write },
     Kind { name: "openings", share: 0, write: openings::write },
     // Only where a run of a program begins.
@@ -78,6 +82,7 @@ const THOUSAND: u64 = 1_000;
 const TICKETS_TURN: u64 = 99;
 const SPENT_TURN: u64 = 199;
 const OPENINGS_TURN: u64 = 299;
+const ROW_TURN: u64 = 399;
 
 /// The script with this number among those of a seed.
 pub fn script(seed: u64, number: u64) -> Script {
@@ -110,6 +115,7 @@ fn choose(random: &mut Random, number: u64) -> &'static Kind {
         TICKETS_TURN => return named("tickets").expect("a kind of the table"),
         SPENT_TURN => return named("spent").expect("a kind of the table"),
         OPENINGS_TURN => return named("openings").expect("a kind of the table"),
+        ROW_TURN => return named("row").expect("a kind of the table"),
         _ => (),
     }
     let mut draw = random.below(KINDS.iter().map(|kind| kind.share).sum());

@@ -21,7 +21,7 @@ pub fn write(author: &mut Author) {
 /// Beside empty lines the bound lets so many start at once, and no more.
 fn fill_a_minute(author: &mut Author) {
     let line = author.random.between(1, 3) as u32;
-    for _ in 0..=author.station().bound {
+    for _ in 0..=author.own().bound {
         author.order(line, 1, 1);
     }
 }

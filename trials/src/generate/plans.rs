@@ -4,15 +4,15 @@ use super::author::Author;
 use crate::reference::last_end;
 
 fn held_starts(author: &Author) -> Vec<u32> {
-    author.station().waiting().iter().map(|charge| charge.start as u32).collect()
+    author.waiting().iter().map(|charge| charge.start as u32).collect()
 }
 
 /// The waiting charges placed one after the other in a turn drawn by lot: sound
 /// whenever the begun charges allow it, and often better than the held plan.
 fn by_lot(author: &mut Author) -> Option<Vec<u32>> {
-    let mut turn = author.station().waiting();
+    let mut turn = author.waiting();
     author.random.shuffle(&mut turn);
-    let starts = author.station().place_in_turn(&turn)?;
+    let starts = author.station().place_in_turn(author.feeder, &turn)?;
     Some(starts.iter().map(|start| *start as u32).collect())
 }
 
@@ -24,7 +24,7 @@ fn improving(author: &mut Author) -> Vec<u32> {
         let Some(starts) = by_lot(author) else { continue };
         let mut station = author.station().clone();
         let wide: Vec<u64> = starts.iter().map(|start| u64::from(*start)).collect();
-        let planned = station.take_or_keep(&wide, 0);
+        let planned = station.take_or_keep(author.feeder, &wide, 0);
         if planned.cause == 0 && planned.after < least {
             least = planned.after;
             best = starts;
@@ -44,7 +44,7 @@ fn spread(author: &mut Author) -> Vec<u32> {
         let mut moved = starts.clone();
         moved[place] += author.random.below(room + 1) as u32;
         let wide: Vec<u64> = moved.iter().map(|start| u64::from(*start)).collect();
-        if author.station().cause(&wide) == 0 {
+        if author.station().cause(author.feeder, &wide) == 0 {
             starts = moved;
         }
     }
@@ -86,7 +86,7 @@ fn nearly(author: &mut Author) -> Vec<u32> {
 fn all_at_once(author: &mut Author) -> Vec<u32> {
     let clock = author.clock();
     let wide = author.random.percent(50);
-    let waiting = author.station().waiting().len();
+    let waiting = author.waiting().len();
     (0..waiting).map(|_| clock + if wide { author.random.below(6) as u32 } else { 0 }).collect()
 }
 
@@ -94,7 +94,7 @@ fn all_at_once(author: &mut Author) -> Vec<u32> {
 /// start below the clock too, whose cause comes first.
 fn far(author: &mut Author) -> Vec<u32> {
     let mut starts = held_starts(author);
-    let times: Vec<u64> = author.station().waiting().iter().map(|charge| charge.time).collect();
+    let times: Vec<u64> = author.waiting().iter().map(|charge| charge.time).collect();
     if starts.is_empty() {
         return starts;
     }

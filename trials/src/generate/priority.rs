@@ -36,7 +36,7 @@ fn order(author: &mut Author, line: u32, longest: u64) {
         false => clock + time + slack(author, longest) as u32,
     };
     let rate = due::rate(author);
-    author.take(Order { line, time, due: due.min(2_000_000), rate });
+    author.take(Order { feeder: author.feeder, line, time, due: due.min(2_000_000), rate });
 }
 
 /// One line gets most. Its first charge is long and in no hurry, so that a plan that

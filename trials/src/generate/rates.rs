@@ -51,9 +51,9 @@ fn all_in_one_minute(author: &mut Author) {
     author.open(60, 100);
     let line = author.random.between(1, 3) as u32;
     for _ in 0..author.random.pick(&[127, 128, 129, 150, 180]) {
-        author.take(Order { line, time: 1, due: 1, rate: 2 });
+        author.take(Order { feeder: author.feeder, line, time: 1, due: 1, rate: 2 });
     }
-    let waiting = author.station().waiting().len();
+    let waiting = author.waiting().len();
     author.offer(vec![0; waiting]);
     author.lines(1_000);
     author.latest();

@@ -6,7 +6,8 @@ use super::due;
 use crate::yard::Yard;
 
 fn allowances(author: &mut Author) {
-    let needed = author.station().clone().replan_by_lines(1_000).map_or(1, |plan| plan.rounds);
+    let mut station = author.station().clone();
+    let needed = station.replan_by_lines(author.feeder, 1_000).map_or(1, |plan| plan.rounds);
     for allowance in [1, needed.saturating_sub(1).max(1), needed, 1_000] {
         // A taken plan would leave nothing to compare for the next allowance,
         // so the one that is likely to be taken comes last or not at all.

@@ -28,7 +28,13 @@ fn wanted(author: &mut Author, longest: u64) -> Order {
         _ => 1_440,
     };
     let time = time.min(1_440) as u32;
-    Order { line, time, due: due::due(author, time), rate: due::rate(author) }
+    Order {
+        feeder: author.feeder,
+        line,
+        time,
+        due: due::due(author, time),
+        rate: due::rate(author),
+    }
 }
 
 pub fn write(author: &mut Author) {

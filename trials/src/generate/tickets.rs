@@ -36,7 +36,7 @@ pub fn write(author: &mut Author) {
     author.order(1, 5, due);
     author.move_on(3);
     author.order(1, 5, due + 3);
-    let order = Order { line: 1, time: 6, due: due + 3, rate: 2 };
+    let order = Order { feeder: author.feeder, line: 1, time: 6, due: due + 3, rate: 2 };
     author.preview(order);
     author.commit(order, u32::MAX);
     author.latest();

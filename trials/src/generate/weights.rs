@@ -98,7 +98,7 @@ fn alike(author: &mut Author) {
         let line = if spread { author.random.between(1, 3) as u32 } else { line };
         let rate = due::rate(author);
         let due = author.clock() + (time * author.random.between(1, dues)) as u32;
-        author.take(Order { line, time: time as u32, due, rate });
+        author.take(Order { feeder: author.feeder, line, time: time as u32, due, rate });
     }
     author.lines(1_000);
     author.move_on(time / 2);

@@ -14,7 +14,7 @@ fn ticket_of(author: &mut Author, charges: &[Charge]) -> Option<u32> {
 
 /// A ticket that waits, mostly; else one of any other sort.
 fn some_ticket(author: &mut Author) -> u32 {
-    let (waiting, begun) = (author.station().waiting(), author.station().begun());
+    let (waiting, begun) = (author.waiting(), author.station().begun(author.feeder));
     let next = author.station().next_ticket;
     let ticket = match author.random.below(12) {
         0..=7 => ticket_of(author, &waiting),
@@ -55,7 +55,7 @@ fn between_preview_and_commit(author: &mut Author, longest: u64) {
 
 /// The clock comes to the start of a waiting charge, or just past it.
 fn at_the_clock(author: &mut Author) {
-    let waiting = author.station().waiting();
+    let waiting = author.waiting();
     if waiting.is_empty() {
         return;
     }
@@ -89,7 +89,7 @@ fn last_and_again(author: &mut Author, longest: u64) {
 
 /// Everybody goes, in any turn, as far as the plan allows it.
 fn all_go(author: &mut Author) {
-    let mut waiting = author.station().waiting();
+    let mut waiting = author.waiting();
     author.random.shuffle(&mut waiting);
     for charge in waiting {
         author.withdraw(charge.ticket);
@@ -145,7 +145,7 @@ fn leaning(author: &mut Author) {
     due::open_with_bound(author, limit, rate.into());
     let time = author.random.between(2, 20) as u32;
     for line in [1, 2, 3, 1] {
-        author.take(Order { line, time, due: 2 * time, rate });
+        author.take(Order { feeder: author.feeder, line, time, due: 2 * time, rate });
     }
     let mut tickets = [1, 2, 3, 4];
     author.random.shuffle(&mut tickets);

@@ -7,6 +7,8 @@
 //! - `records`: numbers as bytes, header and charges as bytes
 //! - `arrangement`: where the bytes of the records lie
 //! - `rules`: when a station is in order
+//!
+//! "Save, restore and the bus serve a site of one feeder" (N14).
 
 pub mod arrangement;
 pub mod blocks;
@@ -33,15 +35,19 @@ pub fn refuse_size(image: &[u8]) -> Result<(), Refusal> {
 }
 
 /// "Save writes a station as nine blocks of 512 bytes"; it "is lent the previous image,
-/// refusal 20 covering its size, and answers how many blocks differ" (N9).
+/// refusal 20 covering its size, and answers how many blocks differ" (N9). "22 covers [..]
+/// saving several feeders" (N14).
 pub fn save(station: &Station, previous: &[u8], image: &mut [u8]) -> Result<u32, Refusal> {
     refuse_size(previous)?;
     refuse_size(image)?;
+    if station.feeders.len() != 1 {
+        return Err(CONTENTS);
+    }
     image.copy_from_slice(&image_of(station));
     Ok(blocks::differing(previous, image))
 }
 
-/// The image of any station that the fields can hold, in order or not.
+/// The image of any station of one feeder that the fields can hold, in order or not.
 pub fn image_of(station: &Station) -> Vec<u8> {
     blocks::sealed(&contents_of(station))
 }
@@ -71,7 +77,8 @@ pub fn station_in(contents: &Contents) -> Station {
     records::station(&contents[0], &arrangement::taken_up(&contents[1..]))
 }
 
-/// "Beside a refused restore stands the fresh station of 1, 100 and r = 0"
+/// "Beside a refused restore stands the fresh station of 1, 100 and r = 0", with "one feeder
+/// and W 720" (N14).
 pub fn restored(image: &[u8]) -> (Option<Refusal>, Station) {
     match restore(image) {
         Ok(station) => (None, station),

@@ -1,8 +1,9 @@
-//! "Block 0 holds, in 32 bits each, N, c, r, clock, next ticket and number held." A record
+//! "Block 0 holds, in 32 bits each, N, c, r, clock, next ticket and number held", and "gains
+//! W (32 bits) last" (N14). A record
 //! holds "ticket, start, d, order minute (32 bits each), p (16), line (8), rate (8)".
 //! "Multi-byte numbers are little-endian."
 
-use crate::reference::{bound, Charge, Station};
+use crate::reference::{bound, Charge, Feeder, Station};
 
 /// Bytes of a record.
 pub const RECORD: usize = 20;
@@ -25,9 +26,11 @@ pub fn number(bytes: &[u8]) -> u64 {
 }
 
 pub fn header(station: &Station) -> Vec<u8> {
-    let Station { limit, percent, tail, clock, next_ticket, charges, .. } = station;
+    let Station { site_limit, feeders, clock, next_ticket, charges } = station;
+    let Feeder { limit, percent, tail, .. } = feeders[0];
+    let (next, held) = (u64::from(*next_ticket), charges.len() as u64);
     let mut bytes = Vec::new();
-    for number in [*limit, *percent, *tail, *clock, (*next_ticket).into(), charges.len() as u64] {
+    for number in [limit, percent, tail, *clock, next, held, *site_limit] {
         push_number(&mut bytes, number, 4);
     }
     bytes
@@ -51,14 +54,15 @@ pub fn row(station: &Station) -> Vec<u8> {
 
 /// The station that a header and its records speak of.
 pub fn station(header: &[u8], row: &[u8]) -> Station {
-    let numbers: Vec<u64> = header.chunks(4).take(6).map(number).collect();
-    let [limit, percent, tail, clock, next, held] = numbers[..] else {
-        unreachable!("six numbers")
+    let numbers: Vec<u64> = header.chunks(4).take(7).map(number).collect();
+    let [limit, percent, tail, clock, next, held, site_limit] = numbers[..] else {
+        unreachable!("seven numbers")
     };
     let bound = if limit <= LARGEST_LIMIT { bound(limit, percent) } else { 0 };
     let records = row.chunks(RECORD).take(held as usize);
     let charges = records.map(|record| charge(record, tail)).collect();
-    Station { limit, percent, bound, tail, clock, next_ticket: next as u32, charges }
+    let feeders = vec![Feeder { limit, percent, bound, tail }];
+    Station { site_limit, feeders, clock, next_ticket: next as u32, charges }
 }
 
 fn charge(record: &[u8], tail: u64) -> Charge {
@@ -69,7 +73,7 @@ fn charge(record: &[u8], tail: u64) -> Charge {
         number(bytes)
     });
     let (ticket, line, rate) = (ticket as u32, line as u32, rate as u32);
-    Charge { ticket, line, order, time, due, rate, start, tail }
+    Charge { ticket, feeder: 1, line, order, time, due, rate, start, tail }
 }
 
 #[cfg(test)]
@@ -85,9 +89,20 @@ mod tests {
     }
 
     #[test]
+    fn the_header_has_the_site_limit_last() {
+        let feeder = Feeder::new(20, 40, 3);
+        let station = Station { clock: 0x0102, ..Station::of(0x0203, vec![feeder]) };
+        let mut bytes = vec![20, 0, 0, 0, 40, 0, 0, 0, 3, 0, 0, 0, 2, 1, 0, 0, 1, 0, 0, 0];
+        bytes.extend([0, 0, 0, 0, 3, 2, 0, 0]);
+        assert_eq!(header(&station), bytes);
+        assert_eq!(super::station(&bytes, &[]), station);
+    }
+
+    #[test]
     fn a_record_has_its_numbers_in_the_order_of_the_request() {
         let charge = Charge {
             ticket: 0x0a0b,
+            feeder: 1,
             start: 0x010203,
             due: 0x1112,
             order: 0x05,

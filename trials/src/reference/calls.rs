@@ -3,8 +3,10 @@
 //! stay."
 
 use super::search::smallest_start;
-use super::station::{bound, Charge, Station, PLACES};
-use crate::yard::{Committed, Found, Moved, Order, Planned, Refusal, Yard, NOT_HELD};
+use super::station::{of_feeder, Charge, Feeder, Station, PLACES};
+use crate::yard::{
+    Committed, Found, Moved, Opening, Order, Planned, Refusal, Settings, Yard, NOT_HELD,
+};
 
 /// "The board asks for up to 180 tickets at a time" (N10).
 const MOST_ASKED: usize = 180;
@@ -17,30 +19,62 @@ fn refuse_first(refusals: &[(Refusal, bool)]) -> Result<(), Refusal> {
     }
 }
 
+/// The feeders that an opening asks for, or the refusal: "Refusals 1, 2, 3 and 19 are each given
+/// if any feeder up to the count meets the condition; settings past the count are not read.
+/// Refused: 27, before 1, feeder count not 1 to 4; 28, after 19, W not 1 to 720" (N14).
+/// "Refusal 3 is given when this D is 0" (N3). "Refused: 19, after 3, r above 5" (N7).
+pub fn opened(opening: &Opening) -> Result<Vec<Feeder>, Refusal> {
+    refuse_first(&[(27, !(1..=4).contains(&opening.count))])?;
+    let settings: Vec<Settings> = opening.up_to_count().collect();
+    let any = |meets: fn(&Settings) -> bool| settings.iter().any(meets);
+    refuse_first(&[
+        (1, any(|feeder| !(1..=60).contains(&feeder.limit))),
+        (2, any(|feeder| feeder.percent > 100)),
+    ])?;
+    let feeder = |feeder: &Settings| {
+        Feeder::new(feeder.limit.into(), feeder.percent.into(), feeder.tail.into())
+    };
+    let feeders: Vec<Feeder> = settings.iter().map(feeder).collect();
+    refuse_first(&[
+        (3, feeders.iter().any(|feeder| feeder.bound == 0)),
+        (19, feeders.iter().any(|feeder| feeder.tail > 5)),
+        (28, !(1..=720).contains(&opening.site_limit)),
+    ])?;
+    Ok(feeders)
+}
+
 impl Station {
+    /// The feeder that a call names: "29, before 4, 10 and 11, no such feeder" (N14).
+    fn named(&self, feeder: u32) -> Result<Feeder, Refusal> {
+        self.feeder(feeder).copied().ok_or(29)
+    }
+
     /// The charge that an order asks for, with the clock in the place of its start,
-    /// or the refusal: "Both meet the order's refusals".
+    /// or the refusal: "Both meet the order's refusals". "Refusals 10 and 13 look at the
+    /// feeder", "Refusal 18 also covers a rate above W" (N14); 14 is about the one ticket row.
     pub fn ordered(&self, order: Order) -> Result<Charge, Refusal> {
-        let Order { line, time, due, rate } = order;
+        let Order { feeder, line, time, due, rate } = order;
         let (time, due) = (u64::from(time), u64::from(due));
+        let Feeder { limit, bound, tail, .. } = self.named(feeder)?;
         let above = |most: u64| u64::from(rate) > most;
         refuse_first(&[
             (4, !(1..=3).contains(&line)),
             (5, !(1..=1_440).contains(&time)),
             (17, rate != 1 && rate != 2),
-            (18, above(self.limit) || above(self.bound)),
+            (18, above(limit) || above(bound) || above(self.site_limit)),
             (6, due > 2_000_000),
-            (13, self.charges.len() == PLACES),
+            (13, self.held(feeder).len() == PLACES),
             (14, self.next_ticket > 65_535),
         ])?;
-        let (ticket, order, tail) = (self.next_ticket, self.clock, self.tail);
-        Ok(Charge { ticket, line, order, time, due, rate, start: order, tail })
+        let (ticket, order) = (self.next_ticket, self.clock);
+        Ok(Charge { ticket, feeder, line, order, time, due, rate, start: order, tail })
     }
 
     /// "The start is the smallest s not below the clock with which the held plan and
-    /// this charge are sound together."
+    /// this charge are sound together." It "must keep its feeder sound and the site within W"
+    /// (N14).
     pub fn earliest(&self, charge: &Charge) -> u64 {
-        smallest_start(&self.charges, charge, self.clock, self.rules())
+        smallest_start(&self.charges, charge, self.clock, self.rules(charge.feeder))
             .expect("the held plan is sound, so there is a start behind all of it")
     }
 
@@ -58,15 +92,13 @@ impl Station {
 }
 
 impl Yard for Station {
-    /// "Beside a refused opening stands the fresh station of 1, 100", and "r is 0" (N7).
-    /// "Refusal 3 is given when this D is 0" (N3). "Refused: 19, after 3, r above 5" (N7).
-    fn open(&mut self, limit: u32, percent: u32, tail: u32) -> Result<u32, Refusal> {
-        let (limit, percent, tail) = (u64::from(limit), u64::from(percent), u64::from(tail));
+    /// "Beside a refused opening stands the fresh station of 1, 100", and "r is 0" (N7); there
+    /// "stand one feeder and W 720" (N14).
+    fn open(&mut self, opening: &Opening) -> Result<Vec<u32>, Refusal> {
         *self = Station::fresh(1, 100, 0);
-        refuse_first(&[(1, !(1..=60).contains(&limit)), (2, percent > 100)])?;
-        refuse_first(&[(3, bound(limit, percent) == 0), (19, tail > 5)])?;
-        *self = Station::fresh(limit, percent, tail);
-        Ok(self.bound as u32)
+        let feeders = opened(opening)?;
+        *self = Station::of(opening.site_limit.into(), feeders);
+        Ok(self.feeders.iter().map(|feeder| feeder.bound as u32).collect())
     }
 
     /// "a preview that answers the start it would give and changes nothing"
@@ -87,12 +119,13 @@ impl Yard for Station {
 
     /// "Charges with start at or above the old clock and below the target are
     /// reported: ticket, start, ticket, start, ordered by start, then ticket.
-    /// Places after them keep what they held. Then finished charges are dropped."
+    /// Places after them keep what they held. Then finished charges are dropped." "Refusal 9
+    /// requires 360 places for each feeder" (N14).
     fn move_clock(&mut self, target: u32, report: &mut [u32]) -> Result<Moved, Refusal> {
         let target = u64::from(target);
         refuse_first(&[
             (8, target > 1_000_000),
-            (9, report.len() < 2 * PLACES),
+            (9, report.len() < 2 * PLACES * self.feeders.len()),
             (12, target < self.clock),
         ])?;
         let passed = self.clock..target;
@@ -109,20 +142,23 @@ impl Yard for Station {
         Ok(Moved { reported: reported.len(), dropped: held - self.charges.len() })
     }
 
-    fn offer(&mut self, starts: &[u32]) -> Result<Planned, Refusal> {
-        refuse_first(&[(10, starts.len() != self.waiting().len())])?;
+    fn offer(&mut self, feeder: u32, starts: &[u32]) -> Result<Planned, Refusal> {
+        self.named(feeder)?;
+        refuse_first(&[(10, starts.len() != self.waiting(feeder).len())])?;
         let starts: Vec<u64> = starts.iter().map(|start| u64::from(*start)).collect();
-        Ok(self.take_or_keep(&starts, 0))
+        Ok(self.take_or_keep(feeder, &starts, 0))
     }
 
-    fn replan_by_latest_start(&mut self) -> Planned {
-        self.end_with(self.latest_list(), 0)
+    fn replan_by_latest_start(&mut self, feeder: u32) -> Result<Planned, Refusal> {
+        self.named(feeder)?;
+        Ok(self.end_with(feeder, self.latest_list(feeder), 0))
     }
 
-    fn replan_by_lines(&mut self, allowance: u32) -> Result<Planned, Refusal> {
+    fn replan_by_lines(&mut self, feeder: u32, allowance: u32) -> Result<Planned, Refusal> {
+        self.named(feeder)?;
         refuse_first(&[(11, !(1..=1_000).contains(&allowance))])?;
-        let (list, rounds) = self.lines_list(allowance);
-        Ok(self.end_with(list, rounds))
+        let (list, rounds) = self.lines_list(feeder, allowance);
+        Ok(self.end_with(feeder, list, rounds))
     }
 
     /// "an enquiry shows it as the end" (N7): s + p, also where that is at or below the
@@ -158,12 +194,15 @@ impl Yard for Station {
 
     /// "A waiting charge is removed, and its place is free, exactly when the remaining plan is
     /// sound; no other start moves. Refused: 25, after 15, the charge has begun; 26, after
-    /// 25, the rest would not be sound" (N11).
+    /// 25, the rest would not be sound" (N11): the rest of its feeder, and W (N14).
     fn withdraw(&mut self, ticket: u32) -> Result<(), Refusal> {
-        let begun = self.charge(ticket).ok_or(15u32)?.begun(self.clock);
+        let charge = *self.charge(ticket).ok_or(15u32)?;
         let mut rest = self.charges.clone();
         rest.retain(|charge| charge.ticket != ticket);
-        refuse_first(&[(25, begun), (26, !self.rules().sound(&rest, self.clock))])?;
+        let rules = self.rules(charge.feeder);
+        let sound = rules.sound(&of_feeder(&rest, charge.feeder), self.clock)
+            && rules.site_within(&rest, self.clock);
+        refuse_first(&[(25, charge.begun(self.clock)), (26, !sound)])?;
         self.charges = rest;
         Ok(())
     }

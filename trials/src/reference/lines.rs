@@ -5,11 +5,13 @@
 //! unrounded, then the smaller d − p, then the smaller ticket" (N5). One fits where the
 //! start is not below the clock "with the line's count, itself included, at or below the
 //! cap in all its minutes. Then find the first minute t in which two counts differ by
-//! more than D".
+//! more than D". "A replan touches one feeder and places no charge where the site would pass W,
+//! counting other feeders' charges, all begun ones and those placed so far" (N14): those that
+//! the round has placed on the lines before count too.
 
 use super::judge::{List, ALLOWANCE_SPENT, NO_START};
 use super::latest::in_ticket_order;
-use super::minutes::{count_charge, counts, Counts};
+use super::minutes::{count_charge, counts, site_counts, Counts, Rules};
 use super::priority::Crowd;
 use super::station::{last_clear, Charge, Station};
 
@@ -24,13 +26,14 @@ struct Round {
 
 impl Station {
     /// The list, and the rounds made.
-    pub fn lines_list(&self, allowance: u32) -> (List, u32) {
-        let mut caps: Caps = vec![[self.limit; 3]; self.minutes_of_a_round() as usize];
+    pub fn lines_list(&self, feeder: u32, allowance: u32) -> (List, u32) {
+        let rules = self.rules(feeder);
+        let mut caps: Caps = vec![[rules.limit; 3]; self.minutes_of_a_round(feeder) as usize];
         let mut rounds = 0;
         loop {
-            let round = self.round(&caps);
+            let round = self.round(feeder, &caps);
             rounds += 1;
-            let Some(minute) = self.first_unbalanced(&round.counts) else {
+            let Some(minute) = first_unbalanced(&round.counts, rules) else {
                 return (Ok(in_ticket_order(round.placed)), rounds);
             };
             let (largest, smallest) = extremes(&round.counts[minute]);
@@ -40,7 +43,7 @@ impl Station {
             if rounds == allowance {
                 return (Err(ALLOWANCE_SPENT), rounds);
             }
-            let lowered = round.counts[minute][smallest] + self.bound;
+            let lowered = round.counts[minute][smallest] + rules.bound;
             for cap in &mut caps[minute..] {
                 cap[largest] = cap[largest].min(lowered);
             }
@@ -48,25 +51,30 @@ impl Station {
     }
 
     /// Enough minutes for any round: a charge has room at the latest after all
-    /// others of its line, since no cap is ever below D, and no rate is above D.
-    fn minutes_of_a_round(&self) -> u64 {
-        let waiting: u64 = self.waiting().iter().map(Charge::active_time).sum();
-        last_clear(&self.begun()).max(self.clock) - self.clock + waiting
+    /// others of the site, since no cap is ever below D, and no rate is above D or W.
+    fn minutes_of_a_round(&self, feeder: u32) -> u64 {
+        let waiting: u64 = self.waiting(feeder).iter().map(Charge::active_time).sum();
+        last_clear(&self.unmoved(feeder)).max(self.clock) - self.clock + waiting
     }
 
-    fn round(&self, caps: &Caps) -> Round {
-        let mut counts = counts(&self.begun(), self.clock, caps.len() as u64);
+    fn round(&self, feeder: u32, caps: &Caps) -> Round {
+        let length = caps.len() as u64;
+        let mut counts = counts(&self.begun(feeder), self.clock, length);
+        let mut site = site_counts(&self.unmoved(feeder), self.clock, length);
         let mut placed = Vec::new();
         for line in 1..=3 {
-            let mut unplaced = self.waiting();
+            let mut unplaced = self.waiting(feeder);
             unplaced.retain(|charge| charge.line == line);
             let crowd = Crowd::of(&unplaced);
             while !unplaced.is_empty() {
-                let room = Room { counts: &counts, caps, line: line as usize - 1 };
+                let (line, limit) = (line as usize - 1, self.site_limit);
+                let room = Room { counts: &counts, caps, line, site: &site, limit };
                 let start = room.start_of_any(&unplaced);
                 let place = self.next_at(start, &room, &unplaced, crowd);
                 let charge = unplaced.remove(place).starting_at(self.clock + start);
                 count_charge(&mut counts, &charge, self.clock);
+                let own = start as usize..(start + charge.active_time()) as usize;
+                site[own].iter_mut().for_each(|count| *count += charge.weight());
                 placed.push(charge);
             }
         }
@@ -83,12 +91,6 @@ impl Station {
             .expect("one fits at the smallest start")
     }
 
-    /// "the first minute t in which two counts differ by more than D, from the
-    /// clock on", as a place of the arrays.
-    fn first_unbalanced(&self, counts: &[Counts]) -> Option<usize> {
-        counts.iter().position(|counts| !self.rules().balanced(counts))
-    }
-
     /// Whether a placed charge of the line is active there, of whatever rate. A begun
     /// one is not placed, so it does not count.
     fn placed_there(&self, placed: &[Charge], line: usize, minute: usize) -> bool {
@@ -97,18 +99,29 @@ impl Station {
     }
 }
 
-/// What one line has left under its cap. Starts are counted from the clock.
+/// "the first minute t in which two counts differ by more than D, from the clock on", as a
+/// place of the arrays.
+fn first_unbalanced(counts: &[Counts], rules: Rules) -> Option<usize> {
+    counts.iter().position(|counts| !rules.balanced(counts))
+}
+
+/// What one line has left under its cap, and the site under its limit. Starts are counted from
+/// the clock.
 struct Room<'a> {
     counts: &'a [Counts],
     caps: &'a Caps,
     /// Place 0 to 2.
     line: usize,
+    site: &'a [u64],
+    limit: u64,
 }
 
 impl Room<'_> {
-    /// "with the line's count, itself included, at or below the cap", in one minute
+    /// "with the line's count, itself included, at or below the cap", and not "where the site
+    /// would pass W", in one minute
     fn has_room(&self, weight: u64, minute: usize) -> bool {
         self.counts[minute][self.line] + weight <= self.caps[minute][self.line]
+            && self.site[minute] + weight <= self.limit
     }
 
     /// "in all its minutes": the active ones, tail included (N7)
@@ -139,7 +152,7 @@ impl Room<'_> {
                 return minute as u64 + 1 - in_a_row;
             }
         }
-        unreachable!("the minutes in which nothing else of the line is active have room")
+        unreachable!("the minutes in which nothing else of the site is active have room")
     }
 }
 

@@ -1,7 +1,8 @@
 //! "The **count** of a line in a minute is the number of its active charges"; "a charge
 //! of rate 2 counts as two wherever a line is counted" (N4). "A plan is **sound** when
 //! in every minute from the clock on each count is at most N and each two counts differ
-//! by at most D."
+//! by at most D." With N14 this is about the charges of a feeder, and the site has "a site
+//! limit W on the weighted count of all lines in a minute".
 //!
 //! Counts stand in an array with one place for each minute, the clock's minute
 //! first: minutes themselves can be near 100,000,000.
@@ -12,11 +13,12 @@ use std::collections::BTreeSet;
 /// The counts of lines 1, 2 and 3 in one minute.
 pub type Counts = [u64; 3];
 
-/// The limit N and the bound D.
+/// The limit N and the bound D of a feeder, and the site limit W.
 #[derive(Clone, Copy, Debug)]
 pub struct Rules {
     pub limit: u64,
     pub bound: u64,
+    pub site: u64,
 }
 
 impl Rules {
@@ -34,14 +36,24 @@ impl Rules {
         self.within_limit(counts) && self.balanced(counts)
     }
 
-    /// Whether a plan is sound: "in every minute from the clock on". Counts change where a
-    /// charge begins or ends to draw and nowhere else, so these minutes stand for all; the
-    /// others may be a hundred million.
+    /// Whether the plan of a feeder is sound: "in every minute from the clock on".
     pub fn sound(&self, plan: &[Charge], clock: u64) -> bool {
-        let changes = plan.iter().flat_map(|charge| [charge.start, charge.clear()]);
-        let minutes: BTreeSet<u64> = changes.map(|minute| minute.max(clock)).collect();
-        minutes.iter().all(|minute| self.sound_in(&counts(plan, *minute, 1)[0]))
+        let in_minute = |minute| self.sound_in(&counts(plan, minute, 1)[0]);
+        minutes_of_change(plan, clock).into_iter().all(in_minute)
     }
+
+    /// Whether the site is within W in every minute from the clock on, with all its charges.
+    pub fn site_within(&self, site: &[Charge], clock: u64) -> bool {
+        let in_minute = |minute| site_counts(site, minute, 1)[0] <= self.site;
+        minutes_of_change(site, clock).into_iter().all(in_minute)
+    }
+}
+
+/// Counts change where a charge begins or ends to draw and nowhere else, so these minutes, not
+/// below the clock, stand for all; the others may be a hundred million.
+fn minutes_of_change(charges: &[Charge], clock: u64) -> BTreeSet<u64> {
+    let changes = charges.iter().flat_map(|charge| [charge.start, charge.clear()]);
+    changes.map(|minute| minute.max(clock)).collect()
 }
 
 /// Counts in the minutes from `from` on, as many as asked for.
@@ -51,6 +63,11 @@ pub fn counts(charges: &[Charge], from: u64, minutes: u64) -> Vec<Counts> {
         count_charge(&mut counts, charge, from);
     }
     counts
+}
+
+/// "the weighted count of all lines in a minute" (N14), of all feeders
+pub fn site_counts(charges: &[Charge], from: u64, minutes: u64) -> Vec<u64> {
+    counts(charges, from, minutes).iter().map(|lines| lines.iter().sum()).collect()
 }
 
 /// Counts one more charge in each of its active minutes that the array has.

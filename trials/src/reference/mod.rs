@@ -21,4 +21,6 @@ mod station;
 
 pub use judge::List;
 pub use latest::{in_ticket_order, latest_start_order};
-pub use station::{bound, last_clear, last_end, Charge, Station, PLACES};
+pub use station::{
+    bound, last_clear, last_end, of_feeder, Charge, Feeder, Station, PLACES, WIDEST_SITE,
+};

@@ -65,7 +65,7 @@ mod tests {
     }
 
     fn charge(ticket: u32, time: u64, due: u64) -> Charge {
-        Charge { ticket, line: 1, order: 0, time, due, rate: 1, start: 0, tail: 0 }
+        Charge { ticket, feeder: 1, line: 1, order: 0, time, due, rate: 1, start: 0, tail: 0 }
     }
 
     /// Case h: with n 2 and P 20 a slack of 50 gives k 1,280, one of 5 gives 128.

@@ -1,23 +1,29 @@
 //! "A **station** holds a limit N, a percentage c, a bound D, a clock, the next
 //! ticket and up to 180 charges". "A **charge** has a ticket, a line, an order
 //! minute, a charging time p, a due minute d and a start s." "Each order states a rate,
-//! 1 or 2" (N4).
+//! 1 or 2" (N4). With N14 the station is a site: "Larger yards have 1 to 4 feeders, each with
+//! its own N, c, r and 180 places, under a site limit W on the weighted count of all lines in
+//! a minute. One clock and one ticket row serve the site".
 
 use super::minutes::Rules;
 
-/// "up to 180 charges"
+/// "up to 180 charges", on each feeder
 pub const PLACES: usize = 180;
+/// "W 720" stands beside a refused opening.
+pub const WIDEST_SITE: u64 = 720;
 
 #[derive(Clone, Copy, Debug, PartialEq, Eq)]
 pub struct Charge {
     pub ticket: u32,
+    /// From 1.
+    pub feeder: u32,
     pub line: u32,
     pub order: u64,
     pub time: u64,
     pub due: u64,
     pub rate: u32,
     pub start: u64,
-    /// r of the station that holds it.
+    /// r of the feeder that holds it.
     pub tail: u64,
 }
 
@@ -73,49 +79,94 @@ impl Charge {
     }
 }
 
-#[derive(Clone, Debug, PartialEq, Eq)]
-pub struct Station {
+/// What each feeder has of its own, but for its charges.
+#[derive(Clone, Copy, Debug, PartialEq, Eq)]
+pub struct Feeder {
     pub limit: u64,
     pub percent: u64,
     pub bound: u64,
     /// r: contactors open so many minutes late (N7).
     pub tail: u64,
+}
+
+impl Feeder {
+    pub fn new(limit: u64, percent: u64, tail: u64) -> Feeder {
+        Feeder { limit, percent, bound: bound(limit, percent), tail }
+    }
+}
+
+#[derive(Clone, Debug, PartialEq, Eq)]
+pub struct Station {
+    /// W
+    pub site_limit: u64,
+    pub feeders: Vec<Feeder>,
     pub clock: u64,
     pub next_ticket: u32,
-    /// In ticket order: orders append, and dropping keeps the order.
+    /// Of all feeders, in ticket order: orders append, and dropping keeps the order.
     pub charges: Vec<Charge>,
 }
 
 impl Station {
-    /// "A fresh station: clock 0, next ticket 1, no charges."
+    /// One feeder under a site limit of 720.
     pub fn fresh(limit: u64, percent: u64, tail: u64) -> Station {
-        let bound = bound(limit, percent);
-        Station { limit, percent, bound, tail, clock: 0, next_ticket: 1, charges: Vec::new() }
+        Station::of(WIDEST_SITE, vec![Feeder::new(limit, percent, tail)])
     }
 
-    pub fn rules(&self) -> Rules {
-        Rules { limit: self.limit, bound: self.bound }
+    /// "A fresh station: clock 0, next ticket 1, no charges."
+    pub fn of(site_limit: u64, feeders: Vec<Feeder>) -> Station {
+        Station { site_limit, feeders, clock: 0, next_ticket: 1, charges: Vec::new() }
     }
 
-    pub fn begun(&self) -> Vec<Charge> {
-        self.charges.iter().copied().filter(|charge| charge.begun(self.clock)).collect()
+    /// The feeder with this number, "from 1", if there is one.
+    pub fn feeder(&self, number: u32) -> Option<&Feeder> {
+        self.feeders.get((number as usize).checked_sub(1)?)
     }
 
-    pub fn waiting(&self) -> Vec<Charge> {
-        self.charges.iter().copied().filter(|charge| !charge.begun(self.clock)).collect()
+    /// Limit and bound of a feeder that there is, and the site limit.
+    pub fn rules(&self, feeder: u32) -> Rules {
+        let Feeder { limit, bound, .. } = self.feeders[feeder as usize - 1];
+        Rules { limit, bound, site: self.site_limit }
     }
 
-    /// The held charges with other starts for the waiting ones, in ticket order.
-    pub fn with_starts(&self, starts: &[u64]) -> Vec<Charge> {
+    fn those(&self, wanted: impl Fn(&Charge) -> bool) -> Vec<Charge> {
+        self.charges.iter().copied().filter(wanted).collect()
+    }
+
+    /// The charges that a feeder holds.
+    pub fn held(&self, feeder: u32) -> Vec<Charge> {
+        of_feeder(&self.charges, feeder)
+    }
+
+    pub fn begun(&self, feeder: u32) -> Vec<Charge> {
+        self.those(|charge| charge.feeder == feeder && charge.begun(self.clock))
+    }
+
+    pub fn waiting(&self, feeder: u32) -> Vec<Charge> {
+        self.those(|charge| charge.feeder == feeder && !charge.begun(self.clock))
+    }
+
+    /// What a replan of the feeder finds before it places a charge: "other feeders' charges,
+    /// all begun ones".
+    pub fn unmoved(&self, feeder: u32) -> Vec<Charge> {
+        self.those(|charge| charge.feeder != feeder || charge.begun(self.clock))
+    }
+
+    /// The held charges with other starts for the waiting ones of the feeder, in ticket order.
+    pub fn with_starts(&self, feeder: u32, starts: &[u64]) -> Vec<Charge> {
         let mut starts = starts.iter();
         let mut charges = self.charges.clone();
         for charge in &mut charges {
-            if !charge.begun(self.clock) {
+            if charge.feeder == feeder && !charge.begun(self.clock) {
                 charge.start = *starts.next().expect("one start for each waiting charge");
             }
         }
         charges
     }
+}
+
+/// Those of one feeder.
+pub fn of_feeder(charges: &[Charge], feeder: u32) -> Vec<Charge> {
+    charges.iter().copied().filter(|charge| charge.feeder == feeder).collect()
 }
 
 /// "D becomes c × N / 100 rounded to the nearest whole number, an exact half to the
@@ -126,17 +177,19 @@ pub fn bound(limit: u64, percent: u64) -> u64 {
     (0..=limit).min_by_key(|whole| (away(*whole), whole % 2)).expect("0 is always tried")
 }
 
-/// "**Lateness** is the sum of max(0, end − d) over the charges held"
+/// "**Lateness** is the sum of max(0, end − d) over the charges held"; with N14 "lateness is
+/// the feeder's".
 pub fn lateness(charges: &[Charge]) -> u64 {
     charges.iter().map(Charge::lateness).sum()
 }
 
-/// "the last end of held charges (0 if none)": "Cause 4 compares s + p" (N7).
+/// The last s + p (0 if none).
 pub fn last_end(charges: &[Charge]) -> u64 {
     charges.iter().map(Charge::end).max().unwrap_or(0)
 }
 
-/// From here on none of the charges is active.
+/// "Cause 4 compares the largest s + p + r of the site" (N14), "0 if none": from there on none
+/// of the charges is active.
 pub fn last_clear(charges: &[Charge]) -> u64 {
     charges.iter().map(Charge::clear).max().unwrap_or(0)
 }

@@ -86,8 +86,9 @@ fn single() -> Vec<Input> {
     let edges = [0, 1, 2, 6, 7, 8, 11];
     let edge = |clock: u64| {
         let mut station = stations::wide(5, clock, 2);
-        let charge =
-            Charge { ticket: 1, line: 2, order: 0, time: 6, due: 9, rate: 1, start: 1, tail: 5 };
+        let (ticket, feeder, line, order, rate, tail) = (1, 1, 2, 0, 1, 5);
+        let (start, time, due) = (1, 6, 9);
+        let charge = Charge { ticket, feeder, line, order, time, due, rate, start, tail };
         station.charges.push(charge);
         input(format!("a charge from 1 to 7, clock {clock}"), image_of(&station), Way::Pipe)
     };
@@ -100,13 +101,16 @@ fn single() -> Vec<Input> {
 }
 
 /// One number of the station or of its tenth charge out of range.
-const SPOILT: [(&str, fn(&mut Station)); 16] = [
-    ("no limit", |station| station.limit = 0),
-    ("a limit of 61", |station| station.limit = 61),
-    ("no bound", |station| station.percent = 0),
-    ("a percentage of 101", |station| station.percent = 101),
-    ("a tail of 6", |station| station.tail = 6),
+const SPOILT: [(&str, fn(&mut Station)); 19] = [
+    ("no limit", |station| station.feeders[0].limit = 0),
+    ("a limit of 61", |station| station.feeders[0].limit = 61),
+    ("no bound", |station| station.feeders[0].percent = 0),
+    ("a percentage of 101", |station| station.feeders[0].percent = 101),
+    ("a tail of 6", |station| station.feeders[0].tail = 6),
     ("a late clock", |station| station.clock = 1_000_001),
+    ("no site limit", |station| station.site_limit = 0),
+    ("a site limit of 721", |station| station.site_limit = 721),
+    ("a site limit of 179", |station| station.site_limit = 179),
     ("no next ticket", |station| station.next_ticket = 0),
     ("a next ticket that is held", |station| station.next_ticket -= 1),
     ("181 charges", |station| {
@@ -130,8 +134,9 @@ fn out_of_order() -> Vec<Input> {
         let mut station = stations::wide(0, 0, 181);
         for ticket in 1..=180 {
             let line = ticket % 3 + 1;
-            let (order, time, due, rate, start, tail) = (0, 5, 9, 1, 0, 0);
-            station.charges.push(Charge { ticket, line, order, time, due, rate, start, tail });
+            let (feeder, order, time, due, rate, start, tail) = (1, 0, 5, 9, 1, 0, 0);
+            let charge = Charge { ticket, feeder, line, order, time, due, rate, start, tail };
+            station.charges.push(charge);
         }
         station
     };

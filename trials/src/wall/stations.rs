@@ -4,7 +4,7 @@
 use crate::generate;
 use crate::interpret::Interpreter;
 use crate::random::Random;
-use crate::reference::{Charge, Station};
+use crate::reference::{Charge, Feeder, Station};
 
 /// Of the rules for an image: no end is later than this for each ticket given.
 const FOR_A_TICKET: u64 = 1_445;
@@ -50,7 +50,7 @@ fn up_to_digits(random: &mut Random, most: u64) -> u64 {
 
 /// A charge that an image of the station may hold.
 fn drawn(random: &mut Random, station: &Station, ticket: u64, line: u32) -> Charge {
-    let Station { clock, tail, .. } = *station;
+    let (clock, Feeder { tail, .. }) = (station.clock, station.feeders[0]);
     let latest = last_end(station);
     let longest = random.pick(&[1, 20, 1_440]).min(latest);
     let time = random.between(1, longest);
@@ -69,7 +69,8 @@ fn drawn(random: &mut Random, station: &Station, ticket: u64, line: u32) -> Char
     let start = start.clamp(least, latest - time);
     let order = random.between(0, start.min(clock));
     let due = random.below(2_000_001);
-    Charge { ticket: ticket as u32, line, order, time, due, rate: 1, start, tail }
+    let (ticket, feeder, rate) = (ticket as u32, 1, 1);
+    Charge { ticket, feeder, line, order, time, due, rate, start, tail }
 }
 
 /// The largest number that each column can show, with one digit fewer before it, and the
@@ -77,7 +78,7 @@ fn drawn(random: &mut Random, station: &Station, ticket: u64, line: u32) -> Char
 pub fn largest() -> Station {
     let mut station = wide(5, LAST_CLOCK, LAST_TICKET + 1);
     let latest = last_end(&station);
-    let (line, order, due, rate, tail) = (3, 0, 2_000_000, 1, 5);
+    let (feeder, line, order, due, rate, tail) = (1, 3, 0, 2_000_000, 1, 5);
     for (ticket, time, end) in [
         (1, 1_440, LAST_CLOCK - 4),
         (9_999, 1, 9_999_999),
@@ -86,7 +87,8 @@ pub fn largest() -> Station {
         (65_535, 1, latest),
     ] {
         let start = end - time;
-        station.charges.push(Charge { ticket, line, order, time, due, rate, start, tail });
+        let charge = Charge { ticket, feeder, line, order, time, due, rate, start, tail };
+        station.charges.push(charge);
     }
     station
 }

@@ -52,7 +52,7 @@ impl Wrong {
     /// The header, and the row of records with its numbers as the fault has them.
     fn turned(&self, mut header: Vec<u8>, mut row: Vec<u8>) -> (Vec<u8>, Vec<u8>) {
         if self.0 == Fault::BigEndian {
-            header[..24].chunks_mut(4).for_each(<[u8]>::reverse);
+            header[..28].chunks_mut(4).for_each(<[u8]>::reverse);
             for record in row.chunks_mut(20) {
                 record[..16].chunks_mut(4).for_each(<[u8]>::reverse);
                 record[16..18].reverse();
@@ -91,6 +91,8 @@ impl Wrong {
         let mut ends = station.charges.iter().map(|charge| end(charge.start, charge.time));
         let ignored = match self.0 {
             Fault::UnsoundTaken => Some(Rule::Unsound),
+            Fault::SiteExceededTaken => Some(Rule::SiteExceeded),
+            Fault::AnySiteLimit => Some(Rule::SiteLimit),
             Fault::FinishedTaken => Some(Rule::Finished),
             Fault::TicketsRepeat if tickets.windows(2).all(|pair| pair[0] <= pair[1]) => {
                 Some(Rule::Tickets)
@@ -139,6 +141,9 @@ impl Images for Wrong {
     fn save(&self, yard: &Station, previous: &[u8], image: &mut [u8]) -> Result<u32, Refusal> {
         refuse_size(previous)?;
         refuse_size(image)?;
+        if yard.feeders.len() > 1 && self.0 != Fault::FirstOfSeveralSaved {
+            return Err(CONTENTS);
+        }
         let contents = self.contents_of(yard);
         for (block, content) in image.chunks_mut(BLOCK).zip(&contents) {
             block[..CONTENT].copy_from_slice(content);

@@ -51,10 +51,18 @@ pub enum Fault {
     /// A due minute that could not be met is refused.
     DueRefused,
     Only180Tickets,
+    /// W is not held against the plan (N14).
+    SiteExceededTaken,
+    /// Nor looked at at all.
+    AnySiteLimit,
     // Of the bus.
     /// The fresh station beside a refused opening is saved.
     SavedAfterRefusal,
     OpeningReadsTheImage,
+    /// 22 before the refusals of an opening of several feeders (N14).
+    SeveralRefusedFirst,
+    /// The first of several feeders is saved.
+    FirstOfSeveralSaved,
     /// 8 and 11 before 20 to 22.
     OwnRefusalFirst,
     /// An unreadable line is refused where the image is.
@@ -104,13 +112,18 @@ impl WrongBus {
         let refusal = restored.err();
         let own = match call {
             Ok(Some(Call::Move { target: 1_000_001.., .. })) => Some(8),
-            Ok(Some(Call::Lines { allowance: 0 | 1_001.. })) => Some(11),
+            Ok(Some(Call::Lines { feeder: 1, allowance: 0 | 1_001.. })) => Some(11),
             _ => None,
         };
+        let several = matches!(&call, Ok(Some(Call::Open { opening })) if opening.count > 1);
         let is_call = text.starts_with(b"read") || text.starts_with(b"write") || call.is_ok();
         let refused = match self.fault {
             Fault::OpeningReadsTheImage if matches!(call, Ok(Some(Call::Open { .. }))) => refusal,
             Fault::OwnRefusalFirst => own,
+            Fault::SeveralRefusedFirst if several => {
+                let size = image::refuse_size(self.bus.image()).err();
+                size.or(Some(image::CONTENTS))
+            }
             Fault::ErrorRefused if !is_call => refusal,
             _ => None,
         };

@@ -1,6 +1,7 @@
 -- With no times the latest start is the start. Tickets rise with the places, so that equal starts stay in ticket order.
 use lib.ListN.{replicate}
-use Rattle.rules.specs.Calls.{places, startBefore}
+use Rattle.rules.specs.Site.{places}
+use Rattle.rules.specs.Calls.{startBefore}
 use Rattle.charges.specs.declared.places.Which.the-variants.{Passed}
 use Rattle.charges.proofs.Collecting.{meant-inside}
 use Rattle.queues.specs.Queues.{notAfter}

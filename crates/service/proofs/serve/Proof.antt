@@ -1,4 +1,5 @@
 -- Refused by the restore, refused by the call, where the image stays, and saved.
+use mathlib.Core.Path.{refl}
 use native.Mathlib.Omega.{arith}
 use Rattle.calls.specs.Applied.{callOf}
 use Rattle.service.proofs.Serving.{list-kept, list-stays, saved-whole, saved-blocks, whole, restore-refused, call-refused, call-saved}
@@ -20,8 +21,8 @@ returns c =
     let a = c .before .before .before .before .before .before .before .args in
     (restore-refused (c .before .before .restore .ensures) (omega (arith, c .before .if1 .taken)) (search needs) (search needs) (list-kept (a .call) (a .numbers .now) (search needs)), list-stays (a .call) (a .numbers .now) (search needs))
 
-apply-requires : tie.Need-apply-requires
-apply-requires c κs = search needs
+make-requires : tie.Need-make-requires
+make-requires c κs = search needs
 
 of-answer-requires : tie.Need-of-answer-requires
 of-answer-requires c κs = search needs
@@ -37,10 +38,10 @@ returns-2 c =
     let b = c .before .before .before .before .before in
     let r = b .before .before .before .before .restore .ensures in
     let a = b .before .before .before .before .before .before .before .before .before .args in
-    (call-refused r (callOf (a .call) (a .numbers .now) (a .list .now)) (omega (arith, b .before .before .before .if1 .left)) (b .apply .ensures .gives) (c .before .before .of-answer .ensures) (omega (arith, c .if2 .taken)) (search needs) (search needs), search (b .apply .ensures .stays))
+    (call-refused r (callOf (a .call) (a .numbers .now) (a .list .now)) (omega (arith, b .before .before .before .if1 .left)) (b .make .ensures .0 .gives) (c .before .before .of-answer .ensures) (omega (arith, c .if2 .taken)) (search needs) (search needs), search (b .make .ensures .0 .stays))
 
-save-back-requires : tie.Need-save-back-requires
-save-back-requires c κs = search needs
+save-only-requires : tie.Need-save-only-requires
+save-only-requires c κs = search needs
 
 same-length-4 : tie.Need-same-length-4
 same-length-4 c = search needs
@@ -55,8 +56,9 @@ returns-3 c =
     let r = b .before .before .before .before .restore .ensures in
     let a = b .before .before .before .before .before .before .before .before .before .args in
     let w = whole r (omega (arith, b .before .before .before .if1 .left)) in
-    let s = c .before .before .save-back .ensures in
-    (call-saved r (callOf (a .call) (a .numbers .now) (a .list .now)) (omega (arith, b .before .before .before .if1 .left)) (b .apply .ensures .gives) (i .before .before .of-answer .ensures) (omega (arith, i .if2 .left)) (search (saved-blocks w s)) (search (saved-whole w s)) (search needs), search (b .apply .ensures .stays))
+    let k = callOf (a .call) (a .numbers .now) (a .list .now) in
+    let s = c .before .before .save-only .ensures in
+    (call-saved r k (omega (arith, b .before .before .before .if1 .left)) (b .make .ensures .0 .gives) (i .before .before .of-answer .ensures) (omega (arith, i .if2 .left)) (search (saved-blocks refl w s)) (search (saved-whole refl w s)) (search needs), search (b .make .ensures .0 .stays))
 
 pub serve-spec : {M : Type 1} → statement M
 serve-spec =
@@ -66,12 +68,12 @@ serve-spec =
     refused-requires
     same-length
     returns
-    apply-requires
+    make-requires
     of-answer-requires
     same-length-2
     same-length-3
     returns-2
-    save-back-requires
+    save-only-requires
     same-length-4
     same-length-5
     returns-3)

@@ -1,4 +1,4 @@
--- `theorem::open` meets its contract: the station is opened with the settings that were passed in.
+-- `theorem::open` meets its contract: what is asked for is what was passed in.
 use borrow.Author.Needs.{needs}
 use Rattle.theorem.proofs.Chains.{opened-with}
 use Rattle.theorem.proofs.open.Statement.{statement}

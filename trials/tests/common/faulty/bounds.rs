@@ -2,8 +2,8 @@
 //! it.
 
 use super::{Error, Faulty};
-use trials::reference::Station;
-use trials::yard::{Refusal, Yard};
+use trials::reference::{Feeder, Station};
+use trials::yard::{Opening, Refusal, Settings, Yard};
 
 /// The bound from c × N, where the error is about it.
 fn wrong_bound(error: Error, hundredths: u64) -> Option<u64> {
@@ -17,28 +17,41 @@ fn wrong_bound(error: Error, hundredths: u64) -> Option<u64> {
 }
 
 impl Faulty {
-    /// The answer of the reference, and the station with the wrong bound or refusal.
-    pub fn opened(&mut self, limit: u32, percent: u32, tail: u32) -> Result<u32, Refusal> {
-        let answer = self.station.open(limit, percent, tail);
-        if matches!(answer, Err(1 | 2)) {
+    /// The answer of the reference, and the station with the wrong bounds or refusal.
+    pub fn opened(&mut self, opening: &Opening) -> Result<Vec<u32>, Refusal> {
+        let answer = self.station.open(opening);
+        if matches!(answer, Err(1 | 2 | 27)) {
             return answer;
         }
-        let (limit, percent, tail) = (u64::from(limit), u64::from(percent), u64::from(tail));
-        let right = Station::fresh(limit, percent, tail).bound;
-        let bound = wrong_bound(self.error, percent * limit).unwrap_or(right);
-        let refused = match self.error {
-            Error::RefusedBelowAHundred => percent * limit < 100,
-            Error::RoundedDownAndOpened => right == 0,
-            _ => bound == 0,
-        };
+        let feeders: Vec<Feeder> =
+            opening.up_to_count().map(|feeder| self.wrong_feeder(feeder)).collect();
         self.station = Station::fresh(1, 100, 0);
-        if refused {
+        if feeders.iter().any(|feeder| self.refused_for(feeder)) {
             return Err(3);
         }
-        if tail > 5 {
+        if feeders.iter().any(|feeder| feeder.tail > 5) {
             return Err(19);
         }
-        self.station = Station { bound, ..Station::fresh(limit, percent, tail) };
-        Ok(bound as u32)
+        if !(1..=720).contains(&opening.site_limit) {
+            return Err(28);
+        }
+        self.station = Station::of(opening.site_limit.into(), feeders);
+        Ok(self.station.feeders.iter().map(|feeder| feeder.bound as u32).collect())
+    }
+
+    fn wrong_feeder(&self, settings: Settings) -> Feeder {
+        let Settings { limit, percent, tail } = settings;
+        let right = Feeder::new(limit.into(), percent.into(), tail.into());
+        let bound = wrong_bound(self.error, right.percent * right.limit).unwrap_or(right.bound);
+        Feeder { bound, ..right }
+    }
+
+    fn refused_for(&self, feeder: &Feeder) -> bool {
+        let Feeder { limit, percent, bound, tail } = *feeder;
+        match self.error {
+            Error::RefusedBelowAHundred => percent * limit < 100,
+            Error::RoundedDownAndOpened => Feeder::new(limit, percent, tail).bound == 0,
+            _ => bound == 0,
+        }
     }
 }

@@ -38,7 +38,8 @@ impl Faulty {
             return false;
         }
         let plan = [held.as_slice(), &[charge]].concat();
-        self.counts(&plan).iter().all(|counts| self.station.rules().sound_in(counts))
+        let rules = self.station.rules(charge.feeder);
+        self.counts(&plan).iter().all(|counts| rules.sound_in(counts))
     }
 
     /// Refusal 16 before what the station holds is looked at, if that is the error.

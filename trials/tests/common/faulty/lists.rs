@@ -1,7 +1,8 @@
 //! Lists of starts from replans with an error in how they are made.
 
 use super::{Error, Faulty};
-use trials::reference::{in_ticket_order, latest_start_order, Charge, List, Station};
+use trials::reference::minutes::Rules;
+use trials::reference::{in_ticket_order, latest_start_order, Charge, List};
 
 const NO_START: u32 = 1;
 
@@ -25,34 +26,35 @@ const OF_OWN_ROUNDS: [Error; 15] = [
 ];
 
 impl Faulty {
-    pub fn latest_list(&self) -> List {
+    pub fn latest_list(&self, feeder: u32) -> List {
         match self.error {
-            Error::BegunTakenAsSound => self.list_by_own_minutes().ok_or(NO_START),
+            Error::BegunTakenAsSound => self.list_by_own_minutes(feeder).ok_or(NO_START),
             _ => {
-                let mut waiting = self.station.waiting();
+                let mut waiting = self.station.waiting(feeder);
                 waiting.sort_by_key(|charge| turn(self.error, charge));
-                self.station.place_in_turn(&waiting).ok_or(NO_START)
+                self.station.place_in_turn(feeder, &waiting).ok_or(NO_START)
             }
         }
     }
 
-    pub fn lines_list(&self, allowance: u32) -> (List, u32) {
-        // Under a cap of D there is no room for a rate that should have been refused.
-        let Station { bound, .. } = self.station;
-        if self.station.waiting().iter().any(|charge| charge.weight() > bound) {
+    pub fn lines_list(&self, feeder: u32, allowance: u32) -> (List, u32) {
+        // Under a cap of D, or a W, there is no room for a rate that should have been refused.
+        let Rules { bound, site, .. } = self.station.rules(feeder);
+        let waiting = self.station.waiting(feeder);
+        if waiting.iter().any(|charge| charge.weight() > bound.min(site)) {
             return (Err(NO_START), 1);
         }
         match OF_OWN_ROUNDS.contains(&self.error) {
-            true => self.own_rounds(allowance),
-            false => self.station.lines_list(allowance),
+            true => self.own_rounds(feeder, allowance),
+            false => self.station.lines_list(feeder, allowance),
         }
     }
 
     /// The list of a replan by latest start that looks at a charge's own minutes.
-    fn list_by_own_minutes(&self) -> Option<Vec<u64>> {
-        let (rules, clock) = (self.station.rules(), self.station.clock);
-        let (mut plan, mut placed) = (self.station.begun(), Vec::new());
-        for charge in latest_start_order(self.station.waiting()) {
+    fn list_by_own_minutes(&self, feeder: u32) -> Option<Vec<u64>> {
+        let (rules, clock) = (self.station.rules(feeder), self.station.clock);
+        let (mut plan, mut placed) = (self.station.begun(feeder), Vec::new());
+        for charge in latest_start_order(self.station.waiting(feeder)) {
             let start = self.first_start(&plan, charge, |plan, start| {
                 let own = (start - clock) as usize..(start - clock + charge.active_time()) as usize;
                 self.counts(plan)[own].iter().all(|counts| rules.sound_in(counts))

@@ -6,6 +6,7 @@
 mod boards;
 mod bounds;
 mod commits;
+mod feeders;
 mod lists;
 mod priority;
 mod rounds;
@@ -14,7 +15,7 @@ mod tails;
 mod withdrawals;
 
 use trials::reference::{Charge, List, Station};
-use trials::yard::{Committed, Found, Moved, Order, Planned, Refusal, Yard};
+use trials::yard::{Committed, Found, Moved, Opening, Order, Planned, Refusal, Yard};
 
 #[derive(Clone, Copy, Debug, PartialEq, Eq)]
 pub enum Error {
@@ -125,6 +126,42 @@ pub enum Error {
     /// It is counted in the search for starts.
     WithdrawnStillDraws,
     PlaceNotFreed,
+    // N14, several feeders on one contract
+    SiteNotInOrders,
+    SiteNotInReplans,
+    /// W is held against the feeder's own charges alone.
+    OthersNotCounted,
+    /// Waiting charges of other feeders are left out, as if they could still move.
+    OthersBegunOnly,
+    /// Cause 4 by the largest s + p of the site.
+    LastEndOfTheSite,
+    /// Cause 4 by the largest s + p + r of the feeder.
+    LastClearOfTheFeeder,
+    SiteNotInCause5,
+    LatenessOfTheSite,
+    /// 13 by the charges of all feeders.
+    PlacesOfTheSite,
+    /// 10 by the waiting charges of all feeders.
+    WaitingOfTheSite,
+    /// 9 by 360 places, however many feeders there are.
+    PlacesForOneFeeder,
+    ReportedByFeeder,
+    /// 18 without W.
+    RateNotAgainstTheSite,
+    SettingsPastTheCountRead,
+    /// A 2 of the first feeder before a 1 of the second.
+    FeederByFeeder,
+    /// 28 before 1.
+    SiteLimitFirst,
+    /// 27 after the settings of the feeders.
+    CountLast,
+    /// 29 after 4, 10 and 11.
+    FeederLast,
+    SiteLimitOfARefusedOpening,
+    /// r of the first feeder for all.
+    TailOfTheFirstFeeder,
+    /// 26 by the counts of all feeders, as if they were one.
+    RestOfTheSite,
     /// None of these, but the rounds are made as for those in which the error lies.
     OwnRounds,
 }
@@ -165,15 +202,19 @@ impl Faulty {
     /// A replan or an offer, unless the error is about all of them.
     fn plan(
         &mut self,
+        feeder: u32,
         call: impl FnOnce(&mut Faulty) -> Result<Planned, Refusal>,
     ) -> Result<Planned, Refusal> {
+        if self.station.feeder(feeder).is_none() {
+            return Err(29);
+        }
         let before = self.station.clone();
         let mut planned = self.with_clock(u64::MAX, call)?;
         if self.error == Error::RateLostByAPlan && planned.cause == 0 {
             self.station.charges.iter_mut().for_each(|charge| charge.rate = 1);
         }
         if self.error == Error::AlwaysKeeps {
-            planned = before.keep(7, planned.rounds);
+            planned = before.keep(feeder, 7, planned.rounds);
             self.station = before;
         }
         if self.error == Error::InventedRounds && planned.rounds > 0 {
@@ -186,11 +227,17 @@ impl Faulty {
     fn ordered(&self, order: Order) -> Result<Charge, Refusal> {
         let mut station = self.station.clone();
         if self.error == Error::RateAgainstTheLimitOnly {
-            station.bound = station.limit;
+            station.feeders.iter_mut().for_each(|feeder| feeder.bound = feeder.limit);
+        }
+        if self.error == Error::RateNotAgainstTheSite {
+            station.site_limit = 720;
         }
         let mut charge = match station.ordered(order) {
             Err(17 | 18) if self.error == Error::RateAfterDue && order.due > 2_000_000 => {
                 return Err(6);
+            }
+            Err(29) if self.error == Error::FeederLast && !(1..=3).contains(&order.line) => {
+                return Err(4);
             }
             answer => answer?,
         };
@@ -198,6 +245,8 @@ impl Faulty {
         match self.error {
             Error::FullFromTheStart => return Err(13),
             _ if self.places_gone() => return Err(13),
+            Error::PlacesOfTheSite if self.station.charges.len() >= 180 => return Err(13),
+            Error::TailOfTheFirstFeeder => charge.tail = self.station.feeders[0].tail,
             Error::HurryRefused6 if charge.due < met => return Err(6),
             Error::HurryRefused7 if charge.due < met => return Err(7),
             Error::LatenessFromTheClock => charge.due = charge.due.max(met),
@@ -208,10 +257,10 @@ impl Faulty {
 }
 
 impl Yard for Faulty {
-    fn open(&mut self, limit: u32, percent: u32, tail: u32) -> Result<u32, Refusal> {
+    fn open(&mut self, opening: &Opening) -> Result<Vec<u32>, Refusal> {
         self.reported = false;
         self.gone.clear();
-        self.opened_late(limit, percent, tail)
+        self.opened_site(opening)
     }
 
     fn preview(&mut self, order: Order) -> Result<u64, Refusal> {
@@ -229,7 +278,7 @@ impl Yard for Faulty {
     fn move_clock(&mut self, target: u32, report: &mut [u32]) -> Result<Moved, Refusal> {
         let untouched = report.to_vec();
         let mut moved =
-            self.with_clock(target.into(), |faulty| faulty.station.move_clock(target, report))?;
+            self.with_clock(target.into(), |faulty| faulty.moved_site(target, report))?;
         self.station.clock = target.into();
         moved.dropped += self.drop_at_the_end();
         if self.error == Error::ReportsOnlyOnce && self.reported {
@@ -240,33 +289,35 @@ impl Yard for Faulty {
         Ok(moved)
     }
 
-    fn offer(&mut self, starts: &[u32]) -> Result<Planned, Refusal> {
-        self.plan(|faulty| {
-            if starts.len() != faulty.station.waiting().len() {
+    fn offer(&mut self, feeder: u32, starts: &[u32]) -> Result<Planned, Refusal> {
+        self.feeder_last(feeder, 10, starts.is_empty())?;
+        self.plan(feeder, |faulty| {
+            if faulty.list_refused(feeder, starts.len()) {
                 return Err(10);
             }
-            Ok(faulty.ended(Ok(starts.iter().map(|start| u64::from(*start)).collect()), 0))
+            let starts = starts.iter().map(|start| u64::from(*start)).collect();
+            Ok(faulty.ended(feeder, Ok(starts), 0))
         })
     }
 
-    fn replan_by_latest_start(&mut self) -> Planned {
-        let planned = self.plan(|faulty| {
-            let list = faulty.latest_list();
-            Ok(faulty.ended(list, 0))
-        });
-        planned.expect("a replan by latest start is never refused")
+    fn replan_by_latest_start(&mut self, feeder: u32) -> Result<Planned, Refusal> {
+        self.plan(feeder, |faulty| {
+            let list = faulty.seen(feeder).latest_list(feeder);
+            Ok(faulty.ended(feeder, list, 0))
+        })
     }
 
-    fn replan_by_lines(&mut self, allowance: u32) -> Result<Planned, Refusal> {
-        self.plan(|faulty| {
+    fn replan_by_lines(&mut self, feeder: u32, allowance: u32) -> Result<Planned, Refusal> {
+        self.feeder_last(feeder, 11, (1..=1_000).contains(&allowance))?;
+        self.plan(feeder, |faulty| {
             if !(1..=1_000).contains(&allowance) {
                 return Err(11);
             }
             let (list, rounds): (List, u32) = match faulty.error {
                 Error::SpentAfterNoRound => (Err(2), 0),
-                _ => faulty.lines_list(allowance),
+                _ => faulty.seen(feeder).lines_list(feeder, allowance),
             };
-            Ok(faulty.ended(list, rounds))
+            Ok(faulty.ended(feeder, list, rounds))
         })
     }
 

@@ -3,23 +3,24 @@
 
 use super::starts::without_tail;
 use super::{Error, Faulty};
-use trials::reference::minutes::{count_charge, counts, Counts};
+use trials::reference::minutes::{count_charge, counts, site_counts, Counts};
 use trials::reference::{in_ticket_order, last_clear, Charge, List};
 
 const NO_START: u32 = 1;
 const ALLOWANCE_SPENT: u32 = 2;
 
 impl Faulty {
-    pub fn own_rounds(&self, allowance: u32) -> (List, u32) {
-        let station = &self.station;
-        let (clock, begun, waiting) = (station.clock, station.begun(), station.waiting());
+    pub fn own_rounds(&self, feeder: u32, allowance: u32) -> (List, u32) {
+        let (station, rules) = (&self.station, self.station.rules(feeder));
+        let (clock, begun, waiting) =
+            (station.clock, station.begun(feeder), station.waiting(feeder));
         let times: u64 = waiting.iter().map(Charge::active_time).sum();
-        let length = last_clear(&begun).max(clock) - clock + times;
-        let mut caps = vec![[station.limit; 3]; length as usize];
+        let length = last_clear(&station.unmoved(feeder)).max(clock) - clock + times;
+        let mut caps = vec![[rules.limit; 3]; length as usize];
         for rounds in 1..allowance + 1 {
-            let placed = self.placed(&begun, &waiting, &caps);
+            let placed = self.placed(feeder, &waiting, &caps);
             let counts = counts(&[begun.clone(), placed.clone()].concat(), clock, length);
-            let unbalanced = |counts: &Counts| !station.rules().balanced(counts);
+            let unbalanced = |counts: &Counts| !rules.balanced(counts);
             let Some(minute) = counts.iter().position(unbalanced) else {
                 return (Ok(in_ticket_order(placed)), rounds);
             };
@@ -27,34 +28,46 @@ impl Faulty {
             if !self.placed_there(&begun, &placed, most, clock + minute as u64) {
                 return (Err(NO_START), rounds);
             }
-            let cap = counts[minute][least] + station.bound;
+            let cap = counts[minute][least] + rules.bound;
             caps[minute..].iter_mut().for_each(|caps| caps[most] = caps[most].min(cap));
         }
         (Err(ALLOWANCE_SPENT), allowance)
     }
 
-    /// The waiting charges with the starts that the caps give them.
-    fn placed(&self, begun: &[Charge], waiting: &[Charge], caps: &[Counts]) -> Vec<Charge> {
+    /// The waiting charges with the starts that the caps give them, line after line.
+    fn placed(&self, feeder: u32, waiting: &[Charge], caps: &[Counts]) -> Vec<Charge> {
         let own = |line| waiting.iter().copied().filter(move |charge| charge.line == line);
-        [1, 2, 3]
-            .into_iter()
-            .flat_map(|line| self.line_placed(begun, own(line).collect(), caps))
-            .collect()
+        let mut placed = Vec::new();
+        for line in 1..=3 {
+            let more = self.line_placed(feeder, &placed, own(line).collect(), caps);
+            placed.extend(more);
+        }
+        placed
     }
 
-    /// Those of one line. The smallest start never falls, so it is looked for from the
-    /// last one on.
-    fn line_placed(&self, begun: &[Charge], own: Vec<Charge>, caps: &[Counts]) -> Vec<Charge> {
-        let clock = self.station.clock;
-        let mut counts = counts(&self.as_capped(begun), clock, caps.len() as u64);
+    /// Those of one line, beside those of the lines before it. The smallest start never falls, so
+    /// it is looked for from the last one on.
+    fn line_placed(
+        &self,
+        feeder: u32,
+        before: &[Charge],
+        own: Vec<Charge>,
+        caps: &[Counts],
+    ) -> Vec<Charge> {
+        let (clock, length) = (self.station.clock, caps.len() as u64);
+        let mut counts = counts(&self.as_capped(&self.station.begun(feeder)), clock, length);
+        let others = [self.station.unmoved(feeder).as_slice(), before].concat();
+        let mut site = site_counts(&others, clock, length);
         let (mut unplaced, mut placed, mut start) = (own.clone(), Vec::new(), clock);
         while !unplaced.is_empty() {
             let fits = |charge: &Charge, start: u64| {
+                let full = charge.weight();
                 let charge = self.capped(*charge);
                 let (line, weight) = (charge.line as usize - 1, charge.weight());
                 let mut minutes = start - clock..start - clock + charge.active_time();
                 minutes.all(|minute| {
                     counts[minute as usize][line] + weight <= caps[minute as usize][line]
+                        && site[minute as usize] + full <= self.station.site_limit
                 })
             };
             let any_fits = |start: &u64| unplaced.iter().any(|charge| fits(charge, *start));
@@ -69,6 +82,8 @@ impl Faulty {
             };
             unplaced.retain(|charge| charge.ticket != chosen.ticket);
             count_charge(&mut counts, &self.capped(chosen), clock);
+            let drawn = chosen.start - clock..chosen.clear() - clock;
+            drawn.for_each(|minute| site[minute as usize] += chosen.weight());
             placed.push(chosen);
         }
         placed

@@ -32,13 +32,20 @@ impl Faulty {
     /// none; then it is the clock.
     pub fn earliest(&self, charge: &Charge) -> u64 {
         let Station { clock, charges: held, .. } = &self.station;
-        let rules = self.station.rules();
+        let rules = self.station.rules(charge.feeder);
         let within = |plan: &[Charge]| self.all(plan, |counts| rules.within_limit(counts));
         let balanced = |plan: &[Charge]| self.all(plan, |counts| rules.balanced(counts));
         let start = match self.error {
             Error::QueuesBehindTheLastEnd => Some(last_clear(held).max(*clock)),
             Error::OneStartForEverybody => Some(1_000),
-            Error::WaitingIgnored => smallest_start(&self.station.begun(), charge, *clock, rules),
+            Error::WaitingIgnored => {
+                let begun = self.station.begun(charge.feeder);
+                smallest_start(&begun, charge, *clock, rules)
+            }
+            Error::SiteNotInOrders => {
+                let rules = Rules { site: u64::MAX, ..rules };
+                smallest_start(held, charge, *clock, rules)
+            }
             Error::CountedInTheMinuteOfTheEnd => {
                 let held: Vec<Charge> = held.iter().copied().map(with_its_end).collect();
                 smallest_start(&held, &with_its_end(*charge), *clock, rules)
@@ -89,7 +96,8 @@ impl Faulty {
         let Station { clock, charges: held, .. } = &self.station;
         let mut start = *clock;
         loop {
-            let tested = test(held, &charge.starting_at(start), self.station.rules());
+            let rules = self.station.rules(charge.feeder);
+            let tested = test(held, &charge.starting_at(start), rules);
             if tested.fits {
                 return start;
             }

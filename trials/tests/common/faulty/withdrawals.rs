@@ -1,7 +1,7 @@
 //! Withdrawals with an error in what is refused, or in what is left behind.
 
 use super::{Error, Faulty};
-use trials::reference::{Charge, Station};
+use trials::reference::{of_feeder, Charge, Station};
 use trials::yard::Refusal;
 
 impl Faulty {
@@ -10,7 +10,7 @@ impl Faulty {
         let mut rest = self.station.charges.clone();
         rest.retain(|charge| charge.ticket != ticket);
         let begun = charge.begun(self.station.clock);
-        match (begun, self.unsound(&rest)) {
+        match (begun, self.unsound(&rest, charge.feeder)) {
             (true, true) if self.error == Error::SoundnessBeforeBegun => return Err(26),
             (true, _) if self.error != Error::BegunWithdrawn => return Err(25),
             (_, true) => return Err(26),
@@ -21,19 +21,20 @@ impl Faulty {
         Ok(())
     }
 
-    fn unsound(&self, rest: &[Charge]) -> bool {
-        let rules = self.station.rules();
+    fn unsound(&self, rest: &[Charge], feeder: u32) -> bool {
+        let (rules, own) = (self.station.rules(feeder), of_feeder(rest, feeder));
         match self.error {
             Error::OnlyTheLimitTested => {
-                !self.counts(rest).iter().all(|counts| rules.within_limit(counts))
+                !self.counts(&own).iter().all(|counts| rules.within_limit(counts))
             }
-            _ => !rules.sound(rest, self.station.clock),
+            Error::RestOfTheSite => !rules.sound(rest, self.station.clock),
+            _ => !rules.sound(&own, self.station.clock),
         }
     }
 
     fn left_behind(&mut self, charge: Charge) {
         match self.error {
-            Error::OthersReplanned => self.move_up(),
+            Error::OthersReplanned => self.move_up(charge.feeder),
             Error::TicketGivenAgain if charge.ticket + 1 == self.station.next_ticket => {
                 self.station.next_ticket -= 1;
             }
@@ -43,9 +44,10 @@ impl Faulty {
     }
 
     /// The others get the smallest starts that there are now, in the order of their tickets.
-    fn move_up(&mut self) {
-        if let Some(starts) = self.station.place_in_turn(&self.station.waiting()) {
-            self.station.charges = self.station.with_starts(&starts);
+    fn move_up(&mut self, feeder: u32) {
+        let waiting = self.station.waiting(feeder);
+        if let Some(starts) = self.station.place_in_turn(feeder, &waiting) {
+            self.station.charges = self.station.with_starts(feeder, &starts);
         }
     }
 

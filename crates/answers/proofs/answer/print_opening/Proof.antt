@@ -1,5 +1,4 @@
 -- `answers::print_opening` meets its contract, case by case.
-use Rattle.answers.specs.Answers.{answerText}
 use mathlib.Core.List.{[]}
 use Rattle.text.proofs.Printing.{printed-as}
 use borrow.Author.Needs.{needs}
@@ -9,14 +8,11 @@ use Rattle.answers.proofs.answer.print_opening.Tie as tie
 enum-known-answer : tie.Need-enum-known-answer
 enum-known-answer c = search needs
 
-slice-aggregate-print-one : tie.Need-slice-aggregate-print-one
-slice-aggregate-print-one c = search needs
+slice-aggregate-print-opened : tie.Need-slice-aggregate-print-opened
+slice-aggregate-print-opened c = search needs
 
-cast-print-one : tie.Need-cast-print-one
-cast-print-one c = search needs
-
-print-one-requires : tie.Need-print-one-requires
-print-one-requires c κs = search needs
+print-opened-requires : tie.Need-print-opened-requires
+print-opened-requires c κs = search needs
 
 enum-known-answer-2 : tie.Need-enum-known-answer-2
 enum-known-answer-2 c = search needs
@@ -28,24 +24,21 @@ same-length : tie.Need-same-length
 same-length c = search needs
 
 returns : tie.Need-returns
-unfolding answerText
-returns c = rw (c .before .before .before .before .before .before .answer .given .1) (printed-as (c .before .before .print-one .ensures) (search))
+returns c = rw (c .before .before .before .before .before .before .answer .given .1) (printed-as (c .before .before .print-opened .ensures) search)
 
 same-length-2 : tie.Need-same-length-2
 same-length-2 c = search needs
 
 returns-2 : tie.Need-returns-2
-unfolding answerText
-returns-2 c = rw (c .before .before .before .before .before .answer2 .given .1) (printed-as (c .before .before .print-refused .ensures 0 []) (search))
+returns-2 c = rw (c .before .before .before .before .before .answer2 .given .1) (printed-as (c .before .before .print-refused .ensures 0 []) search)
 
 pub print-opening-spec : {M : Type 1} → statement M
 print-opening-spec =
     tie.close
     (tie.spec
     enum-known-answer
-    slice-aggregate-print-one
-    cast-print-one
-    print-one-requires
+    slice-aggregate-print-opened
+    print-opened-requires
     enum-known-answer-2
     print-refused-requires
     same-length

@@ -1,6 +1,6 @@
 -- Not valid, or compared with its own contents.
 use borrow.Author.Tests.{not-true, not-false}
-use Rattle.station.specs.View.{view}
+use Rattle.station.specs.View.{view, stationOf}
 use Rattle.image.proofs.Answering.{not-of, of-told}
 use borrow.Author.Needs.{needs}
 use Rattle.image.proofs.restoring.is_of.Statement.{statement}
@@ -12,7 +12,7 @@ is-valid-requires c κs = search needs
 returns : tie.Need-returns
 returns c =
     let a = c .before .before .before .args in
-    not-of (a .contents .now) (view (a .station)) _ (c .before .is-valid .ensures) (not-true _ (c .if1 .taken))
+    not-of (a .contents .now) (view (stationOf (a .one))) _ (c .before .is-valid .ensures) (not-true _ (c .if1 .taken))
 
 contents-of-requires : tie.Need-contents-of-requires
 contents-of-requires c κs = search needs
@@ -26,7 +26,7 @@ same-part-requires c κs = search needs
 returns-2 : tie.Need-returns-2
 returns-2 c =
     let a = c .before .before .before .before .before .before .args in
-    of-told (a .contents .now) (view (a .station)) _ _ _ (c .before .before .before .before .is-valid .ensures) (not-false _ (c .before .before .before .if1 .left)) (c .before .before .contents-of .ensures) (c .same-part .ensures)
+    of-told (a .contents .now) (view (stationOf (a .one))) _ _ _ (c .before .before .before .before .is-valid .ensures) (not-false _ (c .before .before .before .if1 .left)) (c .before .before .contents-of .ensures) (c .same-part .ensures)
 
 pub is-of-spec : {M : Type 1} → statement M
 is-of-spec =

@@ -1,15 +1,14 @@
 -- Beside a refusal stands the fresh station.
 use mathlib.Core.Path.{refl}
-use Rattle.image.proofs.Answering.{open-least}
 use borrow.Author.Needs.{needs}
 use Rattle.image.proofs.restoring.refused.Statement.{statement}
 use Rattle.image.proofs.restoring.refused.Tie as tie
 
-open-requires : tie.Need-open-requires
-open-requires c κs = search needs
+least-requires : tie.Need-least-requires
+least-requires c κs = search needs
 
 returns : tie.Need-returns
-returns c = (refl, open-least _ (c .before .open .result .station) (c .before .open .ensures .result), c .before .open .ensures .valid)
+returns c = (refl, c .least .ensures .state-is, c .least .ensures .alone)
 
 pub refused-spec : {M : Type 1} → statement M
-refused-spec = tie.close (tie.spec open-requires returns)
+refused-spec = tie.close (tie.spec least-requires returns)

@@ -6,10 +6,10 @@ use Rattle.lines.proofs.next.next_start.Statement.{statement}
 use Rattle.lines.proofs.next.next_start.Tie as tie
 
 start-for-requires : tie.Need-start-for-requires
-start-for-requires c κs = let s = c .before .before in seek-for (s .pre .0) (omega (arith, s .pre .0 .in-order))
+start-for-requires c κs = let s = c .before .before .before .before in seek-for (s .pre .0) (omega (arith, s .pre .0 .in-order)) (omega arith)
 
 start-for-requires-2 : tie.Need-start-for-requires-2
-start-for-requires-2 c κs = let s = c .before .before .before in seek-for (s .pre .1) (omega (arith, s .pre .1 .in-order))
+start-for-requires-2 c κs = let s = c .before .before .before .before .before in seek-for (s .pre .1) (omega (arith, s .pre .1 .in-order)) (omega arith)
 
 smaller-requires : tie.Need-smaller-requires
 smaller-requires c κs = search needs

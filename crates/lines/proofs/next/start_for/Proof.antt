@@ -8,7 +8,7 @@ returns c = record { earliest = λ h. absurd (omega (arith, c .if1 .taken)); non
 
 next-under-requires : tie.Need-next-under-requires
 next-under-requires c κs =
-    let s = c .before in (s .pre .can-start, s .pre .on-line, s .pre .capped (omega (arith, c .if1 .left)), s .pre .low)
+    let s = c .before .before .before .before in (s .pre .can-start, s .pre .on-line, s .pre .capped (omega (arith, c .if1 .left)), s .pre .low)
 
 returns-2 : tie.Need-returns-2
 returns-2 c = record { earliest = λ h. c .next-under .ensures; none = λ e. absurd (omega (arith, c .before .if1 .left)) }

@@ -22,58 +22,58 @@ abbrev μ-minutes : tie.MeasureT-minutes
 μ-minutes at counts n bound i₀ i = n - i
 
 minutes-holds : tie.Need-minutes-holds Inv-loop μ-loop Inv-minutes μ-minutes
-minutes-holds c = (c .pre .some, walked-none _ _ (c .pre))
+minutes-holds c = (c .before .before .pre .some, walked-none _ _ (c .before .before .pre))
 
 loop-holds : tie.Need-loop-holds Inv-loop μ-loop Inv-minutes μ-minutes
 loop-holds c = compared-none _ _ _
 
 count-of-requires : tie.Need-count-of-requires Inv-loop μ-loop Inv-minutes μ-minutes
-count-of-requires c κs = omega (arith, c .before .before .before .pre .fits)
+count-of-requires c κs = omega (arith, c .before .before .before .before .before .pre .fits)
 
 add-count-of : tie.Need-add-count-of Inv-loop μ-loop Inv-minutes μ-minutes
-add-count-of c = omega (arith, c .before .before .before .before .pre .fits)
+add-count-of c = omega (arith, c .before .before .before .before .before .before .pre .fits)
 
 count-of-requires-2 : tie.Need-count-of-requires-2 Inv-loop μ-loop Inv-minutes μ-minutes
-count-of-requires-2 c κs = omega (arith, c .before .before .before .before .pre .fits)
+count-of-requires-2 c κs = omega (arith, c .before .before .before .before .before .before .pre .fits)
 
 difference-requires : tie.Need-difference-requires Inv-loop μ-loop Inv-minutes μ-minutes
 difference-requires c κs = search needs
 
 mul-minute : tie.Need-mul-minute Inv-loop μ-loop Inv-minutes μ-minutes
-mul-minute c = omega (arith, c .before .before .before .before .before .before .before .pre .fits)
+mul-minute c = omega (arith, c .before .before .before .before .before .before .before .before .before .pre .fits)
 
-element-copy-out-minute : tie.Need-element-copy-out-minute Inv-loop μ-loop Inv-minutes μ-minutes
-element-copy-out-minute c = omega (arith, c .before .before .before .before .before .before .before .pre .fits)
+shared-slice-read-minute : tie.Need-shared-slice-read-minute Inv-loop μ-loop Inv-minutes μ-minutes
+shared-slice-read-minute c = omega (arith, c .before .before .before .before .before .before .before .before .before .before .pre .fits)
 
 add-line : tie.Need-add-line Inv-loop μ-loop Inv-minutes μ-minutes
-add-line c = omega (arith, c .before .before .before .before .before .before .before .pre .fits)
+add-line c = omega (arith, c .before .before .before .before .before .before .before .before .before .pre .fits)
 
 loop-less : tie.Need-loop-less Inv-loop μ-loop Inv-minutes μ-minutes
-loop-less c = omega (arith, c .before .before .before .before .before .before .before .pre .fits)
+loop-less c = omega (arith, c .before .before .before .before .before .before .before .before .before .pre .fits)
 
 loop-again : tie.Need-loop-again Inv-loop μ-loop Inv-minutes μ-minutes
 loop-again c = compared-more (c .before .before .before .before .before .loop .inv) (omega (arith, c .before .before .before .before .loop-test .taken)) (c .before .before .before .count-of .ensures) (c .before .before .count-of2 .ensures) (c .before .difference .ensures) (omega (arith, c .if1 .left))
 
 add-i : tie.Need-add-i Inv-loop μ-loop Inv-minutes μ-minutes
-add-i c = omega (arith, c .before .before .before .pre .fits)
+add-i c = omega (arith, c .before .before .before .before .before .pre .fits)
 
 returns : tie.Need-returns Inv-loop μ-loop Inv-minutes μ-minutes
 returns c =
     let w = c .before .before .before .minutes .inv in
-    record { answer = walked-done (walked-more (balanced-tests _) (c .before .before .before .before .pre) (w .1) (w .0) (compared-all (c .before .before .loop .inv) (omega (arith, c .before .loop-test .left)))) (c .if2 .taken) }
+    record { answer = walked-done (walked-more (balanced-tests _) (c .before .before .before .before .before .before .pre) (w .1) (w .0) (compared-all (c .before .before .loop .inv) (omega (arith, c .before .loop-test .left)))) (c .if2 .taken) }
 
 minutes-less : tie.Need-minutes-less Inv-loop μ-loop Inv-minutes μ-minutes
-minutes-less c = omega (arith, c .before .before .before .before .pre .fits)
+minutes-less c = omega (arith, c .before .before .before .before .before .before .pre .fits)
 
 minutes-again : tie.Need-minutes-again Inv-loop μ-loop Inv-minutes μ-minutes
 minutes-again c =
     let w = c .before .before .before .minutes .inv in
-    (omega arith, walked-more (balanced-tests _) (c .before .before .before .before .pre) (w .1) (w .0) (compared-all (c .before .before .loop .inv) (omega (arith, c .before .loop-test .left))))
+    (omega arith, walked-more (balanced-tests _) (c .before .before .before .before .before .before .pre) (w .1) (w .0) (compared-all (c .before .before .loop .inv) (omega (arith, c .before .loop-test .left))))
 
 returns-2 : tie.Need-returns-2 Inv-loop μ-loop Inv-minutes μ-minutes
 returns-2 c =
     let w = c .before .before .before .before .before .before .before .minutes .inv in
-    record { answer = walked-fails (balanced-tests _) (c .before .before .before .before .before .before .before .before .pre) (w .1) (w .0) (compared-off (c .before .before .before .before .before .before .loop .inv) (omega (arith, c .before .before .before .before .before .loop-test .taken)) (c .before .before .before .before .count-of .ensures) (c .before .before .before .count-of2 .ensures) (c .before .before .difference .ensures) (omega (arith, c .before .if1 .taken))) }
+    record { answer = walked-fails (balanced-tests _) (c .before .before .before .before .before .before .before .before .before .before .pre) (w .1) (w .0) (compared-off (c .before .before .before .before .before .before .loop .inv) (omega (arith, c .before .before .before .before .before .loop-test .taken)) (c .before .before .before .before .count-of .ensures) (c .before .before .before .count-of2 .ensures) (c .before .before .difference .ensures) (omega (arith, c .before .if1 .taken))) }
 
 pub first-unbalanced-spec : {M : Type 1} → statement M
 first-unbalanced-spec =
@@ -90,7 +90,7 @@ first-unbalanced-spec =
     count-of-requires-2
     difference-requires
     mul-minute
-    element-copy-out-minute
+    shared-slice-read-minute
     add-line
     loop-less
     loop-again

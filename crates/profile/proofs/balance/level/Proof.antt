@@ -14,7 +14,7 @@ count-of-requires c κs = search needs
 
 returns : tie.Need-returns
 returns c =
-    let a = c .before .before .args in
+    let a = c .before .before .before .before .args in
     let p = profileOf (a .n) (a .at .now) (a .counts .now) in
     omega (arith, c .count-of .ensures, level-in (a .at .now) (lineOf p (a .line)) (a .n) _ (a .t) (c .before .place .ensures))
 

@@ -27,8 +27,8 @@ add-middle c = omega arith
 mul-if1 : tie.Need-mul-if1 Inv-loop μ-loop
 mul-if1 c = omega arith
 
-element-copy-out-if1 : tie.Need-element-copy-out-if1 Inv-loop μ-loop
-element-copy-out-if1 c = omega arith
+shared-slice-read-if1 : tie.Need-shared-slice-read-if1 Inv-loop μ-loop
+shared-slice-read-if1 c = omega arith
 
 loop-less : tie.Need-loop-less Inv-loop μ-loop
 loop-less c = omega arith
@@ -42,7 +42,7 @@ loop-less-2 c = omega arith
 loop-again-2 : tie.Need-loop-again-2 Inv-loop μ-loop
 loop-again-2 c =
     let l = c .before .before .before in
-    (omega arith, omega arith, l .loop .inv .2, all-later (l .before .args .at .now) _ _ _ (l .before .pre .3) (omega (arith, c .if1 .left)))
+    (omega arith, omega arith, l .loop .inv .2, all-later (l .before .args .at .now) _ _ _ (l .before .pre .4) (omega (arith, c .if1 .left)))
 
 returns : tie.Need-returns Inv-loop μ-loop
 returns c = record { below = omega arith; begun = omega arith; later = λ j a b. c .before .loop .inv .3 j (omega arith) b }
@@ -58,7 +58,7 @@ place-spec =
     sub-middle
     add-middle
     mul-if1
-    element-copy-out-if1
+    shared-slice-read-if1
     loop-less
     loop-again
     loop-less-2

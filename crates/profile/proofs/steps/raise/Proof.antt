@@ -15,7 +15,7 @@ abbrev μ-loop : tie.MeasureT-loop
 μ-loop counts₀ line rate i j k₀ counts k = j - k
 
 loop-holds : tie.Need-loop-holds Inv-loop μ-loop
-loop-holds c = (search needs, search needs, raised-none _ _ _ _ (c .pre .0))
+loop-holds c = (search needs, search needs, raised-none _ _ _ _)
 
 mul-p : tie.Need-mul-p Inv-loop μ-loop
 mul-p c = search needs
@@ -29,8 +29,8 @@ sub-p c = search needs
 mul-counts : tie.Need-mul-counts Inv-loop μ-loop
 mul-counts c = search needs
 
-element-copy-out-counts : tie.Need-element-copy-out-counts Inv-loop μ-loop
-element-copy-out-counts c = search needs
+slice-read-counts : tie.Need-slice-read-counts Inv-loop μ-loop
+slice-read-counts c = search needs
 
 add-counts : tie.Need-add-counts Inv-loop μ-loop
 add-counts c =
@@ -41,8 +41,8 @@ add-counts c =
 mul-counts-2 : tie.Need-mul-counts-2 Inv-loop μ-loop
 mul-counts-2 c = search needs
 
-element-write-counts : tie.Need-element-write-counts Inv-loop μ-loop
-element-write-counts c = search needs
+slice-write-counts : tie.Need-slice-write-counts Inv-loop μ-loop
+slice-write-counts c = search needs
 
 add-k : tie.Need-add-k Inv-loop μ-loop
 add-k c = search needs
@@ -52,6 +52,9 @@ loop-less c = search needs
 
 loop-again : tie.Need-loop-again Inv-loop μ-loop
 loop-again c = (search needs, search needs, raised-on (c .before .before .before .pre .1) (omega arith) (omega arith) refl (c .before .before .loop .inv .2))
+
+same-length : tie.Need-same-length Inv-loop μ-loop
+same-length c = c .before .loop .inv .2 .size
 
 returns : tie.Need-returns Inv-loop μ-loop
 returns c =
@@ -68,11 +71,12 @@ raise-spec =
     add-p
     sub-p
     mul-counts
-    element-copy-out-counts
+    slice-read-counts
     add-counts
     mul-counts-2
-    element-write-counts
+    slice-write-counts
     add-k
     loop-less
     loop-again
+    same-length
     returns)

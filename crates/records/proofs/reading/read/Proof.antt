@@ -1,6 +1,7 @@
--- The header and the columns are the station that the contents are of.
+-- The header and the columns are the feeder that the contents are of.
 use native.Mathlib.Omega.{arith}
-use Rattle.records.proofs.Columning.{held-few, header-ranged, product-told, read-from}
+use Rattle.records.proofs.Columning.{held-few, header-ranged, product-told}
+use Rattle.records.proofs.StationRead.{read-from}
 use borrow.Author.Needs.{needs}
 use Rattle.records.proofs.reading.read.Statement.{statement}
 use Rattle.records.proofs.reading.read.Tie as tie
@@ -43,10 +44,20 @@ number-at-requires-5 c κs = search needs
 number-at-requires-6 : tie.Need-number-at-requires-6
 number-at-requires-6 c κs = search needs
 
+number-at-requires-7 : tie.Need-number-at-requires-7
+number-at-requires-7 c κs = search needs
+
 returns : tie.Need-returns
 returns c =
-    let b = c .before .before .before .before .before .before .before .before .before in
-    read-from (b .args .contents .now) (b .pre .1) _ _ _ _ _ _ _ _ (c .before .before .before .before .before .before .before .number-at .ensures) (c .before .before .before .before .before .before .number-at2 .ensures) (c .before .before .before .before .before .number-at3 .ensures) (c .before .number-at5 .ensures) (c .number-at6 .ensures) (c .before .before .before .before .number-at4 .ensures) (c .before .before .nearest-hundreds .ensures) (c .before .before .before .read-charges .ensures)
+    let h = c .before .before .before .before in
+    let b = h .before .before .before .before .before .before in
+    let limit = h .before .before .before .before .number-at .ensures in
+    let percent = h .before .before .before .number-at2 .ensures in
+    let tail = h .before .before .number-at3 .ensures in
+    let held = h .before .number-at4 .ensures in
+    let site = c .before .before .number-at5 .ensures in
+    read-from (b .args .contents .now) (b .pre .1) _ _ _ _ _ _ _ _ _ limit percent tail (c .before .number-at6 .ensures) (c .number-at7 .ensures)
+    held site (c .before .before .before .nearest-hundreds .ensures) (h .read-charges .ensures)
 
 pub read-spec : {M : Type 1} → statement M
 read-spec =
@@ -62,4 +73,5 @@ read-spec =
     nearest-hundreds-requires
     number-at-requires-5
     number-at-requires-6
+    number-at-requires-7
     returns)

@@ -2,7 +2,7 @@
 use mathlib.Core.Path.{refl}
 use Prim.Native.Nat.{ℕ, _+_, _-_, _≤_, _<_}
 use lib.ListN.{getD}
-use Rattle.rules.specs.Calls.{places}
+use Rattle.rules.specs.Site.{places}
 use Rattle.charges.specs.Arrays.{Filled}
 use Rattle.charges.proofs.Storing.{zeros}
 use Rattle.records.specs.Contents.{recordIn}

@@ -1,6 +1,6 @@
 -- The header and each column are the contents of the station.
 use mathlib.Core.Path.{refl}
-use Rattle.station.specs.View.{view}
+use Rattle.validity.specs.Settled.{single}
 use Rattle.records.specs.Contents.{contentByte, contentsOf}
 use Rattle.records.proofs.Begun.{begun-none, begun-skip, begun-all}
 use Rattle.records.proofs.Packing.{last-content, header-of, behind-header, row-of, column-of}
@@ -9,8 +9,8 @@ use borrow.Author.Needs.{needs}
 use Rattle.records.proofs.writing.contents_of.Statement.{statement}
 use Rattle.records.proofs.writing.contents_of.Tie as tie
 
-cast-t6 : tie.Need-cast-t6
-cast-t6 c = search needs
+cast-t7 : tie.Need-cast-t7
+cast-t7 c = search needs
 
 slice-aggregate-put-header : tie.Need-slice-aggregate-put-header
 slice-aggregate-put-header c = search needs
@@ -54,7 +54,7 @@ slice-aggregate-put-row-2 c = search needs
 put-row-requires-2 : tie.Need-put-row-requires-2
 put-row-requires-2 c κs =
     let p = c .before .before .before .before in
-    (omega (arith, p .before .before .before .before .before .before .before .before .before .before .before .before .before .before .before .before .before .before .before .before .before .before .before .before .before .before .before .before .before .pre .few), omega arith, omega arith, p .put-row .ensures .long)
+    (omega (arith, p .before .before .before .before .before .before .before .before .before .before .before .before .before .before .before .before .before .before .before .before .before .before .before .before .before .before .before .before .before .before .pre .few), omega arith, omega arith, p .put-row .ensures .long)
 
 slice-aggregate-put-row-3 : tie.Need-slice-aggregate-put-row-3
 slice-aggregate-put-row-3 c = search needs
@@ -62,7 +62,7 @@ slice-aggregate-put-row-3 c = search needs
 put-row-requires-3 : tie.Need-put-row-requires-3
 put-row-requires-3 c κs =
     let p = c .before .before .before .before in
-    (omega (arith, p .before .before .before .before .before .before .before .before .before .before .before .before .before .before .before .before .before .before .before .before .before .before .before .before .before .before .before .before .before .before .before .before .before .before .pre .few), omega arith, omega arith, p .put-row2 .ensures .long)
+    (omega (arith, p .before .before .before .before .before .before .before .before .before .before .before .before .before .before .before .before .before .before .before .before .before .before .before .before .before .before .before .before .before .before .before .before .before .before .before .pre .few), omega arith, omega arith, p .put-row2 .ensures .long)
 
 slice-aggregate-put-row-4 : tie.Need-slice-aggregate-put-row-4
 slice-aggregate-put-row-4 c = search needs
@@ -70,7 +70,7 @@ slice-aggregate-put-row-4 c = search needs
 put-row-requires-4 : tie.Need-put-row-requires-4
 put-row-requires-4 c κs =
     let p = c .before .before .before .before in
-    (omega (arith, p .before .before .before .before .before .before .before .before .before .before .before .before .before .before .before .before .before .before .before .before .before .before .before .before .before .before .before .before .before .before .before .before .before .before .before .before .before .before .before .pre .few), omega arith, omega arith, p .put-row3 .ensures .long)
+    (omega (arith, p .before .before .before .before .before .before .before .before .before .before .before .before .before .before .before .before .before .before .before .before .before .before .before .before .before .before .before .before .before .before .before .before .before .before .before .before .before .before .before .before .pre .few), omega arith, omega arith, p .put-row3 .ensures .long)
 
 returns : tie.Need-returns
 unfolding contentsOf
@@ -84,26 +84,27 @@ returns c =
     let q2 = q3 .before .before .before .before .before in
     let q1 = q2 .before .before .before .before .before in
     let h = q1 .before .before .before .before .before in
-    let b = h .before .before .before .before in
-    let s = b .args .station in
-    let f = contentByte (view s) in
+    let b = h .before .before .before .before .before in
+    let o = b .args .one in
+    let k = b .pre in
+    let f = contentByte (single o) in
     begun-all
-    (p4 .put-row4 .ensures .put f (row-of s (b .pre) _ 19 0 (omega arith) (λ q. refl))
-    (p3 .put-row3 .ensures .put f (row-of s (b .pre) _ 18 0 (omega arith) (λ q. refl))
-    (p2 .put-row2 .ensures .put f (row-of s (b .pre) _ 17 1 (omega arith) (λ q. refl))
-    (p1 .put-row .ensures .put f (row-of s (b .pre) _ 16 0 (omega arith) (λ q. refl))
-    (q4 .put-column4 .ensures .put f (column-of s (b .pre) _ 12 (omega arith) (λ q. refl) (λ q. refl) (λ q. refl) (λ q. refl))
-    (q3 .put-column3 .ensures .put f (column-of s (b .pre) _ 8 (omega arith) (λ q. refl) (λ q. refl) (λ q. refl) (λ q. refl))
-    (q2 .put-column2 .ensures .put f (column-of s (b .pre) _ 4 (omega arith) (λ q. refl) (λ q. refl) (λ q. refl) (λ q. refl))
-    (q1 .put-column .ensures .put f (column-of s (b .pre) _ 0 (omega arith) (λ q. refl) (λ q. refl) (λ q. refl) (λ q. refl))
-    (begun-skip (h .put-header .ensures .put f (header-of s) (begun-none f)) 508 (omega arith) (behind-header (view s)))))))))))
-    (omega arith) (last-content (view s))
+    (p4 .put-row4 .ensures .put f (row-of o k _ 19 0 (omega arith) (λ q. refl))
+    (p3 .put-row3 .ensures .put f (row-of o k _ 18 0 (omega arith) (λ q. refl))
+    (p2 .put-row2 .ensures .put f (row-of o k _ 17 1 (omega arith) (λ q. refl))
+    (p1 .put-row .ensures .put f (row-of o k _ 16 0 (omega arith) (λ q. refl))
+    (q4 .put-column4 .ensures .put f (column-of o k _ 12 (omega arith) (λ q. refl) (λ q. refl) (λ q. refl) (λ q. refl))
+    (q3 .put-column3 .ensures .put f (column-of o k _ 8 (omega arith) (λ q. refl) (λ q. refl) (λ q. refl) (λ q. refl))
+    (q2 .put-column2 .ensures .put f (column-of o k _ 4 (omega arith) (λ q. refl) (λ q. refl) (λ q. refl) (λ q. refl))
+    (q1 .put-column .ensures .put f (column-of o k _ 0 (omega arith) (λ q. refl) (λ q. refl) (λ q. refl) (λ q. refl))
+    (begun-skip (h .put-header .ensures .put f (header-of o) (begun-none f)) 508 (omega arith) (behind-header (single o)))))))))))
+    (omega arith) (last-content (single o))
 
 pub contents-of-spec : {M : Type 1} → statement M
 contents-of-spec =
     tie.close
     (tie.spec
-    cast-t6
+    cast-t7
     slice-aggregate-put-header
     put-header-requires
     slice-aggregate-put-column

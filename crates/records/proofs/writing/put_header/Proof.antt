@@ -12,15 +12,15 @@ use Rattle.records.proofs.writing.put_header.Tie as tie
 
 abbrev Inv-loop : tie.InvT-loop
 Inv-loop header contents₀ w₀ contents w =
-    (w ≤ 6)
+    (w ≤ 7)
     × (length contents ≡ 4572)
     × ((f : ℕ → ℕ)
-    → ((v j : ℕ) → v < 6 → j < 4 → byteOf j (getD header v 0) ≡ f (4 * v + j))
+    → ((v j : ℕ) → v < 7 → j < 4 → byteOf j (getD header v 0) ≡ f (4 * v + j))
     → Begun f 0 contents₀
     → Begun f (4 * w) contents)
 
 abbrev μ-loop : tie.MeasureT-loop
-μ-loop header contents₀ w₀ contents w = 6 - w
+μ-loop header contents₀ w₀ contents w = 7 - w
 
 loop-holds : tie.Need-loop-holds Inv-loop μ-loop
 loop-holds c = (omega arith, c .before .pre, λ f h b. b)
@@ -58,7 +58,7 @@ same-length c = omega arith
 returns : tie.Need-returns Inv-loop μ-loop
 returns c =
     let l = c .before in
-    let e : 4 * l .loop .w ≡ 24 = omega arith in
+    let e : 4 * l .loop .w ≡ 28 = omega arith in
     record { long = l .loop .inv .1; put = λ f h b. rw e at (l .loop .inv .2 f h b) }
 
 pub put-header-spec : {M : Type 1} → statement M

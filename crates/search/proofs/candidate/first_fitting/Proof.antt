@@ -3,7 +3,7 @@ use Prim.Native.Nat.{_-_}
 use native.Mathlib.Omega.{arith}
 use borrow.Author.Needs.{needs}
 use Rattle.profile.specs.Shows.{profileOf}
-use Rattle.search.proofs.Candidates.{Fitting, fitting-begin, fitting-test, fitting-done, fitting-below, fitting-order, fitting-on, fitting-ends}
+use Rattle.search.proofs.Fittings.{Fitting, fitting-begin, fitting-test, fitting-done, fitting-below, fitting-order, fitting-on, fitting-ends}
 use Rattle.search.proofs.candidate.first_fitting.Statement.{statement}
 use Rattle.search.proofs.candidate.first_fitting.Tie as tie
 
@@ -14,37 +14,37 @@ abbrev μ-loop : tie.MeasureT-loop
 μ-loop at counts n limits draw start until i₀ s₀ i s = n - i
 
 place-requires : tie.Need-place-requires Inv-loop μ-loop
-place-requires c κs = let can = c .pre .can in (can .formed .some, can .formed .fits, c .pre .low, can .formed .rises)
+place-requires c κs = let can = c .before .before .pre .can in (can .formed .some, can .formed .fits, omega (arith, can .formed .fits, can .formed .at-size), c .before .before .pre .low, can .formed .rises)
 
 loop-holds : tie.Need-loop-holds Inv-loop μ-loop
 loop-holds c = fitting-begin _ _ _ (c .place .ensures)
 
 add-if1 : tie.Need-add-if1 Inv-loop μ-loop
-add-if1 c = omega (arith, c .before .loop .inv .high, c .before .before .before .pre .can .ends-fit, c .before .before .before .pre .ends-fit)
+add-if1 c = omega (arith, c .before .loop .inv .high, c .before .before .before .before .before .pre .can .ends-fit, c .before .before .before .before .before .pre .ends-fit)
 
 test-start-requires : tie.Need-test-start-requires Inv-loop μ-loop
-test-start-requires c κs = fitting-test (c .before .before .before .before .pre) (c .before .before .loop .inv) (omega (arith, c .if1 .taken))
+test-start-requires c κs = fitting-test (c .before .before .before .before .before .before .pre) (c .before .before .loop .inv) (omega (arith, c .if1 .taken))
 
 returns : tie.Need-returns Inv-loop μ-loop
-returns c = fitting-done (c .before .before .before .before .before .before .pre) (c .before .before .before .before .loop .inv) (omega (arith, c .before .before .if1 .taken)) (c .before .test-start .ensures) (c .if2 .taken)
+returns c = fitting-done (c .before .before .before .before .before .before .before .before .pre) (c .before .before .before .before .loop .inv) (omega (arith, c .before .before .if1 .taken)) (c .before .test-start .ensures) (c .if2 .taken)
 
 add-i : tie.Need-add-i Inv-loop μ-loop
-add-i c = omega (arith, fitting-below (c .before .before .before .before .before .before .before .pre) (c .before .before .before .before .before .loop .inv) (omega (arith, c .before .before .before .if1 .taken)) (c .before .before .test-start .ensures) (c .before .if2 .left), c .before .before .before .before .before .before .before .pre .can .formed .fits)
+add-i c = omega (arith, fitting-below (c .before .before .before .before .before .before .before .before .before .pre) (c .before .before .before .before .before .loop .inv) (omega (arith, c .before .before .before .if1 .taken)) (c .before .before .test-start .ensures) (c .before .if2 .left), c .before .before .before .before .before .before .before .before .before .pre .can .formed .fits, c .before .before .before .before .before .before .before .before .before .pre .can .formed .at-size)
 
 mul-smaller : tie.Need-mul-smaller Inv-loop μ-loop
-mul-smaller c = omega (arith, fitting-below (c .before .before .before .before .before .before .before .pre) (c .before .before .before .before .before .loop .inv) (omega (arith, c .before .before .before .if1 .taken)) (c .before .before .test-start .ensures) (c .before .if2 .left), c .before .before .before .before .before .before .before .pre .can .formed .fits)
+mul-smaller c = omega (arith, fitting-below (c .before .before .before .before .before .before .before .before .before .pre) (c .before .before .before .before .before .loop .inv) (omega (arith, c .before .before .before .if1 .taken)) (c .before .before .test-start .ensures) (c .before .if2 .left), c .before .before .before .before .before .before .before .before .before .pre .can .formed .fits, c .before .before .before .before .before .before .before .before .before .pre .can .formed .at-size)
 
-element-copy-out-smaller : tie.Need-element-copy-out-smaller Inv-loop μ-loop
-element-copy-out-smaller c = omega (arith, fitting-below (c .before .before .before .before .before .before .before .pre) (c .before .before .before .before .before .loop .inv) (omega (arith, c .before .before .before .if1 .taken)) (c .before .before .test-start .ensures) (c .before .if2 .left), c .before .before .before .before .before .before .before .pre .can .formed .fits)
+shared-slice-read-smaller : tie.Need-shared-slice-read-smaller Inv-loop μ-loop
+shared-slice-read-smaller c = omega (arith, fitting-below (c .before .before .before .before .before .before .before .before .before .before .pre) (c .before .before .before .before .before .before .loop .inv) (omega (arith, c .before .before .before .before .if1 .taken)) (c .before .before .before .test-start .ensures) (c .before .before .if2 .left), c .before .before .before .before .before .before .before .before .before .before .pre .can .formed .fits, c .before .before .before .before .before .before .before .before .before .before .pre .can .formed .at-size)
 
 smaller-requires : tie.Need-smaller-requires Inv-loop μ-loop
 smaller-requires c κs = search needs
 
 loop-less : tie.Need-loop-less Inv-loop μ-loop
-loop-less c = omega (arith, fitting-below (c .before .before .before .before .before .before .before .before .before .pre) (c .before .before .before .before .before .before .before .loop .inv) (omega (arith, c .before .before .before .before .before .if1 .taken)) (c .before .before .before .before .test-start .ensures) (c .before .before .before .if2 .left), fitting-order (c .before .before .before .before .before .before .before .before .before .pre) (c .before .before .before .before .before .before .before .loop .inv) (omega (arith, c .before .before .before .before .before .if1 .taken)) (c .before .before .before .before .test-start .ensures) (c .before .before .before .if2 .left))
+loop-less c = omega (arith, fitting-below (c .before .before .before .before .before .before .before .before .before .before .before .pre) (c .before .before .before .before .before .before .before .loop .inv) (omega (arith, c .before .before .before .before .before .if1 .taken)) (c .before .before .before .before .test-start .ensures) (c .before .before .before .if2 .left), fitting-order (c .before .before .before .before .before .before .before .before .before .before .before .pre) (c .before .before .before .before .before .before .before .loop .inv) (omega (arith, c .before .before .before .before .before .if1 .taken)) (c .before .before .before .before .test-start .ensures) (c .before .before .before .if2 .left))
 
 loop-again : tie.Need-loop-again Inv-loop μ-loop
-loop-again c = fitting-on (c .before .before .before .before .before .before .before .before .before .pre) (c .before .before .before .before .before .before .before .loop .inv) (omega (arith, c .before .before .before .before .before .if1 .taken)) (c .before .before .before .before .test-start .ensures) (c .before .before .before .if2 .left) (omega arith) (omega (arith, c .smaller .ensures))
+loop-again c = fitting-on (c .before .before .before .before .before .before .before .before .before .before .before .pre) (c .before .before .before .before .before .before .before .loop .inv) (omega (arith, c .before .before .before .before .before .if1 .taken)) (c .before .before .before .before .test-start .ensures) (c .before .before .before .if2 .left) (omega arith) (omega (arith, c .smaller .ensures))
 
 returns-2 : tie.Need-returns-2 Inv-loop μ-loop
 returns-2 c = fitting-ends (c .before .before .loop .inv) (omega (arith, c .if1 .left))
@@ -62,7 +62,7 @@ first-fitting-spec =
     returns
     add-i
     mul-smaller
-    element-copy-out-smaller
+    shared-slice-read-smaller
     smaller-requires
     loop-less
     loop-again

@@ -1,95 +1,40 @@
--- The invariant: every minute before t has room, and t lies in step i.
-use Prim.Native.Nat.{_-_}
-use native.Mathlib.Omega.{arith}
+-- `search::fit::run_under` meets its contract.
 use borrow.Author.Needs.{needs}
+use native.Mathlib.Omega.{arith}
 use Rattle.profile.specs.Shows.{profileOf}
-use Rattle.search.specs.Caps.{capsIn, roomUnder}
-use Rattle.search.proofs.Rooms.{Walk, walk-start, walk-fails, walk-on}
-use Rattle.search.proofs.Unders.{step-room, run-ends, run-fails}
+use Rattle.search.specs.Caps.{capsIn}
+use Rattle.search.proofs.Rooms.{told-at, told-nothing}
+use Rattle.search.proofs.Unders.{run-ends, run-fails}
 use Rattle.search.proofs.fit.run_under.Statement.{statement}
 use Rattle.search.proofs.fit.run_under.Tie as tie
 
-abbrev Inv-loop : tie.InvT-loop
-Inv-loop at counts n caps line rate most from until i₀ t₀ i t = Walk (roomUnder (profileOf n at counts) (capsIn caps) line rate) at n from until i t
+place-requires : tie.Need-place-requires
+place-requires c κs = let f = c .before .before .pre .formed in (f .some, f .fits, omega (arith, f .fits, f .at-size), c .before .before .pre .low, f .rises)
 
-abbrev μ-loop : tie.MeasureT-loop
-μ-loop at counts n caps line rate most from until i₀ t₀ i t = n - i
+first-failing-requires : tie.Need-first-failing-requires
+first-failing-requires c κs = (c .before .before .before .pre, c .place .ensures)
 
-add-until : tie.Need-add-until Inv-loop μ-loop
-add-until c = omega (arith, c .pre .ends-fit)
+enum-known-f : tie.Need-enum-known-f
+enum-known-f c = search needs
 
-place-requires : tie.Need-place-requires Inv-loop μ-loop
-place-requires c κs = (c .pre .formed .some, c .pre .formed .fits, c .pre .low, c .pre .formed .rises)
+enum-told : tie.Need-enum-told
+enum-told c = search needs
 
-loop-holds : tie.Need-loop-holds Inv-loop μ-loop
-loop-holds c = walk-start _ (c .place .ensures)
-
-end-of-requires : tie.Need-end-of-requires Inv-loop μ-loop
-end-of-requires c κs = (c .before .loop .inv .here (c .loop-test .taken) .below, c .before .before .before .pre .formed .fits)
-
-count-of-requires : tie.Need-count-of-requires Inv-loop μ-loop
-count-of-requires c κs = (omega (arith, c .before .before .loop .inv .here (c .before .loop-test .taken) .below, c .before .before .before .before .pre .formed .fits), c .before .before .before .before .pre .on-line)
-
-under-requires : tie.Need-under-requires Inv-loop μ-loop
-under-requires c κs = (c .before .before .before .before .before .pre .whole, c .before .before .before .before .before .pre .on-line)
-
-larger-requires : tie.Need-larger-requires Inv-loop μ-loop
-larger-requires c κs = search needs
-
-sub-result : tie.Need-sub-result Inv-loop μ-loop
-sub-result c = omega (arith, c .before .larger .ensures, c .before .before .before .before .before .before .loop .inv .low)
-
-returns : tie.Need-returns Inv-loop μ-loop
+returns : tie.Need-returns
 returns c =
-    let l = c .before .before .before .before .before .before in
-    let s = l .before .before in
-    let a = s .args in
-    let p = profileOf (a .n) (a .at .now) (a .counts .now) in
-    run-fails p (capsIn (a .caps .now)) (a .line) (a .rate) (a .most) (omega arith) {m = c .before .larger .result}
-    (walk-fails (c .before .before .under .result) (s .pre .formed .rises) (step-room p (capsIn (a .caps .now)) (a .line) (a .rate) (l .loop .i) (c .before .before .under .ensures) (omega (arith, c .before .before .before .count-of .ensures)))
-    (l .loop .inv) (c .before .before .before .before .before .loop-test .taken) (c .before .before .before .before .end-of .ensures) (omega (arith, c .before .larger .ensures)) (omega (arith, s .pre .ends-fit)) (omega (arith, c .if1 .taken)))
-    (omega arith)
+    let a = c .before .before .before .before .before .before .args in
+    run-ends (profileOf (a .n) (a .at .now) (a .counts .now)) (a .site) (capsIn (a .caps .now)) (a .draw .line) (a .draw .rate) (a .draw .time) (omega arith)
+    (told-nothing _ _ _ _ _ _ (c .before .before .first-failing .ensures) (c .enum-told .given .1)) (omega arith)
 
-add-i : tie.Need-add-i Inv-loop μ-loop
-add-i c =
-    let l = c .before .before .before .before .before .before in
-    omega (arith, l .loop .inv .here (c .before .before .before .before .before .loop-test .taken) .below, l .before .before .pre .formed .fits)
+sub-result : tie.Need-sub-result
+sub-result c = omega (arith, told-at _ _ _ _ _ _ _ _ (c .before .before .before .first-failing .ensures) (c .before .f .given .1) .low)
 
-loop-less : tie.Need-loop-less Inv-loop μ-loop
-loop-less c =
-    let l = c .before .before .before .before .before .before in
-    omega (arith, l .loop .inv .here (c .before .before .before .before .before .loop-test .taken) .below)
-
-loop-again : tie.Need-loop-again Inv-loop μ-loop
-loop-again c =
-    let l = c .before .before .before .before .before .before in
-    let s = l .before .before in
-    let a = s .args in
-    let p = profileOf (a .n) (a .at .now) (a .counts .now) in
-    walk-on {m = c .before .larger .result} (c .before .before .under .result) (s .pre .formed .rises) (step-room p (capsIn (a .caps .now)) (a .line) (a .rate) (l .loop .i) (c .before .before .under .ensures) (omega (arith, c .before .before .before .count-of .ensures)))
-    (l .loop .inv) (c .before .before .before .before .before .loop-test .taken) (c .before .before .before .before .end-of .ensures) (omega (arith, c .before .larger .ensures)) (omega (arith, c .if1 .left)) (omega arith)
-
-returns-2 : tie.Need-returns-2 Inv-loop μ-loop
+returns-2 : tie.Need-returns-2
 returns-2 c =
-    let a = c .before .before .before .args in
-    run-ends (profileOf (a .n) (a .at .now) (a .counts .now)) (capsIn (a .caps .now)) (a .line) (a .rate) (a .most) (omega arith) (c .before .loop .inv) (omega (arith, c .loop-test .left))
+    let a = c .before .before .before .before .before .before .before .args in
+    run-fails (profileOf (a .n) (a .at .now) (a .counts .now)) (a .site) (capsIn (a .caps .now)) (a .draw .line) (a .draw .rate) (a .draw .time) (omega arith)
+    (told-at _ _ _ _ _ _ _ _ (c .before .before .before .first-failing .ensures) (c .before .f .given .1)) (omega arith)
 
 pub run-under-spec : {M : Type 1} → statement M
 run-under-spec =
-    tie.close
-    (tie.spec
-    Inv-loop
-    μ-loop
-    add-until
-    place-requires
-    loop-holds
-    end-of-requires
-    count-of-requires
-    under-requires
-    larger-requires
-    sub-result
-    returns
-    add-i
-    loop-less
-    loop-again
-    returns-2)
+    tie.close (tie.spec place-requires first-failing-requires enum-known-f enum-told returns sub-result returns-2)

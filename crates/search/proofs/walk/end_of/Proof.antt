@@ -13,8 +13,8 @@ add-smaller c = search needs
 mul-smaller : tie.Need-mul-smaller
 mul-smaller c = search needs
 
-element-copy-out-smaller : tie.Need-element-copy-out-smaller
-element-copy-out-smaller c = search needs
+shared-slice-read-smaller : tie.Need-shared-slice-read-smaller
+shared-slice-read-smaller c = search needs
 
 smaller-requires : tie.Need-smaller-requires
 smaller-requires c κs = search needs
@@ -42,7 +42,7 @@ end-of-spec =
     add-if1
     add-smaller
     mul-smaller
-    element-copy-out-smaller
+    shared-slice-read-smaller
     smaller-requires
     returns
     returns-2)

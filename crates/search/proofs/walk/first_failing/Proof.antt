@@ -2,44 +2,58 @@
 use Prim.Native.Nat.{_-_}
 use native.Mathlib.Omega.{arith}
 use borrow.Author.Needs.{needs}
-use lib.ListN.{getD}
-use Rattle.search.specs.Rooms.{roomAt}
-use Rattle.search.proofs.Rooms.{room-in, Walk, walk-start, walk-fails, walk-on}
+use Rattle.profile.specs.Shows.{profileOf}
+use Rattle.search.specs.Caps.{capsIn, roomUnder}
+use Rattle.search.proofs.Rooms.{Walk, walk-start, walk-fails, walk-on}
+use Rattle.search.proofs.Unders.{step-room}
 use Rattle.search.proofs.walk.first_failing.Statement.{statement}
 use Rattle.search.proofs.walk.first_failing.Tie as tie
 
 abbrev Inv-loop : tie.InvT-loop
-Inv-loop at rooms n step from until i₀ t₀ i t = Walk (roomAt at rooms n) at n from until i t
+Inv-loop at counts n caps site draw step from until i₀ t₀ i t = Walk (roomUnder (profileOf n at counts) site (capsIn caps) (draw .line) (draw .rate)) at n from until i t
 
 abbrev μ-loop : tie.MeasureT-loop
-μ-loop at rooms n step from until i₀ t₀ i t = n - i
+μ-loop at counts n caps site draw step from until i₀ t₀ i t = n - i
+
+add-until : tie.Need-add-until Inv-loop μ-loop
+add-until c = omega (arith, c .before .before .before .pre .0 .ends-fit)
 
 loop-holds : tie.Need-loop-holds Inv-loop μ-loop
-loop-holds c = walk-start _ (c .pre .2)
+loop-holds c = walk-start _ (c .before .before .before .pre .1)
 
 end-of-requires : tie.Need-end-of-requires Inv-loop μ-loop
-end-of-requires c κs = (c .before .loop .inv .here (c .loop-test .taken) .below, c .before .before .pre .0)
+end-of-requires c κs = let f = c .before .before .before .before .before .pre .0 .formed in (c .before .loop .inv .here (c .loop-test .taken) .below, f .fits, omega (arith, f .fits, f .at-size))
 
-mul-larger : tie.Need-mul-larger Inv-loop μ-loop
-mul-larger c = omega (arith, c .before .before .loop .inv .here (c .before .loop-test .taken) .below)
-
-element-copy-out-larger : tie.Need-element-copy-out-larger Inv-loop μ-loop
-element-copy-out-larger c = omega (arith, c .before .before .loop .inv .here (c .before .loop-test .taken) .below)
+under-in-requires : tie.Need-under-in-requires Inv-loop μ-loop
+under-in-requires c κs =
+    let f = c .before .before .before .before .before .before .pre .0 .formed in
+    let below = c .before .before .loop .inv .here (c .before .loop-test .taken) .below in
+    (omega (arith, below, f .fits, f .counts-size), omega (arith, below, f .fits, f .at-size), c .before .before .before .before .before .before .pre .0 .whole, c .before .before .before .before .before .before .pre .0 .on-line)
 
 larger-requires : tie.Need-larger-requires Inv-loop μ-loop
 larger-requires c κs = search needs
 
 returns : tie.Need-returns Inv-loop μ-loop
-returns c = walk-fails (getD (c .before .before .before .before .before .before .args .rooms .now) (c .before .before .before .before .before .loop .i) 0) (c .before .before .before .before .before .before .pre .1) (λ v b. room-in (c .before .before .before .before .before .before .args .rooms .now) b) (c .before .before .before .before .before .loop .inv) (c .before .before .before .before .loop-test .taken) (c .before .before .before .end-of .ensures) (omega (arith, c .before .larger .ensures)) (omega arith) (omega (arith, c .if1 .taken))
+returns c =
+    let l = c .before .before .before .before .before in
+    let s = c .before .before .before .before .before .before .before .before .before in
+    let a = s .args in
+    walk-fails (c .before .before .under-in .result) (s .pre .0 .formed .rises) (step-room (profileOf (a .n) (a .at .now) (a .counts .now)) (a .site) (capsIn (a .caps .now)) (a .draw .line) (a .draw .rate) (l .loop .i) (search (c .before .before .under-in .ensures)))
+    (l .loop .inv) (c .before .before .before .before .loop-test .taken) (c .before .before .before .end-of .ensures) (omega (arith, c .before .larger .ensures)) (omega (arith, s .pre .0 .ends-fit)) (omega (arith, c .if1 .taken))
 
 add-i : tie.Need-add-i Inv-loop μ-loop
-add-i c = omega (arith, c .before .before .before .before .before .loop .inv .here (c .before .before .before .before .loop-test .taken) .below)
+add-i c = omega (arith, c .before .before .before .before .before .loop .inv .here (c .before .before .before .before .loop-test .taken) .below, c .before .before .before .before .before .before .before .before .before .pre .0 .formed .fits, c .before .before .before .before .before .before .before .before .before .pre .0 .formed .at-size)
 
 loop-less : tie.Need-loop-less Inv-loop μ-loop
 loop-less c = omega (arith, c .before .before .before .before .before .loop .inv .here (c .before .before .before .before .loop-test .taken) .below)
 
 loop-again : tie.Need-loop-again Inv-loop μ-loop
-loop-again c = walk-on {m = c .before .larger .result} (getD (c .before .before .before .before .before .before .args .rooms .now) (c .before .before .before .before .before .loop .i) 0) (c .before .before .before .before .before .before .pre .1) (λ v b. room-in (c .before .before .before .before .before .before .args .rooms .now) b) (c .before .before .before .before .before .loop .inv) (c .before .before .before .before .loop-test .taken) (c .before .before .before .end-of .ensures) (omega (arith, c .before .larger .ensures)) (omega (arith, c .if1 .left)) (omega arith)
+loop-again c =
+    let l = c .before .before .before .before .before in
+    let s = c .before .before .before .before .before .before .before .before .before in
+    let a = s .args in
+    walk-on {m = c .before .larger .result} (c .before .before .under-in .result) (s .pre .0 .formed .rises) (step-room (profileOf (a .n) (a .at .now) (a .counts .now)) (a .site) (capsIn (a .caps .now)) (a .draw .line) (a .draw .rate) (l .loop .i) (search (c .before .before .under-in .ensures)))
+    (l .loop .inv) (c .before .before .before .before .loop-test .taken) (c .before .before .before .end-of .ensures) (omega (arith, c .before .larger .ensures)) (omega (arith, c .if1 .left)) (omega arith)
 
 returns-2 : tie.Need-returns-2 Inv-loop μ-loop
 returns-2 c = λ v a b. c .before .loop .inv .passed v a (omega arith)
@@ -50,10 +64,10 @@ first-failing-spec =
     (tie.spec
     Inv-loop
     μ-loop
+    add-until
     loop-holds
     end-of-requires
-    mul-larger
-    element-copy-out-larger
+    under-in-requires
     larger-requires
     returns
     add-i

@@ -1,5 +1,5 @@
 use mathlib.Core.Path.{ap}
-use Rattle.station.specs.Answers.{boardAnswer}
+use Rattle.site.specs.Answers.{boardAnswer}
 use Rattle.service.proofs.Telling.{tells-taken}
 use borrow.Author.Needs.{needs}
 use Rattle.service.proofs.numbers.of_board.Statement.{statement}

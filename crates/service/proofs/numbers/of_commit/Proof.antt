@@ -1,5 +1,5 @@
 use mathlib.Core.Path.{ap}
-use Rattle.station.specs.Answers.{commitAnswer}
+use Rattle.ordering.specs.Answers.{commitAnswer}
 use Rattle.service.proofs.Telling.{tells-taken}
 use borrow.Author.Needs.{needs}
 use Rattle.service.proofs.numbers.of_commit.Statement.{statement}

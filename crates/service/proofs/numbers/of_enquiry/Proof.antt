@@ -1,6 +1,6 @@
 -- `service::numbers::of_enquiry` meets its contract, case by case.
 use mathlib.Core.Path.{ap}
-use Rattle.station.specs.Answers.{enquiryAnswer}
+use Rattle.site.specs.Answers.{enquiryAnswer}
 use Rattle.calls.proofs.Enquiries.{refused-left}
 use Rattle.service.proofs.Telling.{tells-taken}
 use Rattle.service.specs.declared.numbers.Numbers.{Numbers}

@@ -1,5 +1,5 @@
 use mathlib.Core.Path.{ap}
-use Rattle.station.specs.Answers.{planAnswer}
+use Rattle.planning.specs.Answers.{planAnswer}
 use Rattle.service.proofs.Telling.{tells-taken}
 use Rattle.service.specs.declared.numbers.Numbers.{Numbers}
 use borrow.Author.Needs.{needs}

@@ -1,9 +1,10 @@
--- `session::turn` meets its contract, for each of the ways in which a turn ends.
+-- `session::turn` meets its contract, for each of the ways in which a turn ends: the input has ended, the buffer is full, or bytes are wanted.
+use mathlib.Core.Logic.{⊎-elim}
 use mathlib.Core.Path.{sym, _∙_}
 use Prim.Native.Nat.{_+_}
 use native.Mathlib.Omega.{arith}
 use lib.Seq.{length-take-le}
-use Rattle.session.proofs.Turning.{turned-as, turned-last, turned-full, turned-waiting}
+use Rattle.session.proofs.Turning.{all, part, turned-last, turned-on}
 use borrow.Author.Needs.{needs}
 use Rattle.session.proofs.turn.turn.Statement.{statement}
 use Rattle.session.proofs.turn.turn.Tie as tie
@@ -41,8 +42,18 @@ slice-aggregate-answer-requests c = sym (length-take-le _ _ (c .before .before .
 answer-requests-requires : tie.Need-answer-requests-requires
 answer-requests-requires c κs = search needs
 
+kept-to-requires : tie.Need-kept-to-requires
+kept-to-requires c κs =
+    let s = c .before .before .before .before .before .before .before .before .before .before .before .before .before .before .before .before .before .before .before in
+    omega (arith, c .before .before .before .before .before .before .answer-requests .ensures .0 .within, length-take-le (s .args .session .held + s .args .count) (s .args .block .now) (s .pre .1 .0))
+
 carry-requires : tie.Need-carry-requires
-carry-requires c κs = (omega (arith, c .before .before .before .before .before .before .before .before .before .answer-requests .ensures .0 .within, length-take-le (c .before .before .before .before .before .before .before .before .before .before .before .before .before .before .before .before .before .before .before .before .before .before .args .session .held + c .before .before .before .before .before .before .before .before .before .before .before .before .before .before .before .before .before .before .before .before .before .before .args .count) (c .before .before .before .before .before .before .before .before .before .before .before .before .before .before .before .before .before .before .before .before .before .before .args .block .now) (c .before .before .before .before .before .before .before .before .before .before .before .before .before .before .before .before .before .before .before .before .before .before .pre .1 .0)), c .before .before .before .before .before .before .before .before .before .before .before .before .before .before .before .before .before .before .before .before .before .before .pre .1 .0)
+carry-requires c κs =
+    let kept = c .before .before .kept-to .ensures in
+    let fits = c .before .before .before .before .before .before .before .before .before .before .before .before .before .before .before .before .before .before .before .before .before .before .pre .1 .0 in
+    ⊎-elim (λ w. (omega (arith, w .1, kept .low, kept .high), omega (arith, w .1, fits)))
+    (λ w. (omega (arith, w .1, kept .low), omega (arith, w .1, kept .high, fits)))
+    (c .before .if2 .came)
 
 same-length-5 : tie.Need-same-length-5
 same-length-5 c = search needs
@@ -58,33 +69,12 @@ same-length-8 c = search needs
 
 returns-2 : tie.Need-returns-2
 returns-2 c =
-    turned-as
-    (turned-full (c .before .before .before .before .before .before .before .before .before .before .before .before .before .before .before .before .before .before .before .before .before .before .before .before .before .args .session) (c .before .before .before .before .before .before .before .before .before .before .before .before .before .before .before .before .before .before .before .before .before .before .before .before .before .args .count) (c .before .before .before .before .before .before .before .before .before .before .before .before .before .before .before .before .before .before .before .before .before .before .before .before .before .args .block .now) (sym (c .before .before .before .before .before .before .before .before .before .before .before .before .before .before .before .before .before .before .before .before .input-ends .ensures) ∙ c .before .before .before .before .before .before .before .before .before .before .before .before .before .before .before .before .before .before .before .if1 .left) (c .before .before .before .before .before .before .before .before .before .before .before .before .before .before .before .before .before .before .before .before .before .before .before .before .before .pre .1 .0) (c .before .before .before .before .before .before .before .before .before .before .before .before .answer-requests .ensures .0) (c .before .before .before .before .if2 .taken) (omega (arith, c .before .before .carry .ensures .0), search (c .before .before .carry .ensures .1)))
-    (search) (search) (omega arith)
-
-kept-to-requires : tie.Need-kept-to-requires
-kept-to-requires c κs = omega (arith, c .before .before .before .before .before .before .before .before .answer-requests .ensures .0 .within, length-take-le (c .before .before .before .before .before .before .before .before .before .before .before .before .before .before .before .before .before .before .before .before .before .args .session .held + c .before .before .before .before .before .before .before .before .before .before .before .before .before .before .before .before .before .before .before .before .before .args .count) (c .before .before .before .before .before .before .before .before .before .before .before .before .before .before .before .before .before .before .before .before .before .args .block .now) (c .before .before .before .before .before .before .before .before .before .before .before .before .before .before .before .before .before .before .before .before .before .pre .1 .0))
-
-carry-requires-2 : tie.Need-carry-requires-2
-carry-requires-2 c κs = (omega (arith, c .before .kept-to .ensures .low), omega (arith, c .before .kept-to .ensures .high, c .before .before .before .before .before .before .before .before .before .before .before .before .before .before .before .before .before .before .before .before .before .before .before .pre .1 .0))
-
-same-length-9 : tie.Need-same-length-9
-same-length-9 c = search needs
-
-same-length-10 : tie.Need-same-length-10
-same-length-10 c = search needs
-
-same-length-11 : tie.Need-same-length-11
-same-length-11 c = search needs
-
-same-length-12 : tie.Need-same-length-12
-same-length-12 c = search needs
-
-returns-3 : tie.Need-returns-3
-returns-3 c =
-    turned-as
-    (turned-waiting (c .before .before .before .before .before .before .before .before .before .before .before .before .before .before .before .before .before .before .before .before .before .before .before .before .before .before .args .session) (c .before .before .before .before .before .before .before .before .before .before .before .before .before .before .before .before .before .before .before .before .before .before .before .before .before .before .args .count) (c .before .before .before .before .before .before .before .before .before .before .before .before .before .before .before .before .before .before .before .before .before .before .before .before .before .before .args .block .now) (sym (c .before .before .before .before .before .before .before .before .before .before .before .before .before .before .before .before .before .before .before .before .before .input-ends .ensures) ∙ c .before .before .before .before .before .before .before .before .before .before .before .before .before .before .before .before .before .before .before .before .if1 .left) (c .before .before .before .before .before .before .before .before .before .before .before .before .before .before .before .before .before .before .before .before .before .before .before .before .before .before .pre .1 .0) (c .before .before .before .before .before .before .before .before .before .before .before .before .before .answer-requests .ensures .0) (omega (arith, c .before .before .before .before .before .if2 .left)) (c .before .before .before .before .before .before .before .before .before .before .before .before .before .answer-requests .ensures .1) (c .before .before .before .before .kept-to .ensures) (omega (arith, c .before .before .carry2 .ensures .0), search (c .before .before .carry2 .ensures .1)))
-    (search) (search) (omega arith)
+    let s = c .before .before .before .before .before .before .before .before .before .before .before .before .before .before .before .before .before .before .before .before .before .before .before .before .before .before in
+    turned-on (s .args .session) (s .args .count) (s .args .block .now) (sym (c .before .before .before .before .before .before .before .before .before .before .before .before .before .before .before .before .before .before .before .before .before .input-ends .ensures) ∙ c .before .before .before .before .before .before .before .before .before .before .before .before .before .before .before .before .before .before .before .before .if1 .left) (s .pre .1 .0) (c .before .before .before .before .before .before .before .before .before .before .before .before .before .answer-requests .ensures .0) {to = c .before .before .before .before .before .if2 .to} (c .before .before .before .before .before .before .before .before .before .before .before .before .before .answer-requests .ensures .1) (c .before .before .before .before .before .before .kept-to .ensures)
+    (⊎-elim (λ w. all (omega (arith, w .0 .taken)) (omega (arith, w .1)) (search (w .2))) (λ w. part (omega (arith, w .0 .left)) (omega (arith, w .1)) (search (w .2))) (c .before .before .before .before .before .if2 .came))
+    (omega (arith, c .before .before .before .carry .ensures .0), search (c .before .before .before .carry .ensures .1))
+    (search)
+    (omega arith)
 
 pub turn-spec : {M : Type 1} → statement M
 turn-spec =
@@ -101,16 +91,10 @@ turn-spec =
     slice-reshare-prefix-answer-requests
     slice-aggregate-answer-requests
     answer-requests-requires
+    kept-to-requires
     carry-requires
     same-length-5
     same-length-6
     same-length-7
     same-length-8
-    returns-2
-    kept-to-requires
-    carry-requires-2
-    same-length-9
-    same-length-10
-    same-length-11
-    same-length-12
-    returns-3)
+    returns-2)

@@ -1,9 +1,10 @@
--- The settings 1, 100 and 0 are refused by nothing, so that a refused opening has a fresh station too.
-use mathlib.Core.Path.{sym, _∙_}
+-- Beside a refused opening stands the least station; one that is not refused has a fresh station of its settings.
+use mathlib.Core.Path.{sym, ap, _∙_}
 use native.Mathlib.Omega.{arith}
-use Rattle.station.specs.Answers.{settingsOf}
+use lib.ListN.{length}
+use Rattle.station.specs.declared.Station.{Station}
+use Rattle.station.specs.Opened.{askedOf}
 use Rattle.station.proofs.Opened.{open-refused, open-opened}
-use Rattle.station.proofs.Refusing.{opening-gives}
 use borrow.Author.Needs.{needs}
 use Rattle.station.proofs.Station.open.Statement.{statement}
 use Rattle.station.proofs.Station.open.Tie as tie
@@ -11,30 +12,35 @@ use Rattle.station.proofs.Station.open.Tie as tie
 open-refusal-requires : tie.Need-open-refusal-requires
 open-refusal-requires c κs = search needs
 
-fresh-requires : tie.Need-fresh-requires
-fresh-requires c κs = search needs
+least-requires : tie.Need-least-requires
+least-requires c κs = search needs
 
 returns : tie.Need-returns
 returns c =
-    let s = c .before .before .before in
-    opening-gives (settingsOf (s .args .settings)) _ (c .fresh .result) (c .fresh .ensures .1)
-    (open-refused (settingsOf (s .args .settings)) (c .before .before .open-refusal .result) (c .fresh .result)
-    (c .before .before .open-refusal .ensures)
-    (c .before .if1 .taken)
-    (c .fresh .ensures .0))
+    open-refused (askedOf (c .before .before .before .args .asked)) _ (c .before .before .open-refusal .ensures) (c .before .if1 .taken)
+    (c .least .ensures)
+    (search)
 
-fresh-requires-2 : tie.Need-fresh-requires-2
-fresh-requires-2 c κs = sym (c .before .open-refusal .ensures) ∙ omega arith
+fresh-requires : tie.Need-fresh-requires
+fresh-requires c κs = sym (c .before .open-refusal .ensures) ∙ omega arith
+
+bounds-requires : tie.Need-bounds-requires
+bounds-requires c κs = ap (λ (s : Station). length (s .feeders)) (c .fresh .ensures)
 
 returns-2 : tie.Need-returns-2
 returns-2 c =
-    let s = c .before .before .before in
-    opening-gives (settingsOf (s .args .settings)) _ (c .fresh2 .result) (c .fresh2 .ensures .1)
-    (open-opened (settingsOf (s .args .settings)) (c .before .before .open-refusal .result) (c .fresh2 .result)
-    (c .before .before .open-refusal .ensures)
+    open-opened (c .before .before .before .before .args .asked) _ _ _ (c .before .before .before .open-refusal .ensures)
     (omega arith)
-    (c .fresh2 .ensures .0))
+    (c .before .fresh .ensures)
+    (c .bounds .ensures)
 
 pub open-spec : {M : Type 1} → statement M
 open-spec =
-    tie.close (tie.spec open-refusal-requires fresh-requires returns fresh-requires-2 returns-2)
+    tie.close
+    (tie.spec
+    open-refusal-requires
+    least-requires
+    returns
+    fresh-requires
+    bounds-requires
+    returns-2)

@@ -1,25 +1,39 @@
--- Settings that are not refused have a product of at most 6,000, which fits; the bound is the rules' and no charge is held.
-use native.Mathlib.Omega.{arith}
-use Rattle.station.specs.Answers.{settingsOf}
-use Rattle.station.proofs.Opened.{opens, product-most, view-fresh}
+-- Four feeders, each that of its place.
 use borrow.Author.Needs.{needs}
 use Rattle.station.proofs.open.fresh.Statement.{statement}
 use Rattle.station.proofs.open.fresh.Tie as tie
 
-mul-product : tie.Need-mul-product
-mul-product c =
-    let granted = opens (settingsOf (c .args .settings)) (c .pre) in
-    omega (arith, product-most (c .args .settings .limit) (c .args .settings .percent) (granted .limit-high) (granted .percent-high))
+fresh-at-requires : tie.Need-fresh-at-requires
+fresh-at-requires c κs = search needs
 
-nearest-hundreds-requires : tie.Need-nearest-hundreds-requires
-nearest-hundreds-requires c κs = search needs
+fresh-at-requires-2 : tie.Need-fresh-at-requires-2
+fresh-at-requires-2 c κs = search needs
 
-none-requires : tie.Need-none-requires
-none-requires c κs = search needs
+fresh-at-requires-3 : tie.Need-fresh-at-requires-3
+fresh-at-requires-3 c κs = search needs
+
+fresh-at-requires-4 : tie.Need-fresh-at-requires-4
+fresh-at-requires-4 c κs = search needs
+
+cast-t6 : tie.Need-cast-t6
+cast-t6 c = search needs
 
 returns : tie.Need-returns
 returns c =
-    (view-fresh _ _ _ _ _ (omega (arith, c .before .nearest-hundreds .ensures)) (c .none .ensures), c .none .ensures .columns)
+    cc (
+      c .before .before .before .before .fresh-at .ensures,
+      c .before .before .before .fresh-at2 .ensures,
+      c .before .before .fresh-at3 .ensures,
+      c .before .fresh-at4 .ensures,
+    )
 
 pub fresh-spec : {M : Type 1} → statement M
-fresh-spec = tie.close (tie.spec mul-product nearest-hundreds-requires none-requires returns)
+fresh-spec =
+    tie.close
+    (tie.spec
+    fresh-at-requires
+    fresh-at-requires-2
+    fresh-at-requires-3
+    fresh-at-requires-4
+    cast-t6
+    returns)

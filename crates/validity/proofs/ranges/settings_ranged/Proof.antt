@@ -30,7 +30,14 @@ is-between-requires-2 c κs = search needs
 
 returns-5 : tie.Need-returns-5
 unfolding settingsRanged
-returns-5 c = simp (sym (c .before .before .before .before .before .is-between .ensures) ∙ not-false _ (c .before .before .before .before .if1 .left), le-leb _ _ (c .before .before .before .if2 .left), le-leb _ _ (c .before .before .if3 .left), le-leb _ _ (c .before .if4 .left)) (c .is-between2 .ensures)
+returns-5 c = simp (sym (c .before .before .before .before .before .before .is-between .ensures) ∙ not-false _ (c .before .before .before .before .before .if1 .left), le-leb _ _ (c .before .before .before .before .if2 .left), le-leb _ _ (c .before .before .before .if3 .left), le-leb _ _ (c .before .before .if4 .left), sym (c .before .is-between2 .ensures) ∙ not-true _ (c .if5 .taken))
+
+is-between-requires-3 : tie.Need-is-between-requires-3
+is-between-requires-3 c κs = search needs
+
+returns-6 : tie.Need-returns-6
+unfolding settingsRanged
+returns-6 c = simp (sym (c .before .before .before .before .before .before .before .is-between .ensures) ∙ not-false _ (c .before .before .before .before .before .before .if1 .left), le-leb _ _ (c .before .before .before .before .before .if2 .left), le-leb _ _ (c .before .before .before .before .if3 .left), le-leb _ _ (c .before .before .before .if4 .left), sym (c .before .before .is-between2 .ensures) ∙ not-false _ (c .before .if5 .left)) (c .is-between3 .ensures)
 
 pub settings-ranged-spec : {M : Type 1} → statement M
 settings-ranged-spec =
@@ -42,4 +49,6 @@ settings-ranged-spec =
     returns-3
     returns-4
     is-between-requires-2
-    returns-5)
+    returns-5
+    is-between-requires-3
+    returns-6)

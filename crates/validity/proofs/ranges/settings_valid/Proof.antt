@@ -17,7 +17,7 @@ unfolding settingsValid
 returns c = simp (sym (c .before .settings-ranged .ensures) ∙ not-true _ (c .if1 .taken))
 
 mul-product : tie.Need-mul-product
-mul-product c = omega (arith, product-fits _ _ _ _ _ (sym (c .before .settings-ranged .ensures) ∙ not-false _ (c .if1 .left)))
+mul-product c = omega (arith, product-fits _ _ _ _ _ _ (sym (c .before .settings-ranged .ensures) ∙ not-false _ (c .if1 .left)))
 
 nearest-hundreds-requires : tie.Need-nearest-hundreds-requires
 nearest-hundreds-requires c κs = search needs

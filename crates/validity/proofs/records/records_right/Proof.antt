@@ -6,17 +6,17 @@ use borrow.Author.Tests.{not-true, not-false}
 use Rattle.layout.specs.Lists.{every}
 use Rattle.layout.specs.Validity.{recordRight}
 use Rattle.layout.proofs.Listing.{every-none, every-more, every-not}
-use Rattle.station.specs.View.{view}
+use Rattle.validity.specs.Settled.{heldBy, single}
 use Rattle.validity.proofs.Settling.{ticket-fails, record-is, settled-ranged}
 use native.Mathlib.Omega.{arith}
 use Rattle.validity.proofs.records.records_right.Statement.{statement}
 use Rattle.validity.proofs.records.records_right.Tie as tie
 
 abbrev Inv-loop : tie.InvT-loop
-Inv-loop s held n q₀ q = (q ≤ n) × (every (recordRight (view s)) q ≡ true)
+Inv-loop s feeder held n q₀ q = (q ≤ n) × (every (recordRight (single s)) q ≡ true)
 
 abbrev μ-loop : tie.MeasureT-loop
-μ-loop s held n q₀ q = n - q
+μ-loop s feeder held n q₀ q = n - q
 
 loop-holds : tie.Need-loop-holds Inv-loop μ-loop
 loop-holds c = (omega arith, every-none _)
@@ -24,14 +24,14 @@ loop-holds c = (omega arith, every-none _)
 ticket-rises-requires : tie.Need-ticket-rises-requires Inv-loop μ-loop
 ticket-rises-requires c κs =
     let l = c .before .before .before in
-    (l .before .before .pre .columns .few, c .before .before .loop-test .taken)
+    (l .before .before .before .pre .columns .few, c .before .before .loop-test .taken)
 
 returns : tie.Need-returns Inv-loop μ-loop
 returns c =
     let l = c .before .before .before .before .before in
-    let s = l .before .before .args .s in
+    let s = l .before .before .before .args .one in
     sym
-    (every-not (recordRight (view s)) (s .charges .held) (l .loop .q) (c .before .before .before .before .loop-test .taken)
+    (every-not (recordRight (single s)) (heldBy s .held) (l .loop .q) (c .before .before .before .before .loop-test .taken)
     (ticket-fails s (l .loop .q) _ (c .before .before .before .before .loop-test .taken) (c .before .ticket-rises .ensures) (not-true _ (c .if1 .taken))))
 
 mul-line : tie.Need-mul-line Inv-loop μ-loop
@@ -79,8 +79,8 @@ element-copy-out-rate c = omega arith
 charge-valid-requires : tie.Need-charge-valid-requires Inv-loop μ-loop
 charge-valid-requires c κs =
     let l = c .before .before .before .before .before .before .before .before .before .before .before .before in
-    let b = l .before .before in (
-      settled-ranged (b .args .s) (b .pre) .next-low,
+    let b = l .before .before .before in (
+      settled-ranged (b .args .one) (b .pre) .next-low,
       b .pre .active (l .loop .q) (c .before .before .before .before .before .before .before .before .before .before .before .loop-test .taken),
     )
 
@@ -88,9 +88,9 @@ returns-2 : tie.Need-returns-2 Inv-loop μ-loop
 returns-2 c =
     let t = c .before .before .before .before .before .before .before .before .before .before in
     let l = t .before .before .before .before in
-    let s = l .before .before .args .s in
+    let s = l .before .before .before .args .one in
     sym
-    (every-not (recordRight (view s)) (s .charges .held) (l .loop .q) (t .before .before .before .loop-test .taken)
+    (every-not (recordRight (single s)) (heldBy s .held) (l .loop .q) (t .before .before .before .loop-test .taken)
     (record-is s (l .loop .q) _ (c .before .charge-valid .result) (t .before .before .before .loop-test .taken) (t .ticket-rises .ensures)
     (not-false _ (c .before .before .before .before .before .before .before .before .before .if1 .left)) (search (c .before .charge-valid .ensures))
     ∙ not-true _ (c .if2 .taken)))
@@ -105,9 +105,9 @@ loop-again : tie.Need-loop-again Inv-loop μ-loop
 loop-again c =
     let t = c .before .before .before .before .before .before .before .before .before .before in
     let l = t .before .before .before .before in
-    let s = l .before .before .args .s in (
+    let s = l .before .before .before .args .one in (
       omega arith,
-      every-more (recordRight (view s)) (l .loop .q) (l .loop .inv .1)
+      every-more (recordRight (single s)) (l .loop .q) (l .loop .inv .1)
           (record-is s (l .loop .q) _ (c .before .charge-valid .result) (t .before .before .before .loop-test .taken) (t .ticket-rises .ensures)
           (not-false _ (c .before .before .before .before .before .before .before .before .before .if1 .left)) (search (c .before .charge-valid .ensures))
           ∙ not-false _ (c .if2 .left)),
@@ -116,9 +116,9 @@ loop-again c =
 returns-3 : tie.Need-returns-3 Inv-loop μ-loop
 returns-3 c =
     let l = c .before in
-    let s = l .before .before .args .s in
-    let e : l .loop .q ≡ s .charges .held = omega arith in
-    sym (ap (every (recordRight (view s))) (sym e) ∙ l .loop .inv .1)
+    let s = l .before .before .before .args .one in
+    let e : l .loop .q ≡ heldBy s .held = omega arith in
+    sym (ap (every (recordRight (single s))) (sym e) ∙ l .loop .inv .1)
 
 pub records-right-spec : {M : Type 1} → statement M
 records-right-spec =

@@ -1,0 +1,4 @@
+pub mod Rows
+pub mod Seeking
+pub mod Answering
+pub mod Taking

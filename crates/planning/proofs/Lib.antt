@@ -1,0 +1,4 @@
+pub mod Ready
+pub mod Testing
+pub mod Refusals
+pub mod Replanning

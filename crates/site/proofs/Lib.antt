@@ -1,0 +1,10 @@
+pub mod Telling
+pub mod Among
+pub mod Only
+pub mod Enquiring
+pub mod FromTheLast
+pub mod Reported
+pub mod Moved
+pub mod MovedAlone
+pub mod OnTheBoard
+pub mod Withdrawn
