@@ -1,0 +1,150 @@
+//! The weighted count of each line of each feeder, the spread between its lines and the sum of
+//! the site, minute by minute, with how they stand to limit, bound and W.
+
+use super::reading::Evening;
+use crate::told::{self, Counts, Load};
+
+/// What a lane is about. Numbers are from 1.
+#[derive(Clone, Copy, Debug, PartialEq, Eq)]
+pub enum Subject {
+    Line { feeder: usize, line: usize },
+    Spread { feeder: usize },
+    Site,
+}
+
+/// How a number stands to the most that there may be.
+#[derive(Clone, Copy, Debug, PartialEq, Eq)]
+pub enum Mark {
+    Within,
+    Reached,
+    Broken,
+    /// A start that counts here was not told.
+    Unknown,
+}
+
+/// The same number in all minutes from one on, up to another.
+#[derive(Clone, Copy, Debug, PartialEq, Eq)]
+pub struct Step {
+    pub from: u64,
+    pub to: u64,
+    pub value: u64,
+    pub mark: Mark,
+}
+
+#[derive(Clone, Debug, PartialEq, Eq)]
+pub struct Lane {
+    pub subject: Subject,
+    /// N, D or W.
+    pub most: u64,
+    pub steps: Vec<Step>,
+}
+
+impl Subject {
+    pub fn name(self) -> String {
+        match self {
+            Subject::Line { feeder, line } => format!("feeder {feeder} line {line}"),
+            Subject::Spread { feeder } => format!("feeder {feeder} spread"),
+            Subject::Site => "site".to_string(),
+        }
+    }
+
+    /// What the most is called.
+    pub fn most(self) -> &'static str {
+        match self {
+            Subject::Line { .. } => "limit",
+            Subject::Spread { .. } => "bound",
+            Subject::Site => "W",
+        }
+    }
+
+    fn value(self, counts: &Counts) -> i64 {
+        match self {
+            Subject::Line { feeder, line } => counts[feeder - 1][line - 1],
+            Subject::Spread { feeder } => told::spread(&counts[feeder - 1]),
+            Subject::Site => counts.iter().flatten().sum(),
+        }
+    }
+
+    fn of_feeder(self, number: usize) -> bool {
+        match self {
+            Subject::Line { feeder, .. } | Subject::Spread { feeder } => feeder == number,
+            Subject::Site => true,
+        }
+    }
+}
+
+impl Lane {
+    /// The largest number in it.
+    pub fn highest(&self) -> u64 {
+        self.steps.iter().map(|step| step.value).max().unwrap_or(0)
+    }
+
+    /// The first minute in which it is broken, in words.
+    pub fn broken(&self) -> Option<String> {
+        let step = self.steps.iter().find(|step| step.mark == Mark::Broken)?;
+        let (name, most) = (self.subject.name(), self.subject.most());
+        Some(format!("minute {}: {name} has {}, {most} {}", step.from, step.value, self.most))
+    }
+
+    /// The number in a minute, and how it stands.
+    pub fn in_minute(&self, minute: u64) -> (u64, Mark) {
+        let step = self.steps.iter().find(|step| step.from <= minute && minute < step.to);
+        step.map_or((0, Mark::Within), |step| (step.value, step.mark))
+    }
+}
+
+/// All lanes: the lines and the spread of each feeder, then the site.
+fn subjects(evening: &Evening) -> Vec<(Subject, u64)> {
+    let mut subjects = Vec::new();
+    for (place, feeder) in evening.site.feeders.iter().enumerate() {
+        let number = place + 1;
+        let line = |line| (Subject::Line { feeder: number, line }, feeder.limit);
+        subjects.extend((1..=3).map(line));
+        subjects.push((Subject::Spread { feeder: number }, feeder.bound));
+    }
+    subjects.push((Subject::Site, evening.site.limit));
+    subjects
+}
+
+/// The lanes as they are known after the call of a moment, gone minutes and such to come.
+pub fn at(evening: &Evening, moment: usize) -> Vec<Lane> {
+    let loads: Vec<Load> =
+        evening.charges.iter().filter_map(|charge| charge.load(moment)).collect();
+    let counts = told::counts(&loads, evening.site.feeders.len());
+    let clock = evening.entries.get(moment).map_or(0, |entry| entry.clock);
+    let unknown: Vec<usize> = evening
+        .charges
+        .iter()
+        .filter(|charge| charge.unknown(moment))
+        .map(|charge| charge.feeder as usize)
+        .collect();
+    let lane = |(subject, most): (Subject, u64)| {
+        let hidden = unknown.iter().any(|feeder| subject.of_feeder(*feeder));
+        let known_to = if hidden { clock } else { u64::MAX };
+        Lane { subject, most, steps: steps(subject, most, &counts, known_to) }
+    };
+    subjects(evening).into_iter().map(lane).collect()
+}
+
+/// Equal neighbours are one step, and minutes with nothing are left out.
+fn steps(subject: Subject, most: u64, counts: &[(u64, Counts)], known_to: u64) -> Vec<Step> {
+    let mut steps: Vec<Step> = Vec::new();
+    for pair in counts.windows(2) {
+        let (from, to) = (pair[0].0, pair[1].0);
+        let value = subject.value(&pair[0].1).max(0) as u64;
+        let mark = match () {
+            () if to > known_to => Mark::Unknown,
+            () if value > most => Mark::Broken,
+            () if value == most && value > 0 => Mark::Reached,
+            () => Mark::Within,
+        };
+        match steps.last_mut() {
+            Some(last) if last.to == from && last.value == value && last.mark == mark => {
+                last.to = to;
+            }
+            _ => steps.push(Step { from, to, value, mark }),
+        }
+    }
+    steps.retain(|step| step.value > 0 || step.mark == Mark::Unknown);
+    steps
+}

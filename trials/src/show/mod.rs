@@ -1,0 +1,23 @@
+//! An evening to look at. From calls and answers alone, as the checker of demand 3 reads
+//! them, so that it shows what a program did and not what it meant: `reading` makes a history
+//! of charges out of them, `lanes` counts, `terminal` and `page` draw.
+
+pub mod ask;
+pub mod charge;
+mod drawing;
+mod entry;
+mod fit;
+pub mod lanes;
+mod markup;
+pub mod page;
+mod pieces;
+pub mod reading;
+mod step;
+pub mod terminal;
+mod verdict;
+pub mod wall;
+mod words;
+
+pub use drawing::standalone;
+pub use entry::{Entry, Sort};
+pub use reading::{read, Evening, Story};
