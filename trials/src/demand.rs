@@ -8,10 +8,10 @@
 mod board;
 mod withdrawal;
 
-use crate::protocol::{read_call, Call};
-use crate::script::{self, Line};
-use crate::told::{self, Answer, Load, Site};
-use crate::yard::{self, Opening};
+use crate::protocol::Call;
+use crate::script::Line;
+use crate::told::{self, Load, Pair, Site, Told};
+use crate::yard;
 use std::fmt;
 
 /// What is wrong, and with which answer (the first is 1) it came out.
@@ -85,15 +85,9 @@ struct Trace {
 pub fn check(lines: &[Line], answers: &[Line]) -> Result<(), Broken> {
     let mut trace = Trace::of(Site::beside_a_refusal());
     let mut answer = 0;
-    for line in script::answered(lines) {
-        let text = answers.get(answer).map(|text| script::show(text));
+    for pair in told::pairs(lines, answers) {
         answer += 1;
-        let step = match (read_call(line), text) {
-            (_, None) => Err("there is no answer".to_string()),
-            (Ok(Some(call)), Some(text)) => trace.step(&call, &Answer::of(&text)),
-            (_, Some(_)) => Ok(()),
-        };
-        step.map_err(|what| Broken { answer, what })?;
+        trace.take(&pair).map_err(|what| Broken { answer, what })?;
     }
     trace.settle().map_err(|what| Broken { answer, what })
 }
@@ -114,35 +108,45 @@ impl Trace {
         Trace { site, clock: 0, orders: Vec::new(), asked: false }
     }
 
-    /// "also from the one beside a refusal", which is the station of 1, 100.
-    fn opened(&mut self, opening: &Opening, answer: &Answer) -> Checked {
-        if answer.refused() {
-            *self = Trace::of(Site::beside_a_refusal());
-            return Ok(());
+    /// What is no call changes nothing, whatever is answered.
+    fn take(&mut self, pair: &Pair) -> Checked {
+        match (&pair.call, &pair.answer, &pair.told) {
+            (_, None, _) => Err("there is no answer".to_string()),
+            (Err(_), ..) => Ok(()),
+            (Ok(_), Some(answer), None) => Err(format!("'{answer}' is no answer to this call")),
+            (Ok(call), Some(answer), Some(told)) => self.step(call, told, answer),
         }
-        let bounds = answer.numbers.len().saturating_sub(1);
-        ensure(answer.words == "open" && bounds == opening.count as usize && bounds <= 4, || {
-            format!("an opening is answered with '{}' {:?}", answer.words, answer.numbers)
-        })?;
-        *self = Trace::of(Site::from_opening(opening));
-        Ok(())
     }
 
-    fn step(&mut self, call: &Call, answer: &Answer) -> Checked {
-        if let Call::Enquire { .. } | Call::Board { .. } = call {
-            self.asked = true;
-        }
+    fn step(&mut self, call: &Call, told: &Told, answer: &str) -> Checked {
         match call {
-            Call::Enquire { ticket } => return self.enquiry(*ticket, answer),
-            Call::Board { tickets, .. } => return self.board(tickets, answer),
-            _ => (),
+            Call::Enquire { ticket } => {
+                self.asked = true;
+                return self.enquiry(*ticket, told, answer);
+            }
+            Call::Board { tickets, .. } => {
+                self.asked = true;
+                return self.board(tickets, told);
+            }
+            _ => self.leave(matches!(call, Call::Open { .. }))?,
         }
-        self.leave(matches!(call, Call::Open { .. }))?;
-        match (call, answer.refused()) {
-            (Call::Open { opening }, _) => self.opened(opening, answer),
-            (Call::Commit { order, .. }, false) => self.accepted(order, answer),
-            (Call::Move { target, .. }, false) => self.moved(u64::from(*target), answer),
-            (Call::Withdraw { ticket }, false) => self.withdrawn(*ticket, answer),
+        match (call, told) {
+            (Call::Open { opening }, Told::Opened { .. }) => {
+                *self = Trace::of(Site::from_opening(opening));
+                Ok(())
+            }
+            // "also from the one beside a refusal", which is the station of 1, 100.
+            (Call::Open { .. }, _) => {
+                *self = Trace::of(Site::beside_a_refusal());
+                Ok(())
+            }
+            (Call::Commit { order, .. }, Told::Accepted { ticket, .. }) => {
+                self.accepted(order, *ticket)
+            }
+            (Call::Move { target, .. }, Told::Moved { reported, .. }) => {
+                self.moved(u64::from(*target), reported)
+            }
+            (Call::Withdraw { ticket }, Told::Withdrawn) => self.withdrawn(*ticket),
             _ => Ok(()),
         }
     }
@@ -165,17 +169,15 @@ impl Trace {
     }
 
     /// "tickets are 1, 2, 3 and so on in the order of acceptance"
-    fn accepted(&mut self, order: &yard::Order, answer: &Answer) -> Checked {
-        ensure(answer.words == "ticket start" && answer.numbers.len() == 2, || {
-            format!("a commit is answered with '{}'", answer.words)
-        })?;
-        let ticket = self.orders.len() as u64 + 1;
-        ensure(answer.numbers[0] == ticket, || {
-            format!("ticket {} where {ticket} is next", answer.numbers[0])
-        })?;
+    fn accepted(&mut self, order: &yard::Order, ticket: u64) -> Checked {
+        let next = self.orders.len() as u64 + 1;
+        ensure(ticket == next, || format!("ticket {ticket} where {next} is next"))?;
         let feeder = (order.feeder as usize).wrapping_sub(1);
         let own = self.site.feeder(order.feeder);
         let tail = own.ok_or(format!("an order of feeder {} is taken", order.feeder))?.tail;
+        ensure((1..=3).contains(&order.line), || {
+            format!("an order of line {} is taken", order.line)
+        })?;
         self.orders.push(Order {
             feeder,
             line: order.line,
@@ -191,16 +193,9 @@ impl Trace {
     }
 
     /// "The clock is the target of the last move not refused"
-    fn moved(&mut self, target: u64, answer: &Answer) -> Checked {
-        ensure(answer.words == "moved dropped" && answer.numbers.len() >= 2, || {
-            format!("a move is answered with '{}'", answer.words)
-        })?;
-        let pairs = &answer.numbers[2..];
-        ensure(answer.numbers[0] as usize * 2 == pairs.len(), || {
-            format!("{} reported with {} numbers", answer.numbers[0], pairs.len())
-        })?;
-        for pair in pairs.chunks(2) {
-            self.report(pair[0], pair[1], target)?;
+    fn moved(&mut self, target: u64, reported: &[(u64, u64)]) -> Checked {
+        for (ticket, start) in reported {
+            self.report(*ticket, *start, target)?;
         }
         self.clock = target;
         Ok(())
@@ -232,28 +227,30 @@ impl Trace {
     /// answer is refusal 15." "Any other order has never been reported, and an
     /// enquiry finds it waiting." "Enquiries show the rate" (N4). It "is finished when
     /// s + p + r is at or below the clock" (N7).
-    fn enquiry(&mut self, ticket: u32, answer: &Answer) -> Checked {
+    fn enquiry(&mut self, ticket: u32, told: &Told, answer: &str) -> Checked {
         let clock = self.clock;
         let Some(order) = self.order(u64::from(ticket)) else {
-            return ensure(answer.refused(), || format!("ticket {ticket} found, not given"));
+            let refused = matches!(told, Told::Refused(_));
+            return ensure(refused, || format!("ticket {ticket} found, not given"));
         };
         let tail = order.tail;
-        let found = || format!("ticket {ticket}: {} {:?}", answer.words, answer.numbers);
+        let found = || format!("ticket {ticket}: {answer}");
         if order.withdrawn {
-            return ensure(answer.refused() && answer.numbers == [15], found);
+            return ensure(*told == Told::Refused(15), found);
         }
-        match (order.reported, answer.words.as_str(), answer.numbers.as_slice()) {
-            (None, "waiting", [start, rate]) => {
+        match (order.reported, told) {
+            (None, Told::Waiting { start, rate }) => {
                 let same = order.waiting.is_none_or(|before| before == *start);
                 ensure(*start >= clock && same && *rate == order.rate.into(), found)?;
                 order.waiting = Some(*start);
                 Ok(())
             }
-            (Some(start), "charging", [shown, end, rate]) => {
-                let right = *shown == start && *end == start + order.time && clock < *end + tail;
+            (Some(reported), Told::Charging { start, end, rate }) => {
+                let right =
+                    *start == reported && *end == reported + order.time && clock < *end + tail;
                 ensure(right && *rate == order.rate.into(), found)
             }
-            (Some(start), "refused", [15]) => ensure(start + order.time + tail <= clock, found),
+            (Some(start), Told::Refused(15)) => ensure(start + order.time + tail <= clock, found),
             _ => Err(found()),
         }
     }

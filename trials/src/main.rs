@@ -40,9 +40,11 @@ trials demand SCRIPT ANSWERS                 demand 3 from calls and answers alo
 trials ask < SCRIPT                          the script with the questions that a picture needs
 trials show [--columns N] [--colour yes|no] SCRIPT ANSWERS
                                              the evening in the terminal
-trials picture SCRIPT ANSWERS [--title T]    the evening as a page for a browser
-trials drawing SCRIPT ANSWERS [--width P]    the evening as one drawing (SVG)
-trials wall-page < PAGES                     pages for the wall as a page for a browser
+trials picture SCRIPT ANSWERS [--title T] [--to FILE]
+                                             the evening as a page for a browser
+trials drawing SCRIPT ANSWERS [--width P] [--to FILE]
+                                             the evening as one drawing (SVG)
+trials wall-page [--to FILE] < PAGES         pages for the wall as a page for a browser
 trials pages < IMAGE                         the pages for the wall of an image
 trials wall PROGRAM [--images K] [--seed S] [--patience SECONDS]
 trials wall-input TITLE [--images K] [--seed S]
@@ -140,7 +142,7 @@ fn run(words: &Words) -> Outcome {
         Some("show") => show_evening(words),
         Some("picture") => print_picture(words),
         Some("drawing") => print_drawing(words),
-        Some("wall-page") => print_wall_page(),
+        Some("wall-page") => print_wall_page(words),
         Some("pages") => print_pages(),
         Some("wall") => run_wall(words),
         Some("wall-input") => print_wall_input(words),
@@ -322,19 +324,30 @@ fn show_evening(words: &Words) -> Outcome {
         Some("yes") => true,
         Some(other) => return Err(format!("--colour {other}: there are yes and no")),
     };
-    let story = read_story(words)?;
+    let (lines, answers) = read_files(&words.others[1..])?;
+    let story = show::read(&lines, &answers);
     let look = show::terminal::Look { columns, colour };
-    print_bytes(show::terminal::draw(&story, &look).as_bytes())?;
+    let drawn = show::answers(&lines, &answers) + &show::terminal::draw(&story, &look);
+    print_bytes(drawn.as_bytes())?;
     match story.broken().len() {
         0 => Ok(()),
         broken => Err(format!("broken: {broken}, listed above")),
     }
 }
 
+/// To the file that is named, else to standard output.
+fn write_page(words: &Words, page: &str) -> Outcome {
+    match words.named.get("to") {
+        None => print_bytes(page.as_bytes()),
+        Some(file) => show::put::put(Path::new(file), page.as_bytes())
+            .map_err(|error| format!("the page could not be written: {file}: {error}")),
+    }
+}
+
 fn print_picture(words: &Words) -> Outcome {
     let story = read_story(words)?;
     let title = words.named.get("title").map_or("An evening in the yard", String::as_str);
-    print_bytes(show::page::page(&story, title).as_bytes())?;
+    write_page(words, &show::page::page(&story, title))?;
     tell_broken(&story)
 }
 
@@ -344,13 +357,13 @@ fn print_drawing(words: &Words) -> Outcome {
     let width = words.number("width", 800)? as u32;
     let evening = story.evenings.iter().find(|evening| !evening.charges.is_empty());
     let evening = evening.ok_or("no order was taken")?;
-    print_bytes(show::standalone(evening, width).as_bytes())?;
+    write_page(words, &show::standalone(evening, width))?;
     tell_broken(&story)
 }
 
-fn print_wall_page() -> Outcome {
+fn print_wall_page(words: &Words) -> Outcome {
     let pages = read_input()?;
-    print_bytes(show::wall::wall_page(&String::from_utf8_lossy(&pages)).as_bytes())
+    write_page(words, &show::wall::wall_page(&String::from_utf8_lossy(&pages)))
 }
 
 fn check_files(paths: &[String]) -> Outcome {

@@ -8,7 +8,7 @@ use common::lines;
 use trials::fill::{fill, unfill};
 use trials::script::{self, answers_of, Line, Script};
 use trials::show::ask::asked;
-use trials::show::lanes::{self, Mark, Subject};
+use trials::show::lanes::{Mark, Subject};
 use trials::show::terminal::{draw, Look};
 use trials::show::{page, read, wall, Evening, Sort, Story};
 use trials::{demand, generate};
@@ -39,7 +39,7 @@ fn generated(kind: &str, seed: u64, number: u64) -> Script {
 
 /// The steps of a lane at a moment, as (from, to, value, mark).
 fn steps(evening: &Evening, moment: usize, subject: Subject) -> Vec<(u64, u64, u64, Mark)> {
-    let lanes = lanes::at(evening, moment);
+    let lanes = evening.lanes(moment);
     let lane = lanes.iter().find(|lane| lane.subject == subject).expect("a lane");
     lane.steps.iter().map(|step| (step.from, step.to, step.value, step.mark)).collect()
 }
@@ -98,7 +98,7 @@ fn a_replan_before_and_after() {
     assert_eq!(evening.entries[3].sort, Sort::Taken);
     assert_eq!(starts(2), [Some(0), Some(10)]);
     assert_eq!(starts(3), [Some(10), Some(0)]);
-    assert_eq!(evening.entries[3].meaning, "taken: 5 minutes late before, 0 after");
+    assert_eq!(evening.entries[3].meaning(), "taken: 5 minutes late before, 0 after");
     // Questions are in the history and not among the lines of the script.
     assert!(evening.entries.iter().any(|entry| entry.asked));
     let shown: Vec<usize> = evening.shown().map(|(_, entry)| entry.line).collect();

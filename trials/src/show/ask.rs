@@ -6,7 +6,7 @@ use crate::protocol::{read_call, write_call, Call};
 use crate::script::Line;
 
 /// The comment before a question, by which a picture knows that it is none of the script's calls.
-pub const MARK: &str = "# asked for the picture";
+const MARK: &str = "# asked for the picture";
 /// "The board asks for up to 180 tickets at a time" (N10).
 const MOST: u32 = 180;
 
@@ -31,6 +31,12 @@ pub fn asked(lines: &[Line]) -> Vec<Line> {
     }
     ask(&mut all, commits);
     all
+}
+
+/// Whether the line at a place is a question for the picture: a board with the mark before it.
+pub fn is_question(lines: &[Line], place: usize) -> bool {
+    let marked = place > 0 && lines[place - 1] == MARK.as_bytes();
+    marked && lines[place].starts_with(b"board ")
 }
 
 /// No more tickets were given than commits were made; a ticket that was not given is not held.

@@ -2,7 +2,7 @@
 
 use super::words;
 use crate::protocol::{Call, Fault};
-use crate::told::Answer;
+use crate::told::Told;
 
 /// What became of a line.
 #[derive(Clone, Copy, Debug, PartialEq, Eq)]
@@ -26,6 +26,22 @@ pub enum Sort {
 }
 
 impl Sort {
+    pub fn of(told: Option<&Told>) -> Sort {
+        match told {
+            None => Sort::Unfitting,
+            Some(Told::Error) => Sort::Unreadable,
+            Some(Told::Refused(_)) => Sort::Refused,
+            Some(Told::Opened { .. }) => Sort::Opened,
+            Some(Told::Previewed { .. }) => Sort::Previewed,
+            Some(Told::Accepted { .. }) => Sort::Ordered,
+            Some(Told::Moved { .. }) => Sort::Moved,
+            Some(Told::Planned { cause: 0, .. }) => Sort::Taken,
+            Some(Told::Planned { .. }) => Sort::Kept,
+            Some(Told::Waiting { .. } | Told::Charging { .. } | Told::Board { .. }) => Sort::Looked,
+            Some(Told::Withdrawn) => Sort::Withdrawn,
+        }
+    }
+
     pub fn name(self) -> &'static str {
         match self {
             Sort::Opened => "opened",
@@ -53,66 +69,43 @@ pub struct Entry {
     pub line: usize,
     /// The comments before it, a line each.
     pub notes: Vec<String>,
-    pub call: String,
+    pub text: String,
+    pub call: Result<Call, Fault>,
     pub answer: String,
+    pub told: Option<Told>,
     pub sort: Sort,
-    /// The answer in words, where its numbers do not speak for themselves.
-    pub meaning: String,
-    /// After it.
+    /// The clock after it.
     pub clock: u64,
-    /// The feeder of a plan.
-    pub feeder: Option<u32>,
     /// What no right program does.
     pub broken: Vec<String>,
     /// A question that is none of the script's calls.
     pub asked: bool,
 }
 
-/// How a line with a fitting answer is marked.
-pub fn sort(call: &Result<Call, Fault>, answer: &Answer) -> Sort {
-    let Ok(call) = call else { return Sort::Unreadable };
-    if answer.refused() {
-        return Sort::Refused;
-    }
-    match call {
-        Call::Open { .. } => Sort::Opened,
-        Call::Preview { .. } => Sort::Previewed,
-        Call::Commit { .. } => Sort::Ordered,
-        Call::Move { .. } => Sort::Moved,
-        Call::Offer { .. } | Call::Latest { .. } | Call::Lines { .. } => {
-            match answer.numbers.first() {
-                Some(0) => Sort::Taken,
-                _ => Sort::Kept,
+impl Entry {
+    /// The answer in words, where its numbers do not speak for themselves.
+    pub fn meaning(&self) -> String {
+        match &self.told {
+            None => "no answer to this call".to_string(),
+            Some(Told::Error) => "not a call".to_string(),
+            Some(Told::Refused(number)) => format!("refused: {}", words::refusal(*number)),
+            Some(Told::Planned { cause: 0, before, after }) => {
+                format!("taken: {} late before, {after} after", words::minutes(*before))
             }
+            Some(Told::Planned { cause, before, .. }) => {
+                format!("{}, {} late", words::cause(*cause), words::minutes(*before))
+            }
+            _ => String::new(),
         }
-        Call::Enquire { .. } | Call::Board { .. } => Sort::Looked,
-        Call::Withdraw { .. } => Sort::Withdrawn,
     }
-}
 
-/// The answer in words.
-pub fn meaning(sort: Sort, answer: &Answer) -> String {
-    let numbers = answer.numbers.as_slice();
-    match (sort, numbers) {
-        (Sort::Refused, [number]) => format!("refused: {}", words::refusal(*number)),
-        (Sort::Unreadable, _) => "not a call".to_string(),
-        (Sort::Unfitting, _) => "no answer to this call".to_string(),
-        (Sort::Taken, [_, before, after, _]) => {
-            format!("taken: {} late before, {after} after", words::minutes(*before))
+    /// The feeder that a plan is made for.
+    pub fn planned_feeder(&self) -> Option<u32> {
+        match self.call {
+            Ok(
+                Call::Offer { feeder, .. } | Call::Latest { feeder } | Call::Lines { feeder, .. },
+            ) => Some(feeder),
+            _ => None,
         }
-        (Sort::Kept, [cause, before, ..]) => {
-            format!("{}, {} late", words::cause(*cause), words::minutes(*before))
-        }
-        _ => String::new(),
-    }
-}
-
-/// The feeder that a plan is made for.
-pub fn planned_feeder(call: &Result<Call, Fault>) -> Option<u32> {
-    match call {
-        Ok(Call::Offer { feeder, .. } | Call::Latest { feeder } | Call::Lines { feeder, .. }) => {
-            Some(*feeder)
-        }
-        _ => None,
     }
 }

@@ -1,8 +1,9 @@
 //! The weighted count of each line of each feeder, the spread between its lines and the sum of
 //! the site, minute by minute, with how they stand to limit, bound and W.
 
-use super::reading::Evening;
+use super::evening::Evening;
 use crate::told::{self, Counts, Load};
+use std::rc::Rc;
 
 /// What a lane is about. Numbers are from 1.
 #[derive(Clone, Copy, Debug, PartialEq, Eq)]
@@ -85,12 +86,6 @@ impl Lane {
         let (name, most) = (self.subject.name(), self.subject.most());
         Some(format!("minute {}: {name} has {}, {most} {}", step.from, step.value, self.most))
     }
-
-    /// The number in a minute, and how it stands.
-    pub fn in_minute(&self, minute: u64) -> (u64, Mark) {
-        let step = self.steps.iter().find(|step| step.from <= minute && minute < step.to);
-        step.map_or((0, Mark::Within), |step| (step.value, step.mark))
-    }
 }
 
 /// All lanes: the lines and the spread of each feeder, then the site.
@@ -106,24 +101,52 @@ fn subjects(evening: &Evening) -> Vec<(Subject, u64)> {
     subjects
 }
 
-/// The lanes as they are known after the call of a moment, gone minutes and such to come.
-pub fn at(evening: &Evening, moment: usize) -> Vec<Lane> {
-    let loads: Vec<Load> =
-        evening.charges.iter().filter_map(|charge| charge.load(moment)).collect();
-    let counts = told::counts(&loads, evening.site.feeders.len());
-    let clock = evening.entries.get(moment).map_or(0, |entry| entry.clock);
-    let unknown: Vec<usize> = evening
-        .charges
-        .iter()
-        .filter(|charge| charge.unknown(moment))
-        .map(|charge| charge.feeder as usize)
-        .collect();
-    let lane = |(subject, most): (Subject, u64)| {
-        let hidden = unknown.iter().any(|feeder| subject.of_feeder(*feeder));
-        let known_to = if hidden { clock } else { u64::MAX };
-        Lane { subject, most, steps: steps(subject, most, &counts, known_to) }
+/// All that the lanes of a moment are made of.
+#[derive(PartialEq, Eq)]
+struct Known {
+    loads: Vec<Load>,
+    /// Feeders of charges whose start was not told.
+    hidden: Vec<usize>,
+    /// Up to which minute something is known of those all the same.
+    clock: u64,
+}
+
+impl Known {
+    fn at(evening: &Evening, moment: usize) -> Known {
+        let charges = evening.charges.iter();
+        let hidden: Vec<usize> = charges
+            .clone()
+            .filter(|charge| charge.unknown(moment))
+            .map(|charge| charge.feeder as usize)
+            .collect();
+        let clock = if hidden.is_empty() { 0 } else { evening.clock_after(moment) };
+        Known { loads: charges.filter_map(|charge| charge.load(moment)).collect(), hidden, clock }
+    }
+
+    fn lanes(&self, evening: &Evening) -> Rc<[Lane]> {
+        let counts = told::counts(&self.loads, evening.site.feeders.len());
+        let lane = |(subject, most): (Subject, u64)| {
+            let hidden = self.hidden.iter().any(|feeder| subject.of_feeder(*feeder));
+            let known_to = if hidden { self.clock } else { u64::MAX };
+            Lane { subject, most, steps: steps(subject, most, &counts, known_to) }
+        };
+        subjects(evening).into_iter().map(lane).collect()
+    }
+}
+
+/// The lanes after each call, counted anew where something changed.
+pub fn over(evening: &Evening) -> Vec<Rc<[Lane]>> {
+    let mut before: Option<(Known, Rc<[Lane]>)> = None;
+    let mut after = |moment: usize| {
+        let known = Known::at(evening, moment);
+        let lanes = match &before {
+            Some((same, lanes)) if *same == known => Rc::clone(lanes),
+            _ => known.lanes(evening),
+        };
+        before = Some((known, Rc::clone(&lanes)));
+        lanes
     };
-    subjects(evening).into_iter().map(lane).collect()
+    (0..evening.entries.len()).map(&mut after).collect()
 }
 
 /// Equal neighbours are one step, and minutes with nothing are left out.

@@ -1,4 +1,4 @@
-//! Text inside of markup.
+//! Text inside of markup, and in lines of a terminal.
 
 /// Text as it may stand between tags and in quotes. Control characters, which a malformed line
 /// may hold and XML may not, are shown as a mark.
@@ -25,4 +25,26 @@ pub fn shortened(text: &str, most: usize) -> String {
     }
     let kept: String = text.chars().take(most.saturating_sub(2)).collect();
     format!("{kept}..")
+}
+
+/// Parts one after another in as few lines as the columns allow.
+pub fn flowing(parts: &[&str], between: &str, columns: usize) -> String {
+    let mut lines: Vec<String> = Vec::new();
+    for part in parts {
+        match lines.last_mut() {
+            Some(line)
+                if line.chars().count() + between.len() + part.chars().count() <= columns =>
+            {
+                line.push_str(between);
+                line.push_str(part);
+            }
+            _ => lines.push(part.to_string()),
+        }
+    }
+    lines.into_iter().map(|line| line + "\n").collect()
+}
+
+/// A malformed line may hold what would move the cursor.
+pub fn without_controls(text: &str) -> String {
+    text.chars().map(|one| if one.is_control() { '\u{fffd}' } else { one }).collect()
 }

@@ -3,14 +3,19 @@
 //! of charges out of them, `lanes` counts, `terminal` and `page` draw.
 
 pub mod ask;
+mod bar;
 pub mod charge;
 mod drawing;
 mod entry;
-mod fit;
+mod evening;
+mod film;
 pub mod lanes;
+mod layout;
+mod listing;
 mod markup;
+mod numbers;
 pub mod page;
-mod pieces;
+pub mod put;
 pub mod reading;
 mod step;
 pub mod terminal;
@@ -20,4 +25,6 @@ mod words;
 
 pub use drawing::standalone;
 pub use entry::{Entry, Sort};
-pub use reading::{read, Evening, Story};
+pub use evening::Evening;
+pub use listing::answers;
+pub use reading::{read, Story};

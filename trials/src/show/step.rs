@@ -2,36 +2,43 @@
 //! tell is kept with the call, and the reading goes on with what was told.
 
 use super::charge::{Charge, Happened};
-use super::entry::Sort;
-use super::reading::Evening;
+use super::evening::Evening;
 use crate::protocol::Call;
-use crate::told::Answer;
+use crate::told::Told;
 use crate::yard::{Order, NOT_HELD};
 
 impl Evening {
     /// Takes in the call of the last entry.
-    pub(super) fn step(&mut self, call: &Call) {
+    pub(super) fn step(&mut self) {
         let moment = self.last();
         let entry = &self.entries[moment];
-        let (sort, answer) = (entry.sort, Answer::of(&entry.answer));
-        match (sort, call) {
-            (Sort::Ordered, Call::Commit { order, shown }) => self.ordered(order, *shown, &answer),
-            (Sort::Moved, Call::Move { target, .. }) => self.moved((*target).into(), &answer),
-            (Sort::Taken, Call::Offer { feeder, starts }) => self.taken(*feeder, starts),
-            (Sort::Taken, Call::Latest { feeder } | Call::Lines { feeder, .. }) => {
-                self.taken(*feeder, &[]);
+        let (Ok(call), Some(told)) = (entry.call.clone(), entry.told.clone()) else { return };
+        match (call, told) {
+            (_, Told::Opened { bounds }) => self.opened(&bounds),
+            (Call::Commit { order, shown }, Told::Accepted { ticket, start }) => {
+                self.ordered(&order, shown, ticket, start);
             }
-            (Sort::Looked, Call::Enquire { ticket }) => {
-                self.told((*ticket).into(), answer.numbers[0]);
+            (Call::Move { target, .. }, Told::Moved { reported, dropped }) => {
+                self.moved(target.into(), &reported, dropped);
             }
-            (Sort::Looked, Call::Board { tickets, .. }) => {
-                for (ticket, start) in tickets.iter().zip(&answer.numbers[1..]) {
-                    if *start != u64::from(NOT_HELD) {
-                        self.told((*ticket).into(), *start);
-                    }
+            (Call::Offer { feeder, starts }, Told::Planned { cause: 0, .. }) => {
+                self.taken(feeder, &starts);
+            }
+            (
+                Call::Latest { feeder } | Call::Lines { feeder, .. },
+                Told::Planned { cause: 0, .. },
+            ) => self.taken(feeder, &[]),
+            (
+                Call::Enquire { ticket },
+                Told::Waiting { start, .. } | Told::Charging { start, .. },
+            ) => self.told(ticket.into(), start),
+            (Call::Board { tickets, .. }, Told::Board { starts, .. }) => {
+                let held = |(_, start): &(&u32, &u64)| **start != u64::from(NOT_HELD);
+                for (ticket, start) in tickets.iter().zip(&starts).filter(held) {
+                    self.told((*ticket).into(), *start);
                 }
             }
-            (Sort::Withdrawn, Call::Withdraw { ticket }) => self.withdrawn((*ticket).into()),
+            (Call::Withdraw { ticket }, Told::Withdrawn) => self.withdrawn(ticket.into()),
             _ => (),
         }
         self.entries[moment].clock = self.clock;
@@ -48,11 +55,24 @@ impl Evening {
     }
 
     fn charge(&mut self, ticket: u64) -> Option<&mut Charge> {
-        self.charges.iter_mut().rev().find(|charge| charge.ticket == ticket)
+        // Tickets are 1, 2, 3 and so on, but for a program that errs.
+        let usual = usize::try_from(ticket).ok()?.checked_sub(1);
+        let has_it =
+            |place: &usize| self.charges.get(*place).is_some_and(|one| one.ticket == ticket);
+        let place = usual
+            .filter(has_it)
+            .or_else(|| self.charges.iter().rposition(|one| one.ticket == ticket))?;
+        self.charges.get_mut(place)
     }
 
-    fn ordered(&mut self, order: &Order, shown: u32, answer: &Answer) {
-        let (ticket, start) = (answer.numbers[0], answer.numbers[1]);
+    fn opened(&mut self, told: &[u64]) {
+        let right: Vec<u64> = self.site.feeders.iter().map(|feeder| feeder.bound).collect();
+        if told != right {
+            self.broken(format!("bounds {told:?} told where {right:?} are right"));
+        }
+    }
+
+    fn ordered(&mut self, order: &Order, shown: u32, ticket: u64, start: u64) {
         let next = self.charges.last().map_or(1, |charge| charge.ticket + 1);
         if ticket != next {
             self.broken(format!("ticket {ticket} where {next} is next"));
@@ -103,14 +123,13 @@ impl Evening {
         }
     }
 
-    fn moved(&mut self, target: u64, answer: &Answer) {
+    fn moved(&mut self, target: u64, reported: &[(u64, u64)], dropped: u64) {
         let (before, moment) = (self.clock, self.last());
         if target < before {
             self.broken(format!("the clock runs back from {before}"));
         }
         self.clock = target;
-        for pair in answer.numbers[2..].chunks(2) {
-            let (ticket, start) = (pair[0], pair[1]);
+        for &(ticket, start) in reported {
             self.told(ticket, start);
             if start < before || start >= target {
                 self.broken(format!("ticket {ticket} with start {start} is reported here"));
@@ -123,7 +142,7 @@ impl Evening {
             }
         }
         self.overlooked(before);
-        self.dropped(before, answer.numbers[1]);
+        self.dropped(before, dropped);
     }
 
     /// Charges that the move passed and did not report.

@@ -2,20 +2,37 @@
 //! characters, so that it can be read without colour; colour only repeats it.
 
 use super::charge::{Charge, State};
-use super::entry::{Entry, Sort};
-use super::lanes::{self, Lane, Mark, Subject};
-use super::markup::shortened;
-use super::reading::{Evening, Story};
+use super::evening::Evening;
+use super::lanes::{Lane, Mark, Subject};
+use super::listing;
+use super::markup::{flowing, shortened};
+use super::reading::Story;
 use std::fmt::Write;
 
 /// Before the time axis stand ticket, feeder, line and rate; after it the lateness.
-const LEFT: usize = 13;
+pub(super) const LEFT: usize = 13;
 const RIGHT: usize = 6;
 const NARROWEST: usize = 40;
 /// Minutes for a character: numbers in which people think of time.
 const PACES: [u64; 16] = [1, 2, 3, 4, 5, 6, 8, 10, 12, 15, 20, 30, 60, 120, 240, 480];
 /// Characters between two minutes of the scale.
 const TICK: usize = 10;
+
+/// What the characters stand for.
+const LEGEND: [&str; 11] = [
+    "o ordered",
+    ". waiting",
+    "# charged",
+    "% charged after its due minute",
+    "~ tail",
+    "- planned",
+    "+ planned after its due minute",
+    "x withdrawn",
+    "+12 minutes late",
+    "= limit, bound or site limit reached",
+    "! broken",
+];
+const UNKNOWN: &str = "? not told by any answer";
 
 pub struct Look {
     pub columns: usize,
@@ -61,7 +78,7 @@ pub fn draw(story: &Story, look: &Look) -> String {
     if drawn.is_empty() {
         out.push_str("no order was taken\n");
     }
-    lists(story, &look, &mut out);
+    listing::lists(story, &look, &mut out);
     out
 }
 
@@ -92,8 +109,14 @@ impl<'a> Canvas<'a> {
         let (feeders, taken) = (site.feeders.len(), charges.len());
         let plural = |count: usize| if count == 1 { "" } else { "s" };
         let (many, some) = (plural(feeders), plural(taken));
-        self.line(&format!("{which}{feeders} feeder{many}, {taken} charge{some}, clock {clock}."));
-        self.line(&format!("A character is {} minute{}.", self.pace, plural(self.pace as usize)));
+        let pace = self.pace;
+        let minutes = plural(pace as usize);
+        let words = format!(
+            "{which}{feeders} feeder{many}, {taken} charge{some}, clock {clock}. A character is \
+             {pace} minute{minutes} and shows the most in them; numbers are read downwards."
+        );
+        let words: Vec<&str> = words.split(' ').collect();
+        self.out.push_str(&flowing(&words, " ", self.look.columns));
         self.lanes();
         self.charges();
     }
@@ -114,7 +137,7 @@ impl<'a> Canvas<'a> {
     }
 
     fn lanes(&mut self) {
-        for lane in lanes::at(self.evening, self.evening.last()) {
+        for lane in self.evening.lanes(self.evening.last()).iter() {
             match lane.subject {
                 Subject::Line { feeder, line: 1 } => {
                     let told = &self.evening.site.feeders[feeder - 1];
@@ -128,7 +151,7 @@ impl<'a> Canvas<'a> {
                 Subject::Site => self.line(""),
                 _ => (),
             }
-            self.lane(&lane);
+            self.lane(lane);
         }
     }
 
@@ -193,9 +216,9 @@ impl<'a> Canvas<'a> {
             self.row(&label, cells, &late);
         }
         self.line("");
-        self.line("o ordered  . waiting  # charged  % charged after its due minute  ~ tail");
-        self.line("- planned  + planned after its due minute  x withdrawn  +12 minutes late");
-        self.line("= limit, bound or site limit reached  ! broken  ? not told by any answer");
+        let unknown = (!drawn_whole(self.evening)).then_some(UNKNOWN);
+        let legend: Vec<&str> = LEGEND.into_iter().chain(unknown).collect();
+        self.out.push_str(&flowing(&legend, "  ", self.look.columns));
         self.line("");
     }
 
@@ -249,6 +272,11 @@ impl<'a> Canvas<'a> {
     }
 }
 
+/// Whether the start of every charge that stands was told.
+fn drawn_whole(evening: &Evening) -> bool {
+    !evening.charges.iter().any(|charge| charge.unknown(evening.last()))
+}
+
 fn late_cell(begun: bool) -> (char, Tint) {
     (if begun { '%' } else { '+' }, Tint::Yellow)
 }
@@ -278,50 +306,4 @@ fn tint(mark: Mark) -> Tint {
         Mark::Broken => Tint::Red,
         Mark::Unknown => Tint::Faint,
     }
-}
-
-/// The plans, the lines that changed nothing, and what is broken.
-fn lists(story: &Story, look: &Look, out: &mut String) {
-    let entries = || story.evenings.iter().flat_map(|evening| evening.shown());
-    let of = |wanted: fn(Sort) -> bool| -> Vec<&Entry> {
-        entries().map(|(_, entry)| entry).filter(|entry| wanted(entry.sort)).collect()
-    };
-    list("Plans:", &of(Sort::is_plan), look, out);
-    list("Refused:", &of(|sort| sort == Sort::Refused), look, out);
-    list("Unreadable:", &of(|sort| sort == Sort::Unreadable), look, out);
-    let broken = story.broken();
-    if broken.is_empty() {
-        out.push_str(
-            "Nothing is broken: every line, every spread and the site kept their limits.\n",
-        );
-        return;
-    }
-    out.push_str("BROKEN:\n");
-    for what in broken {
-        let (on, off) = if look.colour { ("\u{1b}[1;97;41m", "\u{1b}[0m") } else { ("", "") };
-        let _ = writeln!(out, "  {on}{}{off}", clean(&what));
-    }
-}
-
-fn list(title: &str, entries: &[&Entry], look: &Look, out: &mut String) {
-    if entries.is_empty() {
-        return;
-    }
-    let _ = writeln!(out, "{title}");
-    for entry in entries {
-        let meaning = if entry.sort == Sort::Unreadable { &entry.answer } else { &entry.meaning };
-        let call = shortened(&clean(&entry.call), look.columns - LEFT);
-        let mut text = format!("  line {:>4}  {call:<22}", entry.line);
-        // What does not fit beside the call stands below it.
-        if text.chars().count() + meaning.chars().count() + 2 > look.columns {
-            text = format!("{}\n{:LEFT$}", text.trim_end(), "");
-        }
-        let _ = writeln!(out, "{text}  {}", shortened(&clean(meaning), look.columns - LEFT - 2));
-    }
-    out.push('\n');
-}
-
-/// A malformed line may hold what would move the cursor.
-fn clean(text: &str) -> String {
-    text.chars().map(|one| if one.is_control() { '\u{fffd}' } else { one }).collect()
 }

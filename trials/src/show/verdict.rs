@@ -1,41 +1,54 @@
-//! What can be judged once all is read: the lateness that plans tell, and demand 3 as its
-//! checker finds it.
+//! What can be judged once all is read: limits and bounds, the lateness that plans tell, and
+//! demand 3 as its checker finds it.
 
 use super::charge::Charge;
 use super::entry::Sort;
-use super::reading::Evening;
+use super::evening::Evening;
+use super::lanes::Lane;
 use super::words::minutes;
 use crate::demand;
 use crate::script::Line;
-use crate::told::Answer;
+use crate::told::Told;
+use std::collections::HashSet;
+use std::rc::Rc;
+
+/// Minutes in which something is broken are told once, for the first moment in which they are.
+pub fn check_lanes(evening: &mut Evening) {
+    let mut told: HashSet<String> = HashSet::new();
+    for moment in 0..evening.entries.len() {
+        let lanes = evening.lanes(moment);
+        if moment > 0 && Rc::ptr_eq(&lanes, &evening.lanes(moment - 1)) {
+            continue;
+        }
+        for what in lanes.iter().filter_map(Lane::broken) {
+            if told.insert(what.clone()) {
+                evening.entries[moment].broken.push(what);
+            }
+        }
+    }
+}
 
 /// "lateness before and after": the sum over the charges that the feeder holds, where all of
 /// their starts were told.
 pub fn check_lateness(evening: &mut Evening) {
-    let told = |moment: usize| -> Option<String> {
-        let entry = &evening.entries[moment];
-        let numbers = Answer::of(&entry.answer).numbers;
-        let [_, before, after, _] = numbers[..] else { return None };
-        let feeder = entry.feeder?;
-        let held_before = lateness(evening, feeder, moment.checked_sub(1)?, entry.clock);
-        let held_after = lateness(evening, feeder, moment, entry.clock);
-        let differs = |told: u64, held: Option<u64>| held.is_some_and(|held| held != told);
-        match () {
-            () if differs(before, held_before) => {
-                Some(format!("{} late told before, {} held", minutes(before), held_before?))
-            }
-            () if differs(after, held_after) => {
-                Some(format!("{} late told after, {} held", minutes(after), held_after?))
-            }
-            () => None,
+    for moment in 1..evening.entries.len() {
+        if let Some(what) = wrong_lateness(evening, moment) {
+            evening.entries[moment].broken.push(what);
         }
-    };
-    let plans = (0..evening.entries.len()).filter(|moment| evening.entries[*moment].sort.is_plan());
-    let found: Vec<(usize, String)> =
-        plans.filter_map(|moment| Some((moment, told(moment)?))).collect();
-    for (moment, what) in found {
-        evening.entries[moment].broken.push(what);
     }
+}
+
+fn wrong_lateness(evening: &Evening, moment: usize) -> Option<String> {
+    let entry = &evening.entries[moment];
+    let Some(Told::Planned { before, after, .. }) = entry.told else { return None };
+    let feeder = entry.planned_feeder()?;
+    let held = |moment| lateness(evening, feeder, moment, entry.clock);
+    let sides = [("before", before, held(moment - 1)), ("after", after, held(moment))];
+    let (side, told, held) = sides
+        .into_iter()
+        .filter_map(|(side, told, held)| Some((side, told, held?)))
+        .find(|(_, told, held)| told != held)?;
+    Some(format!("{} late told {side}, {held} held", minutes(told)))
 }
 
 /// None where a start is not known.

@@ -1,0 +1,80 @@
+//! One station, from its opening to the next: its charges, its calls, and what was counted after
+//! each of them.
+
+use super::charge::Charge;
+use super::entry::Entry;
+use super::lanes::{self, Lane};
+use crate::told::Site;
+use std::rc::Rc;
+
+#[derive(Debug)]
+pub struct Evening {
+    pub site: Site,
+    /// In the order of their tickets, as they were given.
+    pub charges: Vec<Charge>,
+    pub entries: Vec<Entry>,
+    pub clock: u64,
+    /// The lanes after each call; calls that change none of them share theirs.
+    lanes: Vec<Rc<[Lane]>>,
+}
+
+impl Evening {
+    pub(super) fn of(site: Site) -> Evening {
+        let (charges, entries, lanes) = (Vec::new(), Vec::new(), Vec::new());
+        Evening { site, charges, entries, clock: 0, lanes }
+    }
+
+    /// The moment after its last call.
+    pub fn last(&self) -> usize {
+        self.entries.len().saturating_sub(1)
+    }
+
+    pub fn clock_after(&self, moment: usize) -> u64 {
+        self.entries.get(moment).map_or(0, |entry| entry.clock)
+    }
+
+    /// The lines of the script: what was asked for the picture is left out.
+    pub fn shown(&self) -> impl Iterator<Item = (usize, &Entry)> {
+        self.entries.iter().enumerate().filter(|(_, entry)| !entry.asked)
+    }
+
+    /// Counts, spreads and the site's sum as they are known after the call of a moment, gone
+    /// minutes and such to come.
+    pub fn lanes(&self, moment: usize) -> Rc<[Lane]> {
+        Rc::clone(&self.lanes[moment])
+    }
+
+    pub(super) fn count(&mut self) {
+        self.lanes = lanes::over(self);
+    }
+
+    /// The first minute that a picture has to show, and the one after the last. No charge of a
+    /// sound station ends after the last order minute plus the times of all orders, so what is
+    /// told to be later than that is cut off, and one wrong number does not hide all others.
+    pub fn span(&self) -> (u64, u64) {
+        let orders = self.charges.iter();
+        let first = orders.clone().map(|charge| charge.ordered.minute).min().unwrap_or(0);
+        let last = orders.clone().map(|charge| charge.ordered.minute).max().unwrap_or(0);
+        let times = orders.clone().map(|charge| charge.time + charge.tail).sum::<u64>();
+        let held = |charge: &Charge| {
+            let starts = charge.held.iter().filter_map(|held| held.start);
+            starts.map(|start| charge.clear(start)).max()
+        };
+        let clear = orders.filter_map(held).max().unwrap_or(0);
+        (first, clear.min(last + times).max(first + 1))
+    }
+
+    /// What came out by a question stands with the call of the script before it.
+    pub(super) fn gather(&mut self) {
+        let mut own = 0;
+        for moment in 0..self.entries.len() {
+            if !self.entries[moment].asked {
+                own = moment;
+                continue;
+            }
+            let found = std::mem::take(&mut self.entries[moment].broken);
+            let told = found.iter().map(|what| format!("asked after it: {what}"));
+            self.entries[own].broken.extend(told);
+        }
+    }
+}
