@@ -199,7 +199,7 @@ impl<'a> Canvas<'a> {
 
     fn charges(&mut self) {
         self.line("");
-        self.line("ticket f/l");
+        self.line("ticket feeder/line, x2: rate 2");
         self.scale();
         let mut charges: Vec<&Charge> = self.evening.charges.iter().collect();
         charges.sort_by_key(|charge| (charge.feeder, charge.line, charge.ticket));
