@@ -15,29 +15,29 @@ pub const HATCHES: &str = include_str!("hatches.svg");
 /// Around a drawing of its own.
 const MARGIN: u32 = 8;
 
-/// A block: its scale, the pieces in their slots, and upon them names and limits.
+/// A block: the pieces in their slots, below them a grid, and above them what has to be read.
 pub fn block(evening: &Evening, layout: &Layout, block: &Block, slots: &str) -> String {
-    let mut out = scale(layout, block.height) + slots;
+    let ticks: Vec<(u64, f64)> =
+        layout.ticks().into_iter().map(|minute| (minute, layout.across(minute))).collect();
+    let grid = ticks.iter().map(|(_, x)| {
+        let height = block.height;
+        format!(r#"<line class="grid" x1="{x:.2}%" x2="{x:.2}%" y1="16" y2="{height}"/>"#)
+    });
+    let mut out = grid.collect::<String>() + slots;
+    out.push_str(r#"<text class="tick axis" x="-6" y="12">minute</text>"#);
+    for (minute, x) in ticks {
+        let anchor = if x > 97.0 { "end" } else { "middle" };
+        let _ = write!(
+            out,
+            r#"<text class="tick" x="{x:.2}%" y="12" text-anchor="{anchor}">{minute}</text>"#
+        );
+    }
     for (top, title) in &block.titles {
         let _ = write!(out, r#"<text class="name" x="-{GUTTER}" y="{}">{title}</text>"#, top + 12);
     }
     if let Parts::Lanes(bands) = &block.parts {
         let lanes = evening.lanes(evening.last());
         bands.iter().for_each(|band| out.push_str(&frame(band, &lanes[band.lane])));
-    }
-    out
-}
-
-fn scale(layout: &Layout, height: u32) -> String {
-    let mut out = r#"<text class="tick axis" x="-6" y="12">minute</text>"#.to_string();
-    for minute in layout.ticks() {
-        let x = layout.across(minute);
-        let anchor = if x > 97.0 { "end" } else { "middle" };
-        let _ = write!(
-            out,
-            "<line class=\"grid\" x1=\"{x:.2}%\" x2=\"{x:.2}%\" y1=\"16\" y2=\"{height}\"/>\
-             <text class=\"tick\" x=\"{x:.2}%\" y=\"12\" text-anchor=\"{anchor}\">{minute}</text>"
-        );
     }
     out
 }

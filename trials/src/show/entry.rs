@@ -87,7 +87,7 @@ impl Entry {
     pub fn meaning(&self) -> String {
         match &self.told {
             None => "no answer to this call".to_string(),
-            Some(Told::Error) => "not a call".to_string(),
+            Some(Told::Error) => format!("not a call{}", self.carriage_return()),
             Some(Told::Refused(number)) => format!("refused: {}", words::refusal(*number)),
             Some(Told::Planned { cause: 0, before, after }) => {
                 format!("taken: {} late before, {after} after", words::minutes(*before))
@@ -96,6 +96,14 @@ impl Entry {
                 format!("{}, {} late", words::cause(*cause), words::minutes(*before))
             }
             _ => String::new(),
+        }
+    }
+
+    /// A script from elsewhere may have such lines throughout, and nothing shows why none is read.
+    pub fn carriage_return(&self) -> &'static str {
+        match self.text.ends_with('\r') {
+            true => ", the line ends with a carriage return",
+            false => "",
         }
     }
 

@@ -6,7 +6,6 @@ use super::entry::{Entry, Sort};
 use super::markup::{flowing, shortened, without_controls};
 use super::reading::Story;
 use super::terminal::{Look, LEFT};
-use super::words;
 use crate::protocol::LONGEST_LINE;
 use crate::script::{self, Line};
 use crate::told;
@@ -54,8 +53,7 @@ pub fn lists(story: &Story, look: &Look, out: &mut String) {
     list("Unreadable:", &of(|sort| sort == Sort::Unreadable), look, out);
     let broken = story.broken();
     if broken.is_empty() {
-        let kept = words::kept(story.all_told());
-        let kept: Vec<&str> = kept.split(' ').collect();
+        let kept: Vec<&str> = story.kept().split(' ').collect();
         out.push_str(&flowing(&kept, " ", look.columns));
         return;
     }
@@ -77,7 +75,7 @@ fn list(title: &str, entries: &[&Entry], look: &Look, out: &mut String) {
     let _ = writeln!(out, "{title}");
     for entry in entries {
         let meaning = match entry.sort {
-            Sort::Unreadable => without_controls(&entry.answer),
+            Sort::Unreadable => without_controls(&entry.answer) + entry.carriage_return(),
             _ => entry.meaning(),
         };
         let call = shortened(&without_controls(&entry.text), look.columns - LEFT);

@@ -39,7 +39,11 @@ fn reading(lane: &Lane) -> String {
         format!("{} to {}: {}{mark}", step.from, step.to, step.value)
     };
     let steps: Vec<String> = lane.steps.iter().map(step).collect();
-    format!("{name}, {most} {}; minutes {}", lane.most, steps.join(", "))
+    let steps = match steps.as_slice() {
+        [] => "nothing".to_string(),
+        steps => format!("minutes {}", steps.join(", ")),
+    };
+    format!("{name}, {most} {}; {steps}", lane.most)
 }
 
 /// A hatch would be stretched together with the minutes.

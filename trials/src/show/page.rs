@@ -8,7 +8,6 @@ use super::film::Film;
 use super::layout::Layout;
 use super::markup::{escaped, shortened};
 use super::reading::Story;
-use super::words;
 use std::fmt::Write;
 
 const PAGE: &str = include_str!("page.html");
@@ -57,7 +56,7 @@ fn filled(template: &str, places: &[(&str, String)]) -> String {
 fn verdict(story: &Story) -> String {
     let broken = story.broken();
     if broken.is_empty() {
-        return format!("<p class=\"verdict kept\">{}</p>", words::kept(story.all_told()));
+        return format!("<p class=\"verdict kept\">{}</p>", story.kept());
     }
     let items: Vec<String> =
         broken.iter().map(|what| format!("<li>{}</li>", escaped(&shortened(what, 400)))).collect();

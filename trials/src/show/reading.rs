@@ -27,11 +27,22 @@ impl Story {
         lines.chain(self.troubles.iter().cloned()).collect()
     }
 
-    /// Whether an answer told the start of every charge that stands at the end.
-    pub fn all_told(&self) -> bool {
-        let unknown =
+    /// Said where nothing is broken, and no more than the answers tell.
+    pub fn kept(&self) -> &'static str {
+        let charges = || self.evenings.iter().flat_map(|evening| &evening.charges);
+        let untold =
             |evening: &Evening| evening.charges.iter().any(|charge| charge.unknown(evening.last()));
-        !self.evenings.iter().any(unknown)
+        match () {
+            () if charges().next().is_none() => "No order was taken, so nothing draws.",
+            () if self.evenings.iter().any(untold) => {
+                "Nothing is broken as far as starts were told: no line, no spread and no site was \
+                 above its limit."
+            }
+            () => {
+                "Nothing is broken: every line, every spread and the site kept their limits in \
+                 every minute."
+            }
+        }
     }
 }
 

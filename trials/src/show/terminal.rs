@@ -70,13 +70,10 @@ type Cells = Vec<(char, Tint)>;
 pub fn draw(story: &Story, look: &Look) -> String {
     let mut out = String::new();
     let look = Look { columns: look.columns.max(NARROWEST), colour: look.colour };
-    let drawn: Vec<&Evening> =
-        story.evenings.iter().filter(|evening| !evening.charges.is_empty()).collect();
-    for (place, evening) in drawn.iter().enumerate() {
-        Canvas::of(evening, &look, &mut out).draw(place + 1, drawn.len());
-    }
-    if drawn.is_empty() {
-        out.push_str("no order was taken\n");
+    for (place, evening) in story.evenings.iter().enumerate() {
+        if !evening.charges.is_empty() {
+            Canvas::of(evening, &look, &mut out).draw(place + 1, story.evenings.len());
+        }
     }
     listing::lists(story, &look, &mut out);
     out

@@ -54,12 +54,3 @@ pub fn cause(number: u64) -> &'static str {
         _ => "a cause that there is not",
     }
 }
-
-/// Said where nothing is broken, and no more than the answers tell.
-pub fn kept(all_told: bool) -> String {
-    let kept = "every line, every spread and the site kept their limits in every minute.";
-    match all_told {
-        true => format!("Nothing is broken: {kept}"),
-        false => format!("Nothing is broken, as far as starts were told: {kept}"),
-    }
-}

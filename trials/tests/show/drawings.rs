@@ -89,7 +89,8 @@ fn any_script_is_drawn() {
         assert!(page::page(&story, "malformed").ends_with("</html>\n"));
     }
     let nothing = read(&[], &[]);
-    assert!(draw(&nothing, &Look { columns: 80, colour: false }).starts_with("no order was taken"));
+    let drawn = draw(&nothing, &Look { columns: 80, colour: false });
+    assert_eq!(drawn, "No order was taken, so nothing draws.\n");
     assert!(page::page(&nothing, "nothing").contains("</html>"));
 }
 
@@ -159,4 +160,18 @@ fn a_full_site() {
     assert!(html.len() < 12_000_000, "{} bytes", html.len());
     let drawn = draw(&story, &Look { columns: 80, colour: false });
     assert!(drawn.contains("   720 4/3"));
+}
+
+/// Lines that end with a carriage return, as some editors write them, and several stations.
+#[test]
+fn carriage_returns_and_stations_without_orders() {
+    let text =
+        "open 1 720 1 100 0\r\nopen 2 720 1 100 0 1 100 0\nopen 1 720 1 100 0\ncommit 1 1 5 5 1 0";
+    let story = story(text);
+    let drawn = draw(&story, &Look { columns: 80, colour: false });
+    assert!(drawn.starts_with("Station 3 of 3: 1 feeder, 1 charge, clock 0."), "{drawn}");
+    assert!(drawn.contains("error not a number, the line ends with a carriage return"), "{drawn}");
+    let html = page::page(&story, "several");
+    assert_eq!(html.matches("<h2>Station ").count(), 3);
+    assert_eq!(html.matches("<p>No order was taken.</p>").count(), 2);
 }
