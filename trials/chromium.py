@@ -37,7 +37,7 @@ class Browser:
             os.dup2(high, 4)
 
         words = [program, "--headless", "--remote-debugging-pipe", "--no-sandbox", "--disable-gpu", "--no-first-run",
-                 "--hide-scrollbars", f"--user-data-dir={folder}", "about:blank"]
+                 "--disable-dev-shm-usage", "--hide-scrollbars", f"--user-data-dir={folder}", "about:blank"]
         self.process = subprocess.Popen(words, preexec_fn=pipes, close_fds=False, stdout=subprocess.DEVNULL,
                                         stderr=subprocess.DEVNULL)
         os.close(to_it)

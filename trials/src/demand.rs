@@ -10,7 +10,7 @@ mod withdrawal;
 
 use crate::protocol::Call;
 use crate::script::Line;
-use crate::told::{self, Load, Pair, Site, Told};
+use crate::told::{self, Counts, Load, Pair, Site, Told};
 use crate::yard;
 use std::fmt;
 
@@ -297,11 +297,11 @@ impl Trace {
             Load { feeder: order.feeder, line, start, clear, rate: order.rate }
         };
         let loads: Vec<Load> = self.standing().map(load).collect();
-        let counts = told::counts(&loads, self.site.feeders.len());
+        let counts = told::counts(&loads);
         counts.iter().try_for_each(|(minute, counts)| self.check_minute(*minute, counts))
     }
 
-    fn check_minute(&self, minute: u64, counts: &[[i64; 3]]) -> Checked {
+    fn check_minute(&self, minute: u64, counts: &Counts) -> Checked {
         for (number, (feeder, counts)) in self.site.feeders.iter().zip(counts).enumerate() {
             ensure(feeder.sound(counts), || {
                 format!("minute {minute} has counts {counts:?} on feeder {}", number + 1)

@@ -85,6 +85,13 @@ fn tickets() {
     assert!(falsified("ticket 2 start 10", "ticket 3 start 10").contains("where 2 is next"));
     assert!(falsified("ticket 1 start 0", "refused 13").contains("where 1 is next"));
     assert!(falsified("ticket 6 start 23", "refused 13").contains("not given"));
+    // Of a line and a feeder that there are not.
+    for (order, what) in [("1 0", "line 0"), ("1 4", "line 4"), ("2 1", "feeder 2")] {
+        let text = format!("open 1 720 2 50 0\ncommit {order} 10 60 1 0");
+        let answers = lines("open 0 1\nticket 1 start 0");
+        let broken = demand::check(&lines(&text), &answers).expect_err(what);
+        assert_eq!(broken.what, format!("an order of {what} is taken"));
+    }
 }
 
 #[test]

@@ -4,7 +4,7 @@
 use super::evening::Evening;
 use super::film::Film;
 use super::lanes::Lane;
-use super::layout::{Band, Block, Layout, Parts, GUTTER};
+use super::layout::{Band, Block, Layout, GUTTER};
 use std::fmt::Write;
 
 /// What the shapes look like, for the page and for a drawing alone.
@@ -35,10 +35,8 @@ pub fn block(evening: &Evening, layout: &Layout, block: &Block, slots: &str) -> 
     for (top, title) in &block.titles {
         let _ = write!(out, r#"<text class="name" x="-{GUTTER}" y="{}">{title}</text>"#, top + 12);
     }
-    if let Parts::Lanes(bands) = &block.parts {
-        let lanes = evening.lanes(evening.last());
-        bands.iter().for_each(|band| out.push_str(&frame(band, &lanes[band.lane])));
-    }
+    let lanes = evening.last_lanes();
+    block.bands().iter().for_each(|band| out.push_str(&frame(band, &lanes[band.lane])));
     out
 }
 

@@ -1,5 +1,4 @@
-//! One station, from its opening to the next: its charges, its calls, and what was counted after
-//! each of them.
+//! One station, from its opening to the next: its charges and its calls.
 
 use super::charge::Charge;
 use super::entry::Entry;
@@ -14,14 +13,14 @@ pub struct Evening {
     pub charges: Vec<Charge>,
     pub entries: Vec<Entry>,
     pub clock: u64,
-    /// The lanes after each call; calls that change none of them share theirs.
-    lanes: Vec<Rc<[Lane]>>,
+    /// The largest number that each lane ever has.
+    pub highest: Vec<u64>,
 }
 
 impl Evening {
     pub(super) fn of(site: Site) -> Evening {
-        let (charges, entries, lanes) = (Vec::new(), Vec::new(), Vec::new());
-        Evening { site, charges, entries, clock: 0, lanes }
+        let (charges, entries, highest) = (Vec::new(), Vec::new(), Vec::new());
+        Evening { site, charges, entries, clock: 0, highest }
     }
 
     /// The moment after its last call.
@@ -38,14 +37,9 @@ impl Evening {
         self.entries.iter().enumerate().filter(|(_, entry)| !entry.asked)
     }
 
-    /// Counts, spreads and the site's sum as they are known after the call of a moment, gone
-    /// minutes and such to come.
-    pub fn lanes(&self, moment: usize) -> Rc<[Lane]> {
-        Rc::clone(&self.lanes[moment])
-    }
-
-    pub(super) fn count(&mut self) {
-        self.lanes = lanes::over(self);
+    /// Counts, spreads and the site's sum after the last call.
+    pub fn last_lanes(&self) -> Rc<[Lane]> {
+        lanes::at(self, self.last())
     }
 
     /// The first minute that a picture has to show, and the one after the last. No charge of a

@@ -6,17 +6,19 @@ use super::bar::{self, Face};
 use super::charge::Charge;
 use super::entry::{Entry, Sort};
 use super::evening::Evening;
-use super::lanes::Lane;
-use super::layout::{Layout, Parts};
+use super::lanes::{self, Lane};
+use super::layout::{Block, Layout, Parts, Row};
 use super::numbers;
 use crate::protocol::Call;
 use std::collections::HashMap;
 use std::rc::Rc;
 
+#[derive(Default)]
 pub struct Film {
     pieces: Vec<String>,
     numbers: HashMap<String, usize>,
-    /// For each slot, block by block, the steps at which it gets another piece, with the piece.
+    /// For each slot, block by block, the steps at which it gets another piece, with the piece. A
+    /// step is a call of the script.
     slots: Vec<Vec<(usize, usize)>>,
     /// The first slot of each block.
     blocks: Vec<usize>,
@@ -24,97 +26,45 @@ pub struct Film {
     plans: Vec<usize>,
 }
 
+/// The steps at which a slot gets another piece, with the piece.
+type Changes = Vec<(usize, String)>;
+
 impl Film {
-    /// A step is a call of the script.
     pub fn of(evening: &Evening, layout: &Layout) -> Film {
-        let (pieces, numbers, mut blocks) = (Vec::new(), HashMap::new(), Vec::new());
-        let mut count = 0;
+        let shown: Vec<(usize, &Entry)> = evening.shown().collect();
+        let moments: Vec<usize> = shown.iter().map(|(moment, _)| *moment).collect();
+        let plans = (0..shown.len()).filter(|step| shown[*step].1.sort.is_plan()).collect();
+        let mut film = Film { plans, ..Film::default() };
+        let mut lanes = lanes(evening, layout).into_iter();
         for block in &layout.blocks {
-            blocks.push(count);
-            count += block.slots();
-        }
-        let plans = evening.shown().enumerate().filter(|(_, (_, entry))| entry.sort.is_plan());
-        let plans = plans.map(|(step, _)| step).collect();
-        let mut film = Film { pieces, numbers, slots: vec![Vec::new(); count], blocks, plans };
-        let moments: Vec<usize> = evening.shown().map(|(moment, _)| moment).collect();
-        for (block, first) in layout.blocks.iter().zip(film.blocks.clone()) {
-            film.clocks(evening, layout, &moments, first);
+            film.blocks.push(film.slots.len());
+            film.slot(clock(evening, layout, &moments));
             match &block.parts {
                 Parts::Lanes(bands) => {
-                    for (place, band) in bands.iter().enumerate() {
-                        let draw = |lane: &Lane| numbers::piece(layout, lane, band);
-                        film.lane(evening, &moments, (first + 1 + place, band.lane), draw);
-                    }
+                    let parts = lanes.by_ref().take(bands.len()).flatten();
+                    parts.for_each(|part| film.slot(part));
                 }
                 Parts::Charges(rows) => {
-                    for (place, row) in rows.iter().enumerate() {
-                        let charge = &evening.charges[row.charge];
-                        let draw = |face: &Face| bar::piece(layout, row, charge, face);
-                        film.bar(evening, &moments, (first + 1 + place, row.charge), draw);
-                    }
+                    rows.iter().for_each(|row| film.slot(bar(evening, &moments, layout, row)));
                 }
             }
         }
         film
     }
 
-    /// From a step on a slot has this piece.
-    fn put(&mut self, slot: usize, step: usize, piece: String) {
-        let next = self.pieces.len();
-        let number = *self.numbers.entry(piece).or_insert_with_key(|piece| {
-            self.pieces.push(piece.clone());
-            next
-        });
-        if self.slots[slot].last().is_none_or(|(_, last)| *last != number) {
-            self.slots[slot].push((step, number));
-        }
-    }
-
-    fn clocks(&mut self, evening: &Evening, layout: &Layout, moments: &[usize], slot: usize) {
-        for (step, moment) in moments.iter().enumerate() {
-            let x = layout.across(evening.clock_after(*moment));
-            let piece = format!(
-                "<rect class=\"past\" width=\"{x:.2}%\" height=\"100%\"/>\
-                 <line class=\"clock\" x1=\"{x:.2}%\" x2=\"{x:.2}%\" y2=\"100%\"/>"
-            );
-            self.put(slot, step, piece);
-        }
-    }
-
-    fn lane(
-        &mut self,
-        evening: &Evening,
-        moments: &[usize],
-        (slot, lane): (usize, usize),
-        draw: impl Fn(&Lane) -> String,
-    ) {
-        let mut before: Option<Rc<[Lane]>> = None;
-        for (step, moment) in moments.iter().enumerate() {
-            let lanes = evening.lanes(*moment);
-            if before.is_none_or(|before| before[lane] != lanes[lane]) {
-                self.put(slot, step, draw(&lanes[lane]));
+    fn slot(&mut self, changes: Changes) {
+        let mut slot: Vec<(usize, usize)> = Vec::new();
+        for (step, piece) in changes {
+            let next = self.pieces.len();
+            let number = *self.numbers.entry(piece).or_insert_with_key(|piece| {
+                self.pieces.push(piece.clone());
+                next
+            });
+            if slot.last().is_none_or(|(_, last)| *last != number) {
+                slot.push((step, number));
             }
-            before = Some(lanes);
         }
-    }
-
-    fn bar(
-        &mut self,
-        evening: &Evening,
-        moments: &[usize],
-        (slot, charge): (usize, usize),
-        draw: impl Fn(&Face) -> String,
-    ) {
-        let mut before = None;
-        for (step, moment) in moments.iter().enumerate() {
-            let ghost = ghost(evening, charge, *moment);
-            let clock = evening.clock_after(*moment);
-            let face = Face::of(&evening.charges[charge], *moment, clock, ghost);
-            if step == 0 || face != before {
-                self.put(slot, step, face.as_ref().map_or(String::new(), &draw));
-            }
-            before = face;
-        }
+        self.slots.push(slot);
     }
 
     /// The pieces of a block at the end of the evening, which stand there before any script runs,
@@ -146,6 +96,60 @@ impl Film {
             plans.join(",")
         )
     }
+}
+
+fn clock(evening: &Evening, layout: &Layout, moments: &[usize]) -> Changes {
+    let piece = |moment: &usize| {
+        let x = layout.across(evening.clock_after(*moment));
+        format!(
+            "<rect class=\"past\" width=\"{x:.2}%\" height=\"100%\"/>\
+             <line class=\"clock\" x1=\"{x:.2}%\" x2=\"{x:.2}%\" y2=\"100%\"/>"
+        )
+    };
+    moments.iter().map(piece).enumerate().collect()
+}
+
+/// For each lane, in the order of the blocks, the changes of each of its parts.
+fn lanes(evening: &Evening, layout: &Layout) -> Vec<Vec<Changes>> {
+    let bands = || layout.blocks.iter().flat_map(Block::bands);
+    let windows = || layout.cuts.windows(2);
+    let mut all: Vec<Vec<Changes>> =
+        bands().map(|_| windows().map(|_| Vec::new()).collect()).collect();
+    let mut before: Option<Rc<[Lane]>> = None;
+    let shown = lanes::walk(evening).zip(&evening.entries).filter(|(_, entry)| !entry.asked);
+    for (step, (lanes, _)) in shown.enumerate() {
+        for (parts, band) in all.iter_mut().zip(bands()) {
+            let old = before.as_ref().map(|before| &before[band.lane]);
+            let new = &lanes[band.lane];
+            if old == Some(new) {
+                continue;
+            }
+            for (part, cuts) in parts.iter_mut().zip(windows()) {
+                let now = new.between(cuts[0], cuts[1]);
+                if old.is_none_or(|old| old.between(cuts[0], cuts[1]) != now) {
+                    part.push((step, numbers::piece(layout, &now, band)));
+                }
+            }
+        }
+        before = Some(lanes);
+    }
+    all
+}
+
+fn bar(evening: &Evening, moments: &[usize], layout: &Layout, row: &Row) -> Changes {
+    let mut changes = Vec::new();
+    let charge = &evening.charges[row.charge];
+    let mut before = None;
+    for (step, moment) in moments.iter().enumerate() {
+        let ghost = ghost(evening, row.charge, *moment);
+        let face = Face::of(charge, *moment, evening.clock_after(*moment), ghost);
+        if step == 0 || face != before {
+            let piece = face.map_or(String::new(), |face| bar::piece(layout, row, charge, &face));
+            changes.push((step, piece));
+        }
+        before = face;
+    }
+    changes
 }
 
 /// Where a waiting charge was before a plan that was taken, or would be by an offer that was kept

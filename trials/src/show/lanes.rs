@@ -80,6 +80,14 @@ impl Lane {
         self.steps.iter().map(|step| step.value).max().unwrap_or(0)
     }
 
+    /// Only what it has from a minute on, up to another.
+    pub fn between(&self, first: u64, last: u64) -> Lane {
+        let begin = self.steps.partition_point(|step| step.to <= first);
+        let inside = self.steps[begin..].iter().take_while(|step| step.from < last);
+        let cut = |step: &Step| Step { from: step.from.max(first), to: step.to.min(last), ..*step };
+        Lane { subject: self.subject, most: self.most, steps: inside.map(cut).collect() }
+    }
+
     /// The first minute in which it is broken, in words.
     pub fn broken(&self) -> Option<String> {
         let step = self.steps.iter().find(|step| step.mark == Mark::Broken)?;
@@ -124,7 +132,7 @@ impl Known {
     }
 
     fn lanes(&self, evening: &Evening) -> Rc<[Lane]> {
-        let counts = told::counts(&self.loads, evening.site.feeders.len());
+        let counts = told::counts(&self.loads);
         let lane = |(subject, most): (Subject, u64)| {
             let hidden = self.hidden.iter().any(|feeder| subject.of_feeder(*feeder));
             let known_to = if hidden { self.clock } else { u64::MAX };
@@ -134,19 +142,24 @@ impl Known {
     }
 }
 
-/// The lanes after each call, counted anew where something changed.
-pub fn over(evening: &Evening) -> Vec<Rc<[Lane]>> {
+/// The lanes as they are known after the call of a moment, gone minutes and such to come.
+pub fn at(evening: &Evening, moment: usize) -> Rc<[Lane]> {
+    Known::at(evening, moment).lanes(evening)
+}
+
+/// The lanes after each call in turn, counted anew where something changed. They are not kept: those
+/// of all calls of a week would fill the memory.
+pub fn walk(evening: &Evening) -> impl Iterator<Item = Rc<[Lane]>> + '_ {
     let mut before: Option<(Known, Rc<[Lane]>)> = None;
-    let mut after = |moment: usize| {
+    (0..evening.entries.len()).map(move |moment| {
         let known = Known::at(evening, moment);
-        let lanes = match &before {
-            Some((same, lanes)) if *same == known => Rc::clone(lanes),
+        let lanes = match before.take() {
+            Some((same, lanes)) if same == known => lanes,
             _ => known.lanes(evening),
         };
         before = Some((known, Rc::clone(&lanes)));
         lanes
-    };
-    (0..evening.entries.len()).map(&mut after).collect()
+    })
 }
 
 /// Equal neighbours are one step, and minutes with nothing are left out.

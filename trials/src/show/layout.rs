@@ -5,7 +5,6 @@
 use super::charge::Charge;
 use super::evening::Evening;
 use super::lanes::Subject;
-use std::rc::Rc;
 
 /// Left of the time axis: tickets and the numbers of scales.
 pub const GUTTER: u32 = 50;
@@ -19,10 +18,16 @@ const SCALE: u32 = 18;
 const TICKS: u64 = 8;
 /// A limit that is so many times what is ever drawn is told and not drawn.
 const FAR: u64 = 4;
+/// A lane is drawn in one part for so many charges, and in so many parts at most.
+const PART: usize = 60;
+const PARTS: usize = 64;
 
 pub struct Layout {
     pub first: u64,
     pub last: u64,
+    /// Where lanes are cut into parts: an order changes only some of them, so that a page of many
+    /// orders stays small.
+    pub cuts: Vec<u64>,
     pub blocks: Vec<Block>,
 }
 
@@ -63,7 +68,9 @@ impl Layout {
         let mut blocks = lane_blocks(evening);
         let feeders = 1..=evening.site.feeders.len() as u32;
         blocks.extend(feeders.filter_map(|feeder| charge_block(evening, feeder)));
-        Layout { first, last, blocks }
+        let parts = (evening.charges.len().div_ceil(PART)).clamp(1, PARTS) as u64;
+        let cuts = (0..=parts).map(|part| first + (last - first) * part / parts).collect();
+        Layout { first, last, cuts, blocks }
     }
 
     /// A minute in hundredths of the width, cut off at the edges.
@@ -89,9 +96,8 @@ impl Layout {
 
 /// The lanes of each feeder, then that of the site.
 fn lane_blocks(evening: &Evening) -> Vec<Block> {
-    let highest = highest(evening);
     let mut blocks: Vec<Block> = Vec::new();
-    for (place, lane) in evening.lanes(evening.last()).iter().enumerate() {
+    for (place, lane) in evening.last_lanes().iter().enumerate() {
         let name = match lane.subject {
             Subject::Line { feeder, line: 1 } => {
                 Some(format!("Feeder {feeder}: the count of each line and the spread"))
@@ -106,28 +112,12 @@ fn lane_blocks(evening: &Evening) -> Vec<Block> {
         let Some(Block { height, parts: Parts::Lanes(bands), .. }) = blocks.last_mut() else {
             continue;
         };
-        let most = highest[place].max(1);
+        let most = evening.highest[place].max(1);
         let full = if lane.most > FAR * most { most } else { lane.most.max(most) };
         bands.push(Band { lane: place, top: *height + TITLE, full });
         *height += TITLE + LANE + GAP;
     }
     blocks
-}
-
-/// The largest number that each lane ever has.
-fn highest(evening: &Evening) -> Vec<u64> {
-    let mut before = evening.lanes(0);
-    let mut highest: Vec<u64> = before.iter().map(|lane| lane.highest()).collect();
-    for moment in 1..evening.entries.len() {
-        let lanes = evening.lanes(moment);
-        if !Rc::ptr_eq(&lanes, &before) {
-            for (most, lane) in highest.iter_mut().zip(lanes.iter()) {
-                *most = lane.highest().max(*most);
-            }
-        }
-        before = lanes;
-    }
-    highest
 }
 
 /// The charges of a feeder, line by line.
@@ -152,11 +142,10 @@ fn charge_block(evening: &Evening, feeder: u32) -> Option<Block> {
 }
 
 impl Block {
-    /// How many pieces change from call to call: the clock, and one for each part.
-    pub fn slots(&self) -> usize {
-        1 + match &self.parts {
-            Parts::Lanes(bands) => bands.len(),
-            Parts::Charges(rows) => rows.len(),
+    pub fn bands(&self) -> &[Band] {
+        match &self.parts {
+            Parts::Lanes(bands) => bands,
+            Parts::Charges(_) => &[],
         }
     }
 }

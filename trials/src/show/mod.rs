@@ -4,6 +4,7 @@
 
 pub mod ask;
 mod bar;
+mod cells;
 pub mod charge;
 mod drawing;
 mod entry;

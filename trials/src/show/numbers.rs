@@ -13,16 +13,14 @@ fn name(mark: Mark) -> &'static str {
     }
 }
 
-/// Everything that a lane shows: areas, numbers upon them, and the words.
+/// Everything that a lane, or the part of one, shows: areas, numbers upon them, and the words.
 pub fn piece(layout: &Layout, lane: &Lane, band: &Band) -> String {
-    let inside = |step: &Step| step.from < layout.last;
-    let steps: Vec<Step> = lane.steps.iter().copied().filter(inside).collect();
     let mut out = format!("<g role=\"img\"><title>{}</title>", reading(lane));
-    out.push_str(&plain(layout, &steps, band));
-    for step in steps.iter().filter(|step| is_hatched(step.mark)) {
+    out.push_str(&plain(layout, &lane.steps, band));
+    for step in lane.steps.iter().filter(|step| is_hatched(step.mark)) {
         out.push_str(&hatched(layout, step, band));
     }
-    steps.iter().for_each(|step| out.push_str(&label(layout, step, band)));
+    lane.steps.iter().for_each(|step| out.push_str(&label(layout, step, band)));
     out + "</g>"
 }
 
@@ -55,7 +53,7 @@ fn is_hatched(mark: Mark) -> bool {
 fn plain(layout: &Layout, steps: &[Step], band: &Band) -> String {
     let mut areas = String::new();
     for mark in [Mark::Within, Mark::Reached] {
-        let path = path(layout, steps.iter().filter(|step| step.mark == mark), band.full);
+        let path = path(steps.iter().filter(|step| step.mark == mark), band.full);
         if !path.is_empty() {
             let _ = write!(areas, r#"<path class="{}" d="{path}"/>"#, name(mark));
         }
@@ -72,19 +70,18 @@ fn plain(layout: &Layout, steps: &[Step], band: &Band) -> String {
 }
 
 /// From the ground up, along the steps that follow each other, and down again.
-fn path<'a>(layout: &Layout, steps: impl Iterator<Item = &'a Step>, full: u64) -> String {
+fn path<'a>(steps: impl Iterator<Item = &'a Step>, full: u64) -> String {
     let mut path = String::new();
     let mut reached = None;
     for step in steps {
-        let to = step.to.min(layout.last);
         if reached != Some(step.from) {
             if reached.is_some() {
                 let _ = write!(path, "V{full}z");
             }
             let _ = write!(path, "M{} {full}", step.from);
         }
-        let _ = write!(path, "V{}H{to}", full - step.value.min(full));
-        reached = Some(to);
+        let _ = write!(path, "V{}H{}", full - step.value.min(full), step.to);
+        reached = Some(step.to);
     }
     if reached.is_some() {
         let _ = write!(path, "V{full}z");

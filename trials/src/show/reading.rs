@@ -64,7 +64,6 @@ pub fn read(lines: &[Line], answers: &[Line]) -> Story {
     let mut reader = Reader { lines, read: 0, own: 0, evenings, places: Vec::new() };
     told::pairs(lines, answers).for_each(|pair| reader.take(pair));
     let Reader { mut evenings, places, .. } = reader;
-    evenings.iter_mut().for_each(Evening::count);
     evenings.iter_mut().for_each(verdict::check_lanes);
     evenings.iter_mut().for_each(verdict::check_lateness);
     verdict::check_demand(&mut evenings, &places, lines, answers);

@@ -1,7 +1,8 @@
 //! An evening in a terminal: a character stands for some minutes, and everything is told by
 //! characters, so that it can be read without colour; colour only repeats it.
 
-use super::charge::{Charge, State};
+use super::cells::{self, digit, sign, tint, Cells, Tint};
+use super::charge::Charge;
 use super::evening::Evening;
 use super::lanes::{Lane, Mark, Subject};
 use super::listing;
@@ -9,9 +10,8 @@ use super::markup::{flowing, shortened};
 use super::reading::Story;
 use std::fmt::Write;
 
-/// Before the time axis stand ticket, feeder, line and rate; after it the lateness.
+/// Before the time axis stand ticket, feeder, line and rate.
 pub(super) const LEFT: usize = 13;
-const RIGHT: usize = 6;
 const NARROWEST: usize = 40;
 /// Minutes for a character: numbers in which people think of time.
 const PACES: [u64; 16] = [1, 2, 3, 4, 5, 6, 8, 10, 12, 15, 20, 30, 60, 120, 240, 480];
@@ -39,33 +39,6 @@ pub struct Look {
     pub colour: bool,
 }
 
-/// A colour that says again what a character says.
-#[derive(Clone, Copy, PartialEq, Eq)]
-enum Tint {
-    Plain,
-    Faint,
-    Green,
-    Yellow,
-    Cyan,
-    Red,
-}
-
-impl Tint {
-    fn code(self) -> &'static str {
-        match self {
-            Tint::Plain => "0",
-            Tint::Faint => "2",
-            Tint::Green => "32",
-            Tint::Yellow => "1;33",
-            Tint::Cyan => "36",
-            Tint::Red => "1;97;41",
-        }
-    }
-}
-
-/// Characters with their colours.
-type Cells = Vec<(char, Tint)>;
-
 /// The whole story, a station after the other.
 pub fn draw(story: &Story, look: &Look) -> String {
     let mut out = String::new();
@@ -92,7 +65,8 @@ struct Canvas<'a> {
 
 impl<'a> Canvas<'a> {
     fn of(evening: &'a Evening, look: &'a Look, out: &'a mut String) -> Canvas<'a> {
-        let room = (look.columns - LEFT - RIGHT - 2) as u64;
+        let right = evening.charges.iter().map(|charge| late(evening, charge).len()).max();
+        let room = (look.columns - LEFT - 2).saturating_sub(right.unwrap_or(0)).max(1) as u64;
         let (first, last) = evening.span();
         let enough = |pace: &u64| (last - first).div_ceil(*pace) <= room;
         let pace = PACES.into_iter().find(enough).unwrap_or((last - first).div_ceil(room));
@@ -134,7 +108,7 @@ impl<'a> Canvas<'a> {
     }
 
     fn lanes(&mut self) {
-        for lane in self.evening.lanes(self.evening.last()).iter() {
+        for lane in self.evening.last_lanes().iter() {
             match lane.subject {
                 Subject::Line { feeder, line: 1 } => {
                     let told = &self.evening.site.feeders[feeder - 1];
@@ -201,55 +175,17 @@ impl<'a> Canvas<'a> {
         let mut charges: Vec<&Charge> = self.evening.charges.iter().collect();
         charges.sort_by_key(|charge| (charge.feeder, charge.line, charge.ticket));
         for charge in charges {
-            let cells = (0..self.width).map(|place| self.cell(charge, place)).collect();
+            let cell = |place| cells::of_charge(self.evening, charge, self.minutes(place));
+            let cells = (0..self.width).map(cell).collect();
             let rate = if charge.rate == 1 { String::new() } else { format!("x{}", charge.rate) };
             let label = format!("{:>6} {}/{} {rate:<2}", charge.ticket, charge.feeder, charge.line);
-            let late = match charge.start_after(self.evening.last()) {
-                None => " ?".to_string(),
-                Some(_) if charge.withdrawn.is_some() => String::new(),
-                Some(start) if charge.lateness(start) > 0 => format!("+{}", charge.lateness(start)),
-                Some(_) => String::new(),
-            };
-            self.row(&label, cells, &late);
+            self.row(&label, cells, &late(self.evening, charge));
         }
         self.line("");
         let unknown = (!drawn_whole(self.evening)).then_some(UNKNOWN);
         let legend: Vec<&str> = LEGEND.into_iter().chain(unknown).collect();
         self.out.push_str(&flowing(&legend, "  ", self.look.columns));
         self.line("");
-    }
-
-    /// What a charge does in the minutes of a character.
-    fn cell(&self, charge: &Charge, place: usize) -> (char, Tint) {
-        let (from, to) = self.minutes(place);
-        let within = |first: u64, last: u64| first < to && from < last;
-        let ordered = charge.ordered.minute;
-        let here = |minute: u64| from <= minute && minute < to;
-        if let Some(withdrawn) = charge.withdrawn {
-            return match () {
-                () if here(withdrawn.minute) => ('x', Tint::Yellow),
-                () if here(ordered) => ('o', Tint::Faint),
-                () if within(ordered, withdrawn.minute) => ('.', Tint::Faint),
-                () => (' ', Tint::Plain),
-            };
-        }
-        let known = charge.start_after(self.evening.last());
-        let Some(start) = known.or(charge.last_known(self.evening.last())) else {
-            return (' ', Tint::Plain);
-        };
-        let (end, clear) = (charge.end(start), charge.clear(start));
-        let begun = charge.state(self.evening.last(), self.evening.clock) != State::Waiting;
-        match () {
-            () if known.is_none() && within(start, clear) => ('?', Tint::Faint),
-            // A tail is shorter than most characters; the last one of its charge shows it.
-            () if end < clear && here(clear - 1) && start < from => ('~', Tint::Cyan),
-            () if within(start, end) && from >= charge.due => late_cell(begun),
-            () if within(start, end) => (if begun { '#' } else { '-' }, Tint::Green),
-            () if within(end, clear) => ('~', Tint::Cyan),
-            () if here(ordered) => ('o', Tint::Faint),
-            () if within(ordered, start) => ('.', Tint::Faint),
-            () => (' ', Tint::Plain),
-        }
     }
 
     fn row(&mut self, label: &str, cells: Cells, right: &str) {
@@ -265,42 +201,22 @@ impl<'a> Canvas<'a> {
         if last != Tint::Plain {
             self.out.push_str("\u{1b}[0m");
         }
-        let _ = writeln!(self.out, "|{}", shortened(right, RIGHT));
+        let _ = writeln!(self.out, "|{right}");
+    }
+}
+
+/// What stands behind the time axis.
+fn late(evening: &Evening, charge: &Charge) -> String {
+    match charge.start_after(evening.last()) {
+        None => " ?".to_string(),
+        Some(start) if charge.withdrawn.is_none() && charge.lateness(start) > 0 => {
+            format!("+{}", charge.lateness(start))
+        }
+        Some(_) => String::new(),
     }
 }
 
 /// Whether the start of every charge that stands was told.
 fn drawn_whole(evening: &Evening) -> bool {
     !evening.charges.iter().any(|charge| charge.unknown(evening.last()))
-}
-
-fn late_cell(begun: bool) -> (char, Tint) {
-    (if begun { '%' } else { '+' }, Tint::Yellow)
-}
-
-fn digit(value: u64, row: u32) -> char {
-    let above = value / 10u64.pow(row);
-    match (above, row) {
-        (0, 0) => '.',
-        (0, _) => ' ',
-        _ => char::from_digit((above % 10) as u32, 10).unwrap_or(' '),
-    }
-}
-
-fn sign(mark: Mark) -> char {
-    match mark {
-        Mark::Within => ' ',
-        Mark::Reached => '=',
-        Mark::Broken => '!',
-        Mark::Unknown => '?',
-    }
-}
-
-fn tint(mark: Mark) -> Tint {
-    match mark {
-        Mark::Within => Tint::Plain,
-        Mark::Reached => Tint::Yellow,
-        Mark::Broken => Tint::Red,
-        Mark::Unknown => Tint::Faint,
-    }
 }

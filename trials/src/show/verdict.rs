@@ -4,7 +4,7 @@
 use super::charge::Charge;
 use super::entry::Sort;
 use super::evening::Evening;
-use super::lanes::Lane;
+use super::lanes::{self, Lane};
 use super::words::minutes;
 use crate::demand;
 use crate::script::Line;
@@ -12,19 +12,29 @@ use crate::told::Told;
 use std::collections::HashSet;
 use std::rc::Rc;
 
-/// Minutes in which something is broken are told once, for the first moment in which they are.
+/// Goes through all counts once. Minutes in which something is broken are told once, for the first
+/// moment in which they are.
 pub fn check_lanes(evening: &mut Evening) {
+    let mut found: Vec<(usize, String)> = Vec::new();
     let mut told: HashSet<String> = HashSet::new();
-    for moment in 0..evening.entries.len() {
-        let lanes = evening.lanes(moment);
-        if moment > 0 && Rc::ptr_eq(&lanes, &evening.lanes(moment - 1)) {
+    let mut highest: Vec<u64> = Vec::new();
+    let mut before: Option<Rc<[Lane]>> = None;
+    for (moment, lanes) in lanes::walk(evening).enumerate() {
+        if before.is_some_and(|before| Rc::ptr_eq(&before, &lanes)) {
+            before = Some(lanes);
             continue;
         }
-        for what in lanes.iter().filter_map(Lane::broken) {
-            if told.insert(what.clone()) {
-                evening.entries[moment].broken.push(what);
-            }
+        highest.resize(lanes.len(), 0);
+        for (most, lane) in highest.iter_mut().zip(lanes.iter()) {
+            *most = lane.highest().max(*most);
         }
+        let broken = lanes.iter().filter_map(Lane::broken);
+        found.extend(broken.filter(|what| told.insert(what.clone())).map(|what| (moment, what)));
+        before = Some(lanes);
+    }
+    evening.highest = highest;
+    for (moment, what) in found {
+        evening.entries[moment].broken.push(what);
     }
 }
 

@@ -24,12 +24,6 @@ pub struct Pair {
     pub told: Option<Told>,
 }
 
-impl Pair {
-    pub fn refused(&self) -> bool {
-        matches!(self.told, Some(Told::Refused(_)))
-    }
-}
-
 /// The lines that have answers, one after another, each with its own.
 pub fn pairs<'a>(lines: &'a [Line], answers: &'a [Line]) -> impl Iterator<Item = Pair> + 'a {
     let calls = lines.iter().enumerate().filter_map(|(place, line)| match read_call(line) {

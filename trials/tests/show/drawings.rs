@@ -175,3 +175,24 @@ fn carriage_returns_and_stations_without_orders() {
     assert_eq!(html.matches("<h2>Station ").count(), 3);
     assert_eq!(html.matches("<p>No order was taken.</p>").count(), 2);
 }
+
+/// What pointing at a charge tells: ticket, line, rate, order minute, start, end, due, lateness.
+#[test]
+fn what_is_read_of_a_charge() {
+    let text = "open 2 720 1 100 0 2 100 2\ncommit 1 1 5 4 1 0\ncommit 2 3 5 5 2 0\nmove 3 720\n\
+                commit 2 3 1 3 2 7\ncommit 1 2 9 8 1 3\nwithdraw 4";
+    let html = page::page(&story(text), "read");
+    let (picture, _) = html.split_once("application/json").expect("the film stands behind");
+    let read: Vec<&str> = picture
+        .split("aria-label=\"ticket ")
+        .skip(1)
+        .filter_map(|part| Some(part.split_once('"')?.0))
+        .collect();
+    let expected = [
+        "1: charging, feeder 1, line 1, rate 1, ordered in 0, start 0, end 5, due 4, 1 minute late",
+        "4: withdrawn, feeder 1, line 2, rate 1, ordered in 3, start 3, end 12, due 8, withdrawn in 3",
+        "2: charging, feeder 2, line 3, rate 2, ordered in 0, start 0, end 5, draws to 7, due 5, not late",
+        "3: waiting, feeder 2, line 3, rate 2, ordered in 3, start 7, end 8, draws to 10, due 3, 5 minutes late",
+    ];
+    assert_eq!(read, expected);
+}

@@ -13,7 +13,7 @@ use common::lines;
 use trials::generate;
 use trials::script::{self, Script};
 use trials::show::ask::asked;
-use trials::show::lanes::{Mark, Subject};
+use trials::show::lanes::{self, Mark, Subject};
 use trials::show::{read, Evening, Story};
 
 /// The example evening.
@@ -45,7 +45,7 @@ pub fn generated(kind: &str, seed: u64, number: u64) -> Script {
 
 /// The steps of a lane at a moment, as (from, to, value, mark).
 pub fn steps(evening: &Evening, moment: usize, subject: Subject) -> Vec<(u64, u64, u64, Mark)> {
-    let lanes = evening.lanes(moment);
+    let lanes = lanes::at(evening, moment);
     let lane = lanes.iter().find(|lane| lane.subject == subject).expect("a lane");
     lane.steps.iter().map(|step| (step.from, step.to, step.value, step.mark)).collect()
 }

@@ -1,7 +1,8 @@
 //! What is read out of calls and answers, on small scripts worked out by hand.
 
 use crate::common::lines;
-use crate::{evening, steps, story, SITE};
+use crate::{evening, steps, story, EVENING, SITE};
+use trials::protocol::Call;
 use trials::script;
 use trials::show::lanes::{Mark, Subject};
 use trials::show::terminal::{draw, Look};
@@ -155,4 +156,36 @@ fn answers_that_do_not_fit_are_told_with_their_line() {
     let told = broken(&format!("{right}\nwithdrawn"));
     assert_eq!(told, ["answer line 5: 'withdrawn' has no call"]);
     assert_eq!(broken("").len(), 4);
+}
+
+/// What the example evening is there to show.
+#[test]
+fn the_example_evening() {
+    let story = story(EVENING);
+    let evening = evening(&story);
+    let feeders = &evening.site.feeders;
+    assert!(feeders.len() == 2 && feeders.iter().all(|feeder| feeder.tail > 0), "late contactors");
+    let charges = || evening.charges.iter();
+    assert!([1, 2].iter().all(|rate| charges().any(|charge| charge.rate == *rate)), "both rates");
+    let in_a_hurry = charges().any(|charge| charge.ordered.minute + charge.time > charge.due);
+    assert!(in_a_hurry, "a driver who cannot be in time");
+    assert!(charges().any(|charge| charge.withdrawn.is_some()), "a withdrawal");
+    for sort in [Sort::Taken, Sort::Kept, Sort::Refused] {
+        assert!(evening.shown().any(|(_, entry)| entry.sort == sort), "{sort:?}");
+    }
+    let calls = || evening.shown().filter_map(|(_, entry)| entry.call.as_ref().ok());
+    let ordered = |wanted: &_| {
+        calls().any(|call| matches!(call, Call::Commit { order, .. } if order == wanted))
+    };
+    let looked_only = calls().any(|call| match call {
+        Call::Preview { order } => !ordered(order),
+        _ => false,
+    });
+    assert!(looked_only, "a preview that is not taken");
+    let full = |feeder, line| {
+        let steps = steps(evening, evening.last(), Subject::Line { feeder, line });
+        steps.iter().any(|(_, _, _, mark)| *mark == Mark::Reached)
+    };
+    assert!(full(1, 1), "a full line");
+    assert_eq!(story.broken(), Vec::<String>::new());
 }
