@@ -59,7 +59,7 @@ fn frame(band: &Band, lane: &Lane) -> String {
         y + 9.0
     );
     // A low limit stands where the nought would.
-    if band.tall(highest) >= 18.0 {
+    if band.tall(highest) >= 20.0 {
         let _ = write!(out, r#"<text class="tick axis" x="-6" y="{base}">0</text>"#);
     }
     out
