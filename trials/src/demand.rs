@@ -8,10 +8,10 @@
 mod board;
 mod withdrawal;
 
-use crate::protocol::{read_call, Call};
-use crate::script::{self, Line};
-use crate::yard::{self, Opening, Settings};
-use std::cmp::Ordering;
+use crate::protocol::Call;
+use crate::script::Line;
+use crate::told::{self, Counts, Load, Pair, Site, Told};
+use crate::yard;
 use std::fmt;
 
 /// What is wrong, and with which answer (the first is 1) it came out.
@@ -19,6 +19,16 @@ use std::fmt;
 pub struct Broken {
     pub answer: usize,
     pub what: String,
+}
+
+/// How an order is spoken of whose start no answer has told.
+const UNKNOWN: &str = "neither reported nor found";
+
+impl Broken {
+    /// Nothing speaks against the program: there was an order that nobody asked for.
+    pub fn is_unknown(&self) -> bool {
+        self.what.ends_with(UNKNOWN)
+    }
 }
 
 impl fmt::Display for Broken {
@@ -62,18 +72,9 @@ impl Order {
     }
 }
 
-/// Limit, bound and r of a feeder.
-struct Feeder {
-    limit: u64,
-    bound: u64,
-    tail: u64,
-}
-
 /// What the calls and answers since an opening say.
 struct Trace {
-    feeders: Vec<Feeder>,
-    /// W
-    site_limit: u64,
+    site: Site,
     clock: u64,
     orders: Vec<Order>,
     /// Whether an enquiry or a board was answered since the last other call.
@@ -82,38 +83,13 @@ struct Trace {
 
 /// Checks the answers to a script.
 pub fn check(lines: &[Line], answers: &[Line]) -> Result<(), Broken> {
-    let mut trace = Trace::from_opening(&Opening::of_one(1, 100, 0));
+    let mut trace = Trace::of(Site::beside_a_refusal());
     let mut answer = 0;
-    for line in script::answered(lines) {
-        let text = answers.get(answer).map(|text| script::show(text));
+    for pair in told::pairs(lines, answers) {
         answer += 1;
-        let step = match (read_call(line), text) {
-            (_, None) => Err("there is no answer".to_string()),
-            (Ok(Some(call)), Some(text)) => trace.step(&call, &Answer::of(&text)),
-            (_, Some(_)) => Ok(()),
-        };
-        step.map_err(|what| Broken { answer, what })?;
+        trace.take(&pair).map_err(|what| Broken { answer, what })?;
     }
     trace.settle().map_err(|what| Broken { answer, what })
-}
-
-/// The words of an answer that are not numbers, and its numbers.
-struct Answer {
-    words: String,
-    numbers: Vec<u64>,
-}
-
-impl Answer {
-    fn of(text: &str) -> Answer {
-        let is_number = |word: &&str| word.parse::<u64>().is_ok();
-        let words: Vec<&str> = text.split(' ').filter(|word| !is_number(word)).collect();
-        let numbers = text.split(' ').filter_map(|word| word.parse().ok()).collect();
-        Answer { words: words.join(" "), numbers }
-    }
-
-    fn refused(&self) -> bool {
-        self.words == "refused"
-    }
 }
 
 type Checked = Result<(), String>;
@@ -127,59 +103,50 @@ fn ensure(holds: bool, what: impl FnOnce() -> String) -> Checked {
     }
 }
 
-/// So many hundredths "rounded to the nearest whole number, an exact half to the even
-/// one" (N3).
-fn nearest(hundredths: u64) -> u64 {
-    let below = hundredths / 100;
-    match (hundredths % 100).cmp(&50) {
-        Ordering::Less => below,
-        Ordering::Equal => below + below % 2,
-        Ordering::Greater => below + 1,
-    }
-}
-
 impl Trace {
-    /// "limit and bound are that station's N and D", and with N14 each feeder's own.
-    fn from_opening(opening: &Opening) -> Trace {
-        let feeder = |settings: Settings| {
-            let (limit, percent) = (u64::from(settings.limit), u64::from(settings.percent));
-            Feeder { limit, bound: nearest(limit * percent), tail: settings.tail.into() }
-        };
-        let feeders = opening.up_to_count().map(feeder).collect();
-        let site_limit = opening.site_limit.into();
-        Trace { feeders, site_limit, clock: 0, orders: Vec::new(), asked: false }
+    fn of(site: Site) -> Trace {
+        Trace { site, clock: 0, orders: Vec::new(), asked: false }
     }
 
-    /// "also from the one beside a refusal", which is the station of 1, 100; there "r is 0"
-    /// (N7), and there "stand one feeder and W 720" (N14).
-    fn opened(&mut self, opening: &Opening, answer: &Answer) -> Checked {
-        if answer.refused() {
-            *self = Trace::from_opening(&Opening::of_one(1, 100, 0));
-            return Ok(());
+    /// What is no call changes nothing, whatever is answered.
+    fn take(&mut self, pair: &Pair) -> Checked {
+        match (&pair.call, &pair.answer, &pair.told) {
+            (_, None, _) => Err("there is no answer".to_string()),
+            (Err(_), ..) => Ok(()),
+            (Ok(_), Some(answer), None) => Err(format!("'{answer}' is no answer to this call")),
+            (Ok(call), Some(answer), Some(told)) => self.step(call, told, answer),
         }
-        let bounds = answer.numbers.len().saturating_sub(1);
-        ensure(answer.words == "open" && bounds == opening.count as usize && bounds <= 4, || {
-            format!("an opening is answered with '{}' {:?}", answer.words, answer.numbers)
-        })?;
-        *self = Trace::from_opening(opening);
-        Ok(())
     }
 
-    fn step(&mut self, call: &Call, answer: &Answer) -> Checked {
-        if let Call::Enquire { .. } | Call::Board { .. } = call {
-            self.asked = true;
-        }
+    fn step(&mut self, call: &Call, told: &Told, answer: &str) -> Checked {
         match call {
-            Call::Enquire { ticket } => return self.enquiry(*ticket, answer),
-            Call::Board { tickets, .. } => return self.board(tickets, answer),
-            _ => (),
+            Call::Enquire { ticket } => {
+                self.asked = true;
+                return self.enquiry(*ticket, told, answer);
+            }
+            Call::Board { tickets, .. } => {
+                self.asked = true;
+                return self.board(tickets, told);
+            }
+            _ => self.leave(matches!(call, Call::Open { .. }))?,
         }
-        self.leave(matches!(call, Call::Open { .. }))?;
-        match (call, answer.refused()) {
-            (Call::Open { opening }, _) => self.opened(opening, answer),
-            (Call::Commit { order, .. }, false) => self.accepted(order, answer),
-            (Call::Move { target, .. }, false) => self.moved(u64::from(*target), answer),
-            (Call::Withdraw { ticket }, false) => self.withdrawn(*ticket, answer),
+        match (call, told) {
+            (Call::Open { opening }, Told::Opened { .. }) => {
+                *self = Trace::of(Site::from_opening(opening));
+                Ok(())
+            }
+            // "also from the one beside a refusal", which is the station of 1, 100.
+            (Call::Open { .. }, _) => {
+                *self = Trace::of(Site::beside_a_refusal());
+                Ok(())
+            }
+            (Call::Commit { order, .. }, Told::Accepted { ticket, .. }) => {
+                self.accepted(order, *ticket)
+            }
+            (Call::Move { target, .. }, Told::Moved { reported, .. }) => {
+                self.moved(u64::from(*target), reported)
+            }
+            (Call::Withdraw { ticket }, Told::Withdrawn) => self.withdrawn(*ticket),
             _ => Ok(()),
         }
     }
@@ -202,17 +169,15 @@ impl Trace {
     }
 
     /// "tickets are 1, 2, 3 and so on in the order of acceptance"
-    fn accepted(&mut self, order: &yard::Order, answer: &Answer) -> Checked {
-        ensure(answer.words == "ticket start" && answer.numbers.len() == 2, || {
-            format!("a commit is answered with '{}'", answer.words)
-        })?;
-        let ticket = self.orders.len() as u64 + 1;
-        ensure(answer.numbers[0] == ticket, || {
-            format!("ticket {} where {ticket} is next", answer.numbers[0])
-        })?;
+    fn accepted(&mut self, order: &yard::Order, ticket: u64) -> Checked {
+        let next = self.orders.len() as u64 + 1;
+        ensure(ticket == next, || format!("ticket {ticket} where {next} is next"))?;
         let feeder = (order.feeder as usize).wrapping_sub(1);
-        let own = self.feeders.get(feeder);
+        let own = self.site.feeder(order.feeder);
         let tail = own.ok_or(format!("an order of feeder {} is taken", order.feeder))?.tail;
+        ensure((1..=3).contains(&order.line), || {
+            format!("an order of line {} is taken", order.line)
+        })?;
         self.orders.push(Order {
             feeder,
             line: order.line,
@@ -228,16 +193,9 @@ impl Trace {
     }
 
     /// "The clock is the target of the last move not refused"
-    fn moved(&mut self, target: u64, answer: &Answer) -> Checked {
-        ensure(answer.words == "moved dropped" && answer.numbers.len() >= 2, || {
-            format!("a move is answered with '{}'", answer.words)
-        })?;
-        let pairs = &answer.numbers[2..];
-        ensure(answer.numbers[0] as usize * 2 == pairs.len(), || {
-            format!("{} reported with {} numbers", answer.numbers[0], pairs.len())
-        })?;
-        for pair in pairs.chunks(2) {
-            self.report(pair[0], pair[1], target)?;
+    fn moved(&mut self, target: u64, reported: &[(u64, u64)]) -> Checked {
+        for (ticket, start) in reported {
+            self.report(*ticket, *start, target)?;
         }
         self.clock = target;
         Ok(())
@@ -269,28 +227,30 @@ impl Trace {
     /// answer is refusal 15." "Any other order has never been reported, and an
     /// enquiry finds it waiting." "Enquiries show the rate" (N4). It "is finished when
     /// s + p + r is at or below the clock" (N7).
-    fn enquiry(&mut self, ticket: u32, answer: &Answer) -> Checked {
+    fn enquiry(&mut self, ticket: u32, told: &Told, answer: &str) -> Checked {
         let clock = self.clock;
         let Some(order) = self.order(u64::from(ticket)) else {
-            return ensure(answer.refused(), || format!("ticket {ticket} found, not given"));
+            let refused = matches!(told, Told::Refused(_));
+            return ensure(refused, || format!("ticket {ticket} found, not given"));
         };
         let tail = order.tail;
-        let found = || format!("ticket {ticket}: {} {:?}", answer.words, answer.numbers);
+        let found = || format!("ticket {ticket}: {answer}");
         if order.withdrawn {
-            return ensure(answer.refused() && answer.numbers == [15], found);
+            return ensure(*told == Told::Refused(15), found);
         }
-        match (order.reported, answer.words.as_str(), answer.numbers.as_slice()) {
-            (None, "waiting", [start, rate]) => {
+        match (order.reported, told) {
+            (None, Told::Waiting { start, rate }) => {
                 let same = order.waiting.is_none_or(|before| before == *start);
                 ensure(*start >= clock && same && *rate == order.rate.into(), found)?;
                 order.waiting = Some(*start);
                 Ok(())
             }
-            (Some(start), "charging", [shown, end, rate]) => {
-                let right = *shown == start && *end == start + order.time && clock < *end + tail;
+            (Some(reported), Told::Charging { start, end, rate }) => {
+                let right =
+                    *start == reported && *end == reported + order.time && clock < *end + tail;
                 ensure(right && *rate == order.rate.into(), found)
             }
-            (Some(start), "refused", [15]) => ensure(start + order.time + tail <= clock, found),
+            (Some(start), Told::Refused(15)) => ensure(start + order.time + tail <= clock, found),
             _ => Err(found()),
         }
     }
@@ -298,8 +258,7 @@ impl Trace {
     /// The claim over the whole list, once all starts are known.
     fn settle(&self) -> Checked {
         for (ticket, order) in self.standing() {
-            let start =
-                order.start().ok_or(format!("ticket {ticket} neither reported nor found"))?;
+            let start = order.start().ok_or(format!("ticket {ticket} {UNKNOWN}"))?;
             ensure(order.order <= start, || {
                 format!("ticket {ticket} ordered in {} starts in {start}", order.order)
             })?;
@@ -329,44 +288,28 @@ impl Trace {
     /// "A line's count in a minute takes all accepted orders of the list, dropped
     /// ones too", but not those that were withdrawn (N11); they are "weighted counts" (N4),
     /// in which each is active in "minutes s to s + p + r − 1" (N7). "The every-minute guarantee
-    /// holds for each feeder, with W [..] taken over the site" (N14). Counts change only where
-    /// an order starts or its tail ends, so these minutes stand for all.
+    /// holds for each feeder, with W [..] taken over the site" (N14).
     fn check_counts(&self) -> Checked {
-        let mut changes = Vec::new();
-        for (_, order) in self.standing() {
-            let (start, rate) = (order.start().unwrap_or(0), i64::from(order.rate));
-            let line = (order.feeder, order.line as usize - 1);
-            changes.push((start, line, rate));
-            changes.push((start + order.time + order.tail, line, -rate));
-        }
-        changes.sort_unstable();
-        let mut counts = vec![[0i64; 3]; self.feeders.len()];
-        for (place, (minute, (feeder, line), change)) in changes.iter().enumerate() {
-            counts[*feeder][*line] += change;
-            if changes.get(place + 1).is_none_or(|next| next.0 != *minute) {
-                self.check_minute(*minute, &counts)?;
-            }
-        }
-        Ok(())
+        let load = |(_, order): (usize, &Order)| {
+            let start = order.start().unwrap_or(0);
+            let clear = start + order.time + order.tail;
+            let line = order.line as usize - 1;
+            Load { feeder: order.feeder, line, start, clear, rate: order.rate }
+        };
+        let loads: Vec<Load> = self.standing().map(load).collect();
+        let counts = told::counts(&loads);
+        counts.iter().try_for_each(|(minute, counts)| self.check_minute(*minute, counts))
     }
 
-    fn check_minute(&self, minute: u64, counts: &[[i64; 3]]) -> Checked {
-        for (number, (feeder, counts)) in self.feeders.iter().zip(counts).enumerate() {
+    fn check_minute(&self, minute: u64, counts: &Counts) -> Checked {
+        for (number, (feeder, counts)) in self.site.feeders.iter().zip(counts).enumerate() {
             ensure(feeder.sound(counts), || {
                 format!("minute {minute} has counts {counts:?} on feeder {}", number + 1)
             })?;
         }
         let site: i64 = counts.iter().flatten().sum();
-        ensure(site <= self.site_limit as i64, || {
-            format!("minute {minute} has {site} on the site of {}", self.site_limit)
+        ensure(site <= self.site.limit as i64, || {
+            format!("minute {minute} has {site} on the site of {}", self.site.limit)
         })
-    }
-}
-
-impl Feeder {
-    fn sound(&self, counts: &[i64; 3]) -> bool {
-        let largest = counts.iter().max().copied().unwrap_or(0);
-        let smallest = counts.iter().min().copied().unwrap_or(0);
-        largest <= self.limit as i64 && largest - smallest <= self.bound as i64
     }
 }

@@ -27,6 +27,8 @@ pub mod random;
 pub mod reference;
 pub mod role;
 pub mod script;
+pub mod show;
 pub mod shrink;
+pub mod told;
 pub mod wall;
 pub mod yard;

@@ -16,7 +16,7 @@ use trials::program::Program;
 use trials::role::Role;
 use trials::{
     benchmark, between, coverage, damage, demand, fast, fill, generate, interpret, kills, loops,
-    reference, script, wall,
+    reference, script, show, wall,
 };
 
 const USAGE: &str = "\
@@ -37,6 +37,14 @@ trials coverage [--scripts K] [--seed S] [--kind KIND] [--without KIND]
 trials benchmark PROGRAM [--bus BUS] [--repeat R] [--days D] [--only bus]
                                              run times beside those of the fast program
 trials demand SCRIPT ANSWERS                 demand 3 from calls and answers alone
+trials ask < SCRIPT                          the script with the questions that a picture needs
+trials show [--columns N] [--colour yes|no] SCRIPT ANSWERS
+                                             the evening in the terminal
+trials picture SCRIPT ANSWERS [--title T] [--to FILE]
+                                             the evening as a page for a browser
+trials drawing SCRIPT ANSWERS [--width P] [--to FILE]
+                                             the evening as one drawing (SVG)
+trials wall-page [--to FILE] < PAGES         pages for the wall as a page for a browser
 trials pages < IMAGE                         the pages for the wall of an image
 trials wall PROGRAM [--images K] [--seed S] [--patience SECONDS]
 trials wall-input TITLE [--images K] [--seed S]
@@ -130,6 +138,11 @@ fn run(words: &Words) -> Outcome {
         Some("coverage") => print_coverage(&words.choice(1_000)?),
         Some("benchmark") => run_benchmark(words),
         Some("demand") => check_files(&words.others[1..]),
+        Some("ask") => print_lines(&show::ask::asked(&script::split(&read_input()?))),
+        Some("show") => show_evening(words),
+        Some("picture") => print_picture(words),
+        Some("drawing") => print_drawing(words),
+        Some("wall-page") => print_wall_page(words),
         Some("pages") => print_pages(),
         Some("wall") => run_wall(words),
         Some("wall-input") => print_wall_input(words),
@@ -156,10 +169,15 @@ fn serve_bus(images: impl Images, file: Option<&String>) -> Outcome {
     served.map_err(|error| error.to_string())
 }
 
-fn fill_script() -> Outcome {
+fn read_input() -> Result<Vec<u8>, String> {
     let mut bytes = Vec::new();
     io::stdin().lock().read_to_end(&mut bytes).map_err(|error| error.to_string())?;
-    print_lines(&fill::fill(reference::Station::fresh(1, 100, 0), &script::split(&bytes)))
+    Ok(bytes)
+}
+
+fn fill_script() -> Outcome {
+    let lines = script::split(&read_input()?);
+    print_lines(&fill::fill(reference::Station::fresh(1, 100, 0), &lines))
 }
 
 fn print_scripts(choice: &Choice) -> Outcome {
@@ -278,20 +296,85 @@ fn print_failure(failure: &Failure) -> Outcome {
     Ok(())
 }
 
-fn check_files(paths: &[String]) -> Outcome {
+/// A script and its answers, from the files that are named.
+fn read_files(paths: &[String]) -> Result<(Vec<script::Line>, Vec<script::Line>), String> {
     let [calls, answers] = paths else { return Err(USAGE.to_string()) };
     let read = |path: &String| std::fs::read(path).map_err(|error| format!("{path}: {error}"));
-    let lines = script::split(&read(calls)?);
-    let answers = script::split(&read(answers)?);
+    Ok((script::split(&read(calls)?), script::split(&read(answers)?)))
+}
+
+/// The story that two files tell.
+fn read_story(words: &Words) -> Result<show::Story, String> {
+    let (lines, answers) = read_files(&words.others[1..])?;
+    Ok(show::read(&lines, &answers))
+}
+
+/// Drawn all the same, but the command fails where something is broken.
+fn tell_broken(story: &show::Story) -> Outcome {
+    match story.broken().as_slice() {
+        [] => Ok(()),
+        broken => Err(broken.join("\n")),
+    }
+}
+
+fn show_evening(words: &Words) -> Outcome {
+    let columns = words.number("columns", 80)? as usize;
+    let colour = match words.named.get("colour").map(String::as_str) {
+        None | Some("no") => false,
+        Some("yes") => true,
+        Some(other) => return Err(format!("--colour {other}: there are yes and no")),
+    };
+    let (lines, answers) = read_files(&words.others[1..])?;
+    let story = show::read(&lines, &answers);
+    let look = show::terminal::Look { columns, colour };
+    let drawn = show::answers(&lines, &answers) + &show::terminal::draw(&story, &look);
+    print_bytes(drawn.as_bytes())?;
+    match story.broken().len() {
+        0 => Ok(()),
+        broken => Err(format!("broken: {broken}, listed above")),
+    }
+}
+
+/// To the file that is named, else to standard output.
+fn write_page(words: &Words, page: &str) -> Outcome {
+    match words.named.get("to") {
+        None => print_bytes(page.as_bytes()),
+        Some(file) => show::put::put(Path::new(file), page.as_bytes())
+            .map_err(|error| format!("the page could not be written: {file}: {error}")),
+    }
+}
+
+fn print_picture(words: &Words) -> Outcome {
+    let story = read_story(words)?;
+    let title = words.named.get("title").map_or("An evening in the yard", String::as_str);
+    write_page(words, &show::page::page(&story, title))?;
+    tell_broken(&story)
+}
+
+/// Of the first station that took an order.
+fn print_drawing(words: &Words) -> Outcome {
+    let story = read_story(words)?;
+    let width = words.number("width", 800)? as u32;
+    let evening = story.evenings.iter().find(|evening| !evening.charges.is_empty());
+    let evening = evening.ok_or("no order was taken")?;
+    write_page(words, &show::standalone(evening, width))?;
+    tell_broken(&story)
+}
+
+fn print_wall_page(words: &Words) -> Outcome {
+    let pages = read_input()?;
+    write_page(words, &show::wall::wall_page(&String::from_utf8_lossy(&pages)))
+}
+
+fn check_files(paths: &[String]) -> Outcome {
+    let (lines, answers) = read_files(paths)?;
     demand::check(&lines, &answers).map_err(|broken| broken.to_string())?;
     println!("demand 3 holds");
     Ok(())
 }
 
 fn print_pages() -> Outcome {
-    let mut image = Vec::new();
-    io::stdin().lock().read_to_end(&mut image).map_err(|error| error.to_string())?;
-    print_bytes(wall::page::of_image(&image).as_bytes())
+    print_bytes(wall::page::of_image(&read_input()?).as_bytes())
 }
 
 fn run_wall(words: &Words) -> Outcome {

@@ -76,7 +76,7 @@ fn reports() {
     assert!(falsified(moved, "moved 3 dropped 3 4 4 2 10 0 5").contains("not given"));
     assert!(falsified(moved, "moved 2 dropped 3 4 3 2 10").contains("from 4 to 12"));
     assert!(falsified(moved, "moved 2 dropped 3 4 12 2 10").contains("from 4 to 12"));
-    assert!(falsified(moved, "moved 3 dropped 3 4 4 2 10").contains("numbers"));
+    assert!(falsified(moved, "moved 3 dropped 3 4 4 2 10").contains("is no answer"));
     assert!(falsified(moved, "refused 8").contains("ticket 1"));
 }
 
@@ -85,6 +85,13 @@ fn tickets() {
     assert!(falsified("ticket 2 start 10", "ticket 3 start 10").contains("where 2 is next"));
     assert!(falsified("ticket 1 start 0", "refused 13").contains("where 1 is next"));
     assert!(falsified("ticket 6 start 23", "refused 13").contains("not given"));
+    // Of a line and a feeder that there are not.
+    for (order, what) in [("1 0", "line 0"), ("1 4", "line 4"), ("2 1", "feeder 2")] {
+        let text = format!("open 1 720 2 50 0\ncommit {order} 10 60 1 0");
+        let answers = lines("open 0 1\nticket 1 start 0");
+        let broken = demand::check(&lines(&text), &answers).expect_err(what);
+        assert_eq!(broken.what, format!("an order of {what} is taken"));
+    }
 }
 
 #[test]
@@ -160,7 +167,7 @@ fn rates() {
     assert_eq!(falsified(5, "waiting 9 1"), "minute 9 has counts [3, 0, 0] on feeder 1");
     assert!(falsified(4, "charging 0 10 1").contains("ticket 1"));
     assert!(falsified(5, "waiting 10 2").contains("ticket 2"));
-    assert!(falsified(5, "waiting 10").contains("ticket 2"));
+    assert!(falsified(5, "waiting 10").contains("is no answer"));
 }
 
 /// N7: in its tail an order is found charging and counts; the ceiling has r for each order.

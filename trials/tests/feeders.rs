@@ -313,7 +313,7 @@ fn demand_3_over_a_site() {
                 commit 2 1 10 60 1 14\ncommit 1 2 5 60 1 10\nmove 1 720\nenquire 2\nenquire 3\n\
                 enquire 4\nboard 4 1 2 3 4";
     let fails = |place, wrong: &str| falsified(text, place, wrong).expect_err(wrong);
-    assert_eq!(fails(0, "open 0 2"), "an opening is answered with 'open' [0, 2]");
+    assert_eq!(fails(0, "open 0 2"), "'open 0 2' is no answer to this call");
     // The board has another start for it, but where they agree the counts tell.
     let moved_up = |wrong: &str, board: &str| {
         let mut answers = script::reference_answers(&lines(text));

@@ -172,8 +172,8 @@ fn a_withdrawn_order_has_no_charge() {
          move 25 360"
     );
     let fails = |place, wrong: &str| falsified(&text, place, wrong).expect_err(wrong);
-    assert_eq!(fails(5, "withdrawn 2"), "a withdrawal is answered with 'withdrawn' [2]");
-    assert_eq!(fails(5, "waiting 10 1"), "a withdrawal is answered with 'waiting' [10, 1]");
+    assert_eq!(fails(5, "withdrawn 2"), "'withdrawn 2' is no answer to this call");
+    assert_eq!(fails(5, "waiting 10 1"), "'waiting 10 1' is no answer to this call");
     assert_eq!(fails(6, "withdrawn"), "ticket 2 withdrawn again");
     assert_eq!(fails(7, "withdrawn"), "ticket 1 withdrawn, begun");
     assert!(fails(8, "board 2 0 10 20").contains("shows 10 for ticket 2"));

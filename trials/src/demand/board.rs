@@ -1,24 +1,20 @@
 //! What a board shows (N10) is what enquiries would give: the start of each ticket that is
 //! held, and no start for any other.
 
-use super::{ensure, Answer, Checked, Trace};
+use super::{ensure, Checked, Trace};
+use crate::told::Told;
 use crate::yard::NOT_HELD;
 
 impl Trace {
     /// "writes the start of each to another such list, or 4,294,967,295 for one not held",
     /// "and answers how many it looked at".
-    pub(super) fn board(&mut self, tickets: &[u32], answer: &Answer) -> Checked {
-        if answer.refused() {
-            return Ok(());
-        }
-        ensure(answer.words == "board" && answer.numbers.len() == tickets.len() + 1, || {
-            format!("a board of {} tickets has {:?}", tickets.len(), answer.numbers)
-        })?;
-        for (ticket, start) in tickets.iter().zip(&answer.numbers[1..]) {
+    pub(super) fn board(&mut self, tickets: &[u32], told: &Told) -> Checked {
+        let Told::Board { looked, starts } = told else { return Ok(()) };
+        for (ticket, start) in tickets.iter().zip(starts) {
             self.shown(*ticket, *start)?;
         }
-        let (looked, held) = (answer.numbers[0], self.held_up_to(tickets.last()));
-        ensure(looked == held, || format!("the board looked at {looked} charges of {held}"))
+        let held = self.held_up_to(tickets.last());
+        ensure(*looked == held, || format!("the board looked at {looked} charges of {held}"))
     }
 
     fn shown(&mut self, ticket: u32, start: u64) -> Checked {

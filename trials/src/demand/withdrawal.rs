@@ -2,15 +2,12 @@
 //! time still counts in the ceiling on ends" (N11): it is never reported, an enquiry finds
 //! nothing, it draws in no minute, and its ticket is not given again.
 
-use super::{ensure, Answer, Checked, Order, Trace};
+use super::{ensure, Checked, Order, Trace};
 
 impl Trace {
     /// "A waiting charge is removed": one that was given a ticket, has not been reported and
     /// has not been withdrawn before.
-    pub(super) fn withdrawn(&mut self, ticket: u32, answer: &Answer) -> Checked {
-        ensure(answer.words == "withdrawn" && answer.numbers.is_empty(), || {
-            format!("a withdrawal is answered with '{}' {:?}", answer.words, answer.numbers)
-        })?;
+    pub(super) fn withdrawn(&mut self, ticket: u32) -> Checked {
         let order =
             self.order(u64::from(ticket)).ok_or(format!("ticket {ticket} withdrawn, not given"))?;
         ensure(order.reported.is_none(), || format!("ticket {ticket} withdrawn, begun"))?;
