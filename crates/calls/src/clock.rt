@@ -7,7 +7,7 @@ ghost use Rattle.site.specs.Answers.{move_answer};
 use crate::yard::Yard;
 use site::clock::{MoveAnswer, move_clock};
 
-#[derive(Drop)]
+#[derive(Clone, Copy)]
 pub struct Moving {
     pub answer: MoveAnswer,
     pub yard: Yard,

@@ -25,7 +25,7 @@ use station::{One, Station};
 use ticket::{Boarding, Enquiring, Withdrawing};
 use yard::Yard;
 
-#[derive(Drop)]
+#[derive(Clone, Copy)]
 pub enum Call {
     Preview { order: Order },
     Commit { order: Order, shown: u32 },
@@ -38,7 +38,7 @@ pub enum Call {
     Withdraw { ticket: u32 },
 }
 
-#[derive(Drop)]
+#[derive(Clone, Copy)]
 pub enum Answer {
     Preview(PreviewAnswer),
     Commit(CommitAnswer),
@@ -49,14 +49,14 @@ pub enum Answer {
     Withdrawal(WithdrawalAnswer),
 }
 
-#[derive(Drop)]
+#[derive(Clone, Copy)]
 pub struct Applied {
     pub answer: Answer,
     pub station: Station,
 }
 
 // The answer of a call, and what it leaves of a feeder.
-#[derive(Drop)]
+#[derive(Clone, Copy)]
 pub struct Made {
     pub answer: Answer,
     pub left: One,

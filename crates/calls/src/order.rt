@@ -13,13 +13,13 @@ use ordering::commit::{CommitAnswer, commit};
 use ordering::start::preview;
 use orders::sought::PreviewAnswer;
 
-#[derive(Drop)]
+#[derive(Clone, Copy)]
 pub struct Previewing {
     pub answer: PreviewAnswer,
     pub yard: Yard,
 }
 
-#[derive(Drop)]
+#[derive(Clone, Copy)]
 pub struct Committing {
     pub answer: CommitAnswer,
     pub yard: Yard,

@@ -11,7 +11,7 @@ use planning::PlanAnswer;
 use planning::offer::offer;
 use planning::replan::{replan_latest, replan_lines};
 
-#[derive(Drop)]
+#[derive(Clone, Copy)]
 pub struct Planning {
     pub answer: PlanAnswer,
     pub yard: Yard,

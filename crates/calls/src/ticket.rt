@@ -10,19 +10,19 @@ use site::board::{BoardAnswer, board};
 use site::enquiry::{EnquiryAnswer, enquire};
 use site::withdraw::{WithdrawalAnswer, withdraw};
 
-#[derive(Drop)]
+#[derive(Clone, Copy)]
 pub struct Enquiring {
     pub answer: EnquiryAnswer,
     pub yard: Yard,
 }
 
-#[derive(Drop)]
+#[derive(Clone, Copy)]
 pub struct Boarding {
     pub answer: BoardAnswer,
     pub yard: Yard,
 }
 
-#[derive(Drop)]
+#[derive(Clone, Copy)]
 pub struct Withdrawing {
     pub answer: WithdrawalAnswer,
     pub yard: Yard,

@@ -11,7 +11,7 @@ use station::holder::Holder;
 use station::{One, Station};
 
 // Methods can be given only to a type of the same crate, so the station is wrapped.
-#[derive(Drop)]
+#[derive(Clone, Copy)]
 pub struct Yard {
     pub station: Station,
 }
@@ -42,7 +42,7 @@ pub fn holding(station: Station, ticket: u32) -> usize
 }
 
 // A feeder taken out of its station, what the others draw, and what a plan of it stands beside.
-#[derive(Drop)]
+#[derive(Clone, Copy)]
 pub struct Parts {
     pub one: One,
     pub others: Drawn,

@@ -19,7 +19,7 @@ pub const STARTS: usize = 2;
 
 pub const RATES: usize = 3;
 
-#[derive(Drop)]
+#[derive(Clone, Copy)]
 pub struct Drawn {
     pub held: usize,
     pub lines: [u32; SITE_PLACES],

@@ -14,7 +14,7 @@ use validity::is_valid;
 
 // 0 or the refusal, and the only feeder of the station beside it. No whole station is made of it: an image is of one feeder, and a
 // copy of the places of four costs more than most calls.
-#[derive(Drop)]
+#[derive(Clone, Copy)]
 pub struct Restored {
     pub answer: u32,
     pub one: One,

@@ -11,7 +11,7 @@ use records::writing::contents_of;
 use station::{One, Station};
 
 // 0 and how many blocks differ from the previous image, or the refusal.
-#[derive(Drop)]
+#[derive(Clone, Copy)]
 pub struct Saved {
     pub answer: u32,
     pub blocks: u32,

@@ -15,14 +15,14 @@ use search::fit::{next_under, run_under};
 use search::limits::Draw;
 
 // The line that is placed, and the site's limit over all lines.
-#[derive(Drop)]
+#[derive(Clone, Copy)]
 pub struct Under {
     pub line: u32,
     pub site: u32,
 }
 
 // The start of the next charge, which of those left it is, and the crowd as it is there.
-#[derive(Drop)]
+#[derive(Clone, Copy)]
 pub struct Next {
     pub start: u32,
     pub place: usize,

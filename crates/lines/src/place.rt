@@ -18,7 +18,7 @@ use queues::line::{on_line, remove};
 use search::caps::LineCaps;
 
 // What every round has before it: the charges held, the places of the waiting ones by latest start, and what their plan stands beside.
-#[derive(Drop)]
+#[derive(Clone, Copy)]
 pub struct Task {
     pub beside: Beside,
     pub charges: Charges,
@@ -26,7 +26,7 @@ pub struct Task {
 }
 
 // How many steps the profile of what stands and of the placed charges has, and the start of each placed one at its place.
-#[derive(Drop)]
+#[derive(Clone, Copy)]
 pub struct Placement {
     pub steps: usize,
     pub by_place: [u32; PLACES],

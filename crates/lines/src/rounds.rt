@@ -19,21 +19,21 @@ use queues::by_latest_start;
 use search::caps::LineCaps;
 
 // A round ends the replan, or the line's cap has to be lowered from the minute on.
-#[derive(Drop)]
+#[derive(Clone, Copy)]
 pub enum Outcome {
     Ends,
     Lowers { line: u32, minute: u32, cap: u32 },
 }
 
 // What comes of a round, with what is proposed if it ends the replan.
-#[derive(Drop)]
+#[derive(Clone, Copy)]
 pub struct Round {
     pub outcome: Outcome,
     pub proposed: Proposed,
 }
 
 // What replan by lines proposes, with the rounds made for it.
-#[derive(Drop)]
+#[derive(Clone, Copy)]
 pub struct Replanned {
     pub proposed: Proposed,
     pub rounds: u32,

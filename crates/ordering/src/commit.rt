@@ -13,13 +13,13 @@ use crate::start::PreviewAnswer;
 use charges::columns::put;
 use station::One;
 
-#[derive(Drop)]
+#[derive(Clone, Copy)]
 pub enum CommitAnswer {
     Committed { ticket: u32, start: u32 },
     Refused(u32),
 }
 
-#[derive(Drop)]
+#[derive(Clone, Copy)]
 pub struct Committing {
     pub answer: CommitAnswer,
     pub left: One,

@@ -4,7 +4,7 @@ pub mod refusal;
 pub mod start;
 
 // What an order names: its feeder, from 1, line, charging time p, due minute d and rate.
-#[derive(Drop)]
+#[derive(Clone, Copy)]
 pub struct Order {
     pub feeder: u32,
     pub line: u32,

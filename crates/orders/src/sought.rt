@@ -8,7 +8,7 @@ ghost use Rattle.orders.specs.Shown.{preview_answer, shown as shownAs, CanSeek};
 use crate::start::earliest_start;
 use search::limits::Limits;
 
-#[derive(Drop)]
+#[derive(Clone, Copy)]
 pub enum PreviewAnswer {
     Previewed(u32),
     Refused(u32),
@@ -16,7 +16,7 @@ pub enum PreviewAnswer {
 
 // What is sought for an order: the number of its first refusal, 0 where none applies, and what the search is given beside the
 // columns of the held charges.
-#[derive(Drop)]
+#[derive(Clone, Copy)]
 pub struct Sought {
     pub refusal: u32,
     pub limits: Limits,

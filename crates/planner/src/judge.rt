@@ -17,7 +17,7 @@ use charges::ends::last_until;
 use charges::waiting::start_below;
 
 // The cause, the lateness before and after, and the charges that are held then.
-#[derive(Drop)]
+#[derive(Clone, Copy)]
 pub struct Judgement {
     pub cause: u32,
     pub before: u64,

@@ -13,7 +13,7 @@ use search::limits::Limits;
 
 // What a plan of a feeder stands beside: the clock, its limits, and how many charges the other feeders hold. What these draw is lent
 // beside it, since a copy of it would cost more than most plans.
-#[derive(Drop)]
+#[derive(Clone, Copy)]
 pub struct Beside {
     pub clock: u32,
     pub limits: Limits,
@@ -21,7 +21,7 @@ pub struct Beside {
 }
 
 // Cause 0 with a start for each waiting charge, in ticket order, or the cause for having none.
-#[derive(Drop)]
+#[derive(Clone, Copy)]
 pub struct Proposed {
     pub cause: u32,
     pub starts: [u32; PLACES],

@@ -9,7 +9,7 @@ ghost use Rattle.planning.specs.Answers.{beside_for};
 use planner::Beside;
 use station::One;
 
-#[derive(Drop)]
+#[derive(Clone, Copy)]
 pub enum PlanAnswer {
     Planned {
         cause: u32,
@@ -20,7 +20,7 @@ pub enum PlanAnswer {
     Refused(u32),
 }
 
-#[derive(Drop)]
+#[derive(Clone, Copy)]
 pub struct Planning {
     pub answer: PlanAnswer,
     pub left: One,

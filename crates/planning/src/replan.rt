@@ -20,7 +20,7 @@ use plans::{by_lines, latest};
 use station::One;
 
 // How a plan is made.
-#[derive(Drop)]
+#[derive(Clone, Copy)]
 enum How {
     Latest,
     Lines(u32),

@@ -41,7 +41,7 @@ pub fn fitting<'a, 'b>(
 }
 
 // The time of a charge and what it weighs.
-#[derive(Drop)]
+#[derive(Clone, Copy)]
 pub struct Weighed {
     pub time: u32,
     pub weight: u32,

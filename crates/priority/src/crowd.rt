@@ -8,7 +8,7 @@ use crate::columns::{ACTIVE_TIMES, Columns, RATES, TIMES};
 use charges::PLACES;
 
 // The shortest and the longest time of some charges; both 0 where there is none.
-#[derive(Drop)]
+#[derive(Clone, Copy)]
 pub struct Span {
     pub shortest: u32,
     pub longest: u32,
@@ -16,7 +16,7 @@ pub struct Span {
 
 // The number and the summed time of the charges of a line that wait when the round begins; and of those left the active times of
 // rate 1 and of rate 2, and a charging time that none of them is below.
-#[derive(Drop)]
+#[derive(Clone, Copy)]
 pub struct Crowd {
     pub number: u32,
     pub total: u32,

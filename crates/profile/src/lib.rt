@@ -14,7 +14,7 @@ pub const FEEDER_STEPS: usize = 361;
 pub const COLUMNS: usize = 4;
 
 // A minute, or none.
-#[derive(Drop)]
+#[derive(Clone, Copy)]
 pub enum When {
     Minute(u32),
     Never,

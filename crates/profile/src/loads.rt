@@ -17,7 +17,7 @@ pub fn begin(at: &mut [u32], counts: &mut [u32], clock: u32)
 }
 
 // The number of steps, and the one that begins in the minute asked for.
-#[derive(Drop)]
+#[derive(Clone, Copy)]
 pub struct Step {
     pub steps: usize,
     pub step: usize,

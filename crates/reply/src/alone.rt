@@ -13,7 +13,7 @@ use requests::Request;
 use station::One;
 
 // How a request is answered: by the only feeder, which stays or may change, or by the whole station.
-#[derive(Drop)]
+#[derive(Clone, Copy)]
 pub enum Way {
     Kept,
     Changed,
@@ -21,7 +21,7 @@ pub enum Way {
 }
 
 // The feeder as it is left, and what is said.
-#[derive(Drop)]
+#[derive(Clone, Copy)]
 pub struct Remains {
     pub one: One,
     pub said: Said,

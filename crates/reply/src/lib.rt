@@ -18,7 +18,7 @@ use station::Station;
 use station::open::{Asked, OpenAnswer};
 
 // What is said to a request. With the answer of a call stand how many numbers it read, and how many places it was lent for writing.
-#[derive(Drop)]
+#[derive(Clone, Copy)]
 pub enum Said {
     Nothing,
     Opening(OpenAnswer),
@@ -31,7 +31,7 @@ pub enum Said {
 }
 
 // The next station, and what is said.
-#[derive(Drop)]
+#[derive(Clone, Copy)]
 pub struct Reply {
     pub station: Station,
     pub said: Said,

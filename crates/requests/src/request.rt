@@ -12,7 +12,7 @@ use station::open::{Asked, Settings};
 use text::{Number, part_end, read_number};
 
 // Why a request is no call.
-#[derive(Drop)]
+#[derive(Clone, Copy)]
 pub enum Reason {
     UnknownCall,
     NotANumber,
@@ -25,7 +25,7 @@ pub enum Reason {
 // What a line of text asks for. The numbers that an offer or a board reads stand in the list that was lent for reading, in the
 // places from `from` up to `until`; a clock move and a board ask for so many places to write to. Any other call has none of
 // either.
-#[derive(Drop)]
+#[derive(Clone, Copy)]
 pub enum Request {
     Nothing,
     Open {
@@ -44,14 +44,14 @@ pub enum Request {
 const MOST: usize = 2048;
 
 // How many numbers a call takes, at least and at most.
-#[derive(Drop)]
+#[derive(Clone, Copy)]
 enum Takes {
     Between { least: usize, most: usize },
     NoCall,
 }
 
 // How many numbers were read into the lent list.
-#[derive(Drop)]
+#[derive(Clone, Copy)]
 enum Numbers {
     Count(usize),
     Wrong(Reason),

@@ -6,7 +6,7 @@ ghost use Rattle.requests.specs.Words.{named};
 use text::same_text;
 
 // The calls by their first word.
-#[derive(Drop)]
+#[derive(Clone, Copy)]
 pub enum CallName {
     Open,
     Preview,

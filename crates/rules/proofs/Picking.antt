@@ -122,13 +122,13 @@ without_none t (d ∷ l) e =
 
 -- a ticket that is placed is left out, once
 pub left_out :
-    (i : ℕ) {c : Charge} {l : List Charge}
+    {c : Charge} (i : ℕ) {l : List Charge}
     → Among c l
     → Rising i l
     → Inserted c.ticket (tickets (without_ticket c.ticket l)) (tickets l)
-left_out i {c} (front {l = l}) r =
+left_out {c} i (front {l = l}) r =
     rw (eq-eqb c.ticket c.ticket refl, without_none c.ticket l (rising_from (suc c.ticket) l r.1)) here
-left_out i {c} (behind {d = d} {l = l} m) r =
+left_out {c} i (behind {d = d} {l = l} m) r =
     let low : suc d.ticket ≤ c.ticket
     = among_each (λ x. suc d.ticket ≤ x.ticket) m (rising_from (suc d.ticket) l r.1) in
     rw (ne_eqb d.ticket c.ticket (λ q. absurd (omega arith))) (later (left_out (suc d.ticket) m r.1))

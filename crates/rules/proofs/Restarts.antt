@@ -84,7 +84,7 @@ each_restarted P f clock (x ∷ xs) (s ∷ ss) e =
     go true u v = (e.0, u)
     go false u v = (f x s e.0, v)
 
-pub restarted_rising : (i : ℕ) {clock : ℕ} {cs ds : List Charge} → Restarted clock cs ds → Rising i cs → Rising i ds
+pub restarted_rising : {clock : ℕ} (i : ℕ) {cs ds : List Charge} → Restarted clock cs ds → Rising i cs → Rising i ds
 restarted_rising i empty n = tt
 restarted_rising i (same {c = c} r) n = (n.0, restarted_rising (suc c.ticket) r n.1)
 restarted_rising i (other {c = c} h j r) n = (n.0, restarted_rising (suc c.ticket) r n.1)

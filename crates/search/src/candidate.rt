@@ -10,7 +10,7 @@ use profile::counts::smaller;
 use profile::steps::place;
 
 // Whether no minute fails, how many were looked at, and, where one fails, its step.
-#[derive(Drop)]
+#[derive(Clone, Copy)]
 pub struct Tested {
     pub fits: bool,
     pub looked: u32,

@@ -10,7 +10,7 @@ use profile::counts::smaller;
 // So many places a line has among the caps, one for each count from 0 to the largest limit, 60.
 pub const CAP_PLACES: usize = 61;
 
-#[derive(Drop)]
+#[derive(Clone, Copy)]
 pub struct LineCaps {
     pub caps: [u32; COLUMNS * CAP_PLACES],
 }

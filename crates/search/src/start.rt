@@ -23,7 +23,7 @@ pub fn reaching(clock: u32, end: u32, time: u32) -> u32
 }
 
 // Where the counts are not within both limits and the bound: not before the minute `first`, 4294967295 if nowhere, and not from the minute `end` on.
-#[derive(Drop)]
+#[derive(Clone, Copy)]
 pub struct Unsound {
     pub first: u32,
     pub end: u32,

@@ -23,7 +23,7 @@ pub fn end_of<'a>(at: &'a [u32], n: usize, i: usize, until: u32) -> u32
 }
 
 // The first minute without room, and its step.
-#[derive(Drop)]
+#[derive(Clone, Copy)]
 pub enum Failing {
     At { minute: u32, step: usize },
     Nothing,

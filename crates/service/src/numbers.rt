@@ -18,7 +18,7 @@ use site::withdraw::WithdrawalAnswer;
 
 // The number of the refusal, or 0, and how many blocks of the image changed; then the numbers of an answer, each 0 where the answer
 // has none of its name. Of an enquiry, `charging` is 1 or 0.
-#[derive(Drop)]
+#[derive(Clone, Copy)]
 pub struct Numbers {
     pub refusal: u32,
     pub blocks: u32,

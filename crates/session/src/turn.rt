@@ -12,7 +12,7 @@ use station::Station;
 
 // What a session needs before it can go on: more bytes of the input, room in the buffer for further answers, or nothing,
 // since the input has ended and all is answered.
-#[derive(Drop)]
+#[derive(Clone, Copy)]
 pub enum Wants {
     Bytes,
     Room,
@@ -25,7 +25,7 @@ const FULL: usize = 6000;
 // What is kept from turn to turn: the station, how many bytes that are not yet answered stand at the front of the block, and
 // what is wanted; and the end of the text that is to be written. A turn hands back this one struct: a station is large, and
 // each struct around it would be one more copy on the stack.
-#[derive(Drop)]
+#[derive(Clone, Copy)]
 pub struct Session {
     pub station: Station,
     pub held: usize,
@@ -34,7 +34,7 @@ pub struct Session {
 }
 
 // The station after some requests of a block, the place after them, and the end of the text that answers them.
-#[derive(Drop)]
+#[derive(Clone, Copy)]
 struct Replies {
     station: Station,
     from: usize,

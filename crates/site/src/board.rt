@@ -10,7 +10,7 @@ ghost use Rattle.site.specs.Answers.{board_answer};
 use boards::{board_refusal, none_held};
 use station::{One, Station};
 
-#[derive(Drop)]
+#[derive(Clone, Copy)]
 pub enum BoardAnswer {
     Looked(usize),
     Refused(u32),

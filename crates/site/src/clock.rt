@@ -16,13 +16,13 @@ use station::{One, Station};
 // A report has a ticket and a start for each charge that a feeder may hold.
 const REPORTED: usize = 2 * PLACES;
 
-#[derive(Drop)]
+#[derive(Clone, Copy)]
 pub enum MoveAnswer {
     Moved { reported: usize, dropped: usize },
     Refused(u32),
 }
 
-#[derive(Drop)]
+#[derive(Clone, Copy)]
 pub struct Moving {
     pub answer: MoveAnswer,
     pub left: One,

@@ -12,7 +12,7 @@ use station::holder::Holder;
 use station::{One, Station};
 
 // An enquiry is refused for one reason alone, so that its refusal needs no number: it is 15 (specs/Answers.antt).
-#[derive(Drop)]
+#[derive(Clone, Copy)]
 pub enum EnquiryAnswer {
     Waiting { start: u32, rate: u32 },
     Charging { start: u32, end: u32, rate: u32 },

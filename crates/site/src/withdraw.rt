@@ -16,13 +16,13 @@ use planner::Beside;
 use plans::plan_sound;
 use station::{Feeder, One};
 
-#[derive(Drop)]
+#[derive(Clone, Copy)]
 pub enum WithdrawalAnswer {
     Withdrawn,
     Refused(u32),
 }
 
-#[derive(Drop)]
+#[derive(Clone, Copy)]
 pub struct Withdrawing {
     pub answer: WithdrawalAnswer,
     pub left: One,

@@ -7,7 +7,7 @@ use crate::Station;
 use charges::{Place, find};
 
 // The place of a feeder, and of a charge that it holds; or none.
-#[derive(Drop)]
+#[derive(Clone, Copy)]
 pub enum Holder {
     At { feeder: usize, place: usize },
     Nobody,

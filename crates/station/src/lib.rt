@@ -12,7 +12,7 @@ use charges::Charges;
 pub const FEEDERS: usize = 4;
 
 // "each with its own N, c, r and 180 places": the limit N, the percentage c, the bound D, r, and the charges.
-#[derive(Drop)]
+#[derive(Clone, Copy)]
 pub struct Feeder {
     pub limit: u32,
     pub percent: u32,
@@ -23,7 +23,7 @@ pub struct Feeder {
 }
 
 // The first `count` feeders are those of the site, and `site` is its limit W.
-#[derive(Drop)]
+#[derive(Clone, Copy)]
 pub struct Station {
     pub count: usize,
     pub site: u32,
@@ -35,7 +35,7 @@ pub struct Station {
 // One feeder of a station at its place, with what it shares with the others: how many there are, the site's limit, the clock and the
 // next ticket. A call takes it out of the station, and leaves it with what has changed: a copy of all four feeders costs more than most
 // calls. Of the others nothing changes but that a clock that is moved drops their finished charges too.
-#[derive(Drop)]
+#[derive(Clone, Copy)]
 pub struct One {
     pub count: usize,
     pub site: u32,

@@ -9,7 +9,7 @@ use charges::Charges;
 use profile::balance::nearest_hundreds;
 
 // What an opening is given for a feeder: the limit N, the percentage c and r.
-#[derive(Drop)]
+#[derive(Clone, Copy)]
 pub struct Settings {
     pub limit: u32,
     pub percent: u32,
@@ -17,7 +17,7 @@ pub struct Settings {
 }
 
 // What an opening asks for: how many feeders, the site's limit W, and the settings of each; those past the count are not read.
-#[derive(Drop)]
+#[derive(Clone, Copy)]
 pub struct Asked {
     pub count: u32,
     pub site: u32,
@@ -28,7 +28,7 @@ pub struct Asked {
 }
 
 // The bound D of each feeder up to the count.
-#[derive(Drop)]
+#[derive(Clone, Copy)]
 pub enum OpenAnswer {
     Opened {
         count: usize,
@@ -40,7 +40,7 @@ pub enum OpenAnswer {
     Refused(u32),
 }
 
-#[derive(Drop)]
+#[derive(Clone, Copy)]
 pub struct Opening {
     pub answer: OpenAnswer,
     pub station: Station,

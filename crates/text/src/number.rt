@@ -4,7 +4,7 @@ ghost use Rattle.std.proofs.Math.Seq.{slice};
 ghost use Rattle.text.specs.Numbers.{number_of};
 
 // What a word that should be a number says.
-#[derive(Drop)]
+#[derive(Clone, Copy)]
 pub enum Number {
     Value(u32),
     NotANumber,

@@ -7,7 +7,7 @@ ghost use Rattle.windows.specs.Windows.{CanAddStarted, StartedAdded};
 use profile::loads::add;
 
 // A window: of the first `held` charges those with a start from `low` up to `high`.
-#[derive(Drop)]
+#[derive(Clone, Copy)]
 pub struct Window {
     pub held: usize,
     pub low: u32,
