@@ -1,4 +1,5 @@
 // Reads requests from standard input, one to a line of text, and writes the answer to each on standard output.
+#![tactic(auto)]
 mod serve;
 
 // A block holds what is kept of a request, at most 4,097 bytes, and what is read after it. An answer fits behind any place of

@@ -1,4 +1,5 @@
 // Replan by lines.
+#![tactic(auto)]
 pub mod next;
 pub mod place;
 pub mod rounds;

@@ -24,11 +24,11 @@ unfolding sound
 sound_beside y others clock xs = refl
 
 module _ {ats counts : List ℕ} (roomy : Roomy ats counts) where
-  -- columns of so many places, and lists with room for the steps of as many loads
+  -- columns of so many places, and lists with room for the steps of the loads
   lent_whole :
       {size held : ℕ} {lines actives starts rates : List ℕ}
       → held ≤ size
-      → 1 + 2 * size ≤ length ats
+      → 1 + 2 * held ≤ length ats
       → length lines ≡ size
       → length actives ≡ size
       → length starts ≡ size
@@ -37,7 +37,7 @@ module _ {ats counts : List ℕ} (roomy : Roomy ats counts) where
   lent_whole few enough a b c d =
       record {
         roomy = roomy;
-        enough = omega arith;
+        enough = enough;
         lines_fit = omega arith;
         actives_fit = omega arith;
         starts_fit = omega arith;
@@ -47,7 +47,7 @@ module _ {ats counts : List ℕ} (roomy : Roomy ats counts) where
   module _ (q : Sought) where
     -- one feeder's own columns
     pub own_can_order :
-        {c : Charges} → Columns c → q.held ≡ c.held → 361 ≤ length ats → OrderBeside (loads_of (charges_of c)) q.clock q.limits (draw_sought q)
+        {c : Charges} → Columns c → q.held ≡ c.held → 1 + 2 * c.held ≤ length ats → OrderBeside (loads_of (charges_of c)) q.clock q.limits (draw_sought q)
         → CanOrder q ats counts c.lines c.active_times c.starts c.rates
     own_can_order {c} v same enough plan =
         record {
@@ -61,6 +61,6 @@ module _ {ats counts : List ℕ} (roomy : Roomy ats counts) where
         → CanOrder q ats counts d.lines d.active_times d.starts d.rates
     drawn_can_order v same enough plan =
         record {
-          lent = rw same (lent_whole v.columns.few enough v.columns.lines v.columns.active_times v.columns.starts v.columns.rates);
+          lent = rw same (lent_whole v.columns.few (omega (arith, v.columns.few)) v.columns.lines v.columns.active_times v.columns.starts v.columns.rates);
           plan = rw (same, v.loads) plan;
         }

@@ -1,4 +1,5 @@
 // The held charges in the order in which they are taken: by start, then ticket, and by latest start, then ticket; and the reports.
+#![tactic(auto)]
 pub mod insertion;
 pub mod line;
 pub mod reports;

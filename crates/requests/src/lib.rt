@@ -1,6 +1,7 @@
 // The requests to a station: a call is read from a line of text, or the reason printed why it is none.
 //
 // No contract speaks of input or output: everything here is a function on slices.
+#![tactic(auto)]
 mod error;
 mod request;
 mod word;

@@ -1,6 +1,7 @@
 // One call over an image: the station is restored from it, the call is made to its only feeder, and the next station is saved over the
 // image.
 // A refusal, whether of the restore or of the call, leaves the image and the lent lists as they are.
+#![tactic(auto)]
 pub mod numbers;
 
 ghost use Rattle.std.specs.Prelude.{◌≡◌, []};

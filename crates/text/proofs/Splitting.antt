@@ -11,16 +11,20 @@ use borrow.Author.Tests.{lt-ltb, le-ltb, eq-eqb, ne_eqb}
 use lib.Dec.{ltb, eqb, leb-suc-suc}
 use lib.ListN.{length, take, drop, get_or, drop_of_length-le}
 use lib.Seq.{slice, length-slice, take-take, drop-drop, drop-cons}
-use Rattle.bytes.specs.Bytes.{index_of, index_after}
 use Rattle.text.specs.Parts.{split, PartEnd, same_text}
 use Rattle.rules.proofs.Ranges.{below_or_not}
+
+-- the place of the first separator, or the length where there is none
+unfoldable pub index_of : ℕ → List ℕ → ℕ
+index_of b [] = 0
+index_of b (x ∷ bs) = cond (eqb x b) 0 (suc (index_of b bs))
 
 -- the parts of a text: the first one up to the first separator, and those after it
 pub first_part :
     (b : ℕ) (bs : List ℕ)
     → split b bs
     ≡ take (index_of b bs) bs ∷ cond (ltb (index_of b bs) (length bs)) (split b (drop (suc (index_of b bs)) bs)) []
-unfolding split index_of index_after
+unfolding split index_of
 first_part b [] = refl
 first_part b (x ∷ bs) = by_test (eqb x b) refl (first_part b bs)
   where

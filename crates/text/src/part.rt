@@ -8,7 +8,12 @@ pub fn part_end(bytes: &[u8], from: usize, to: usize, separator: u8) -> usize
     requires { (from ≤ to) × (to ≤ length bytes.now) }
     ensures { PartEnd separator bytes.now from to result }
 {
-    bytes::scan::find(bytes, from, to, separator)
+    for i in from..to {
+        if bytes[i] == separator {
+            return i;
+        }
+    }
+    to
 }
 
 pub fn same_text(a: &[u8], b: &[u8]) -> bool

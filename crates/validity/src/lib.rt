@@ -1,4 +1,5 @@
 // Whether the only feeder of a station is one whose image restore accepts: its settings, its charges, its plan.
+#![tactic(auto)]
 pub mod ranges;
 pub mod records;
 

@@ -1,4 +1,5 @@
 // Reads a saved image from standard input and prints the page for the office wall on standard output.
+#![tactic(auto)]
 mod show;
 
 fn main() {

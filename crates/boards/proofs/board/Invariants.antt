@@ -1,0 +1,13 @@
+-- The invariant: so many charges are passed, and so many tickets done.
+use Prim.Native.Nat.{◌+◌, ◌-◌, ◌<◌}
+use lib.ListN.{get_or}
+use native.Mathlib.Omega.{arith}
+use Rattle.boards.proofs.Boarding.{Walked, looked_inside, walked_none, walked_on, walked_answered, walked_end}
+use borrow.Author.Rules.{rules}
+use Rattle.boards.proofs.board.Given as goal
+
+abbrev pub invariant-loop-answered : goal.invariant-loop-answered
+invariant-loop-answered l = Walked l.charges l.asked l.initial.answers l.answers l.place l.answered
+
+abbrev pub decreases-loop-answered : goal.decreases-loop-answered
+decreases-loop-answered l = (l.held - l.place) + (l.count - l.answered)

@@ -1,0 +1,16 @@
+-- Served with the list for its report, and told.
+use mathlib.Core.Path.{refl}
+use native.Mathlib.Omega.{arith}
+use Rattle.bus.proofs.Calling.{call_refused, call_told}
+use borrow.Author.Rules.{rules}
+use Rattle.bus.proofs.clock.togbeyis_move.Goals as goal
+
+-- ?? no goal for slice-aggregate-serve
+-- slice-aggregate-serve : tie.Need-slice-aggregate-serve
+-- slice-aggregate-serve c = search rules
+
+pub returns-then-told-gt0 : goal.returns-then-told-gt0
+returns-then-told-gt0 c = call_refused c.serve-told.ensures.0 (search rules) (omega (arith, c.if-told-gt0.true)) (search rules) (search rules) (search rules) (search rules)
+
+pub returns : goal.returns
+returns c = call_told c.serve-told.ensures.0 (search rules) (omega (arith, c.if-told-gt0.false)) refl (search rules) (search rules) (search rules) (search rules)

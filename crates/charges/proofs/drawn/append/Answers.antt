@@ -1,0 +1,15 @@
+use Prim.Native.Nat.{◌-◌}
+use native.Mathlib.Omega.{arith}
+use borrow.Author.Rules.{rules}
+use Rattle.charges.specs.Drawn.{number_at}
+use Rattle.charges.proofs.Joining.{Appending, appending_none, appending_next, appending_end}
+use Rattle.charges.proofs.drawn.append.Goals as goal
+
+pub loop-i-init : goal.loop-i-init
+loop-i-init c = appending_none _ _ _ _ c.requires.0
+
+pub loop-i-preserved : goal.loop-i-preserved
+loop-i-preserved c = appending_next c.loop-i.invariant (omega arith) (search rules)
+
+pub returns : goal.returns
+returns c = appending_end c.loop-i.invariant (omega arith)

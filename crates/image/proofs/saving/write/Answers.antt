@@ -1,0 +1,9 @@
+-- The contents laid out with their checks are the image.
+use mathlib.Core.Path.{ap, ◌∙◌}
+use Rattle.blocks.specs.Contents.{laid_out}
+use Rattle.image.proofs.Imaging.{contents_long, laid_image}
+use borrow.Author.Rules.{rules}
+use Rattle.image.proofs.saving.write.Goals as goal
+
+pub returns : goal.returns
+returns c = c.put_blocks.ensures ∙ ap laid_out c.contents_of-contents.ensures ∙ laid_image _

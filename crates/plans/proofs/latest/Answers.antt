@@ -1,0 +1,12 @@
+-- The lists have room for the plan.
+use native.Mathlib.Omega.{arith}
+use mathlib.Core.Path.{refl}
+use Rattle.plans.proofs.Rooms.{spacious}
+use borrow.Author.Rules.{rules}
+use Rattle.plans.proofs.latest.Goals as goal
+
+pub latest-requires : goal.latest-requires
+latest-requires c = (spacious _ _ _ 361 refl refl (omega arith) (omega (arith, c.if-beside-eq0.true)), c.requires.0, c.requires.2)
+
+pub latest-requires-2 : goal.latest-requires-2
+latest-requires-2 c = (spacious _ _ _ 1441 refl refl (omega arith) (omega (arith, c.requires.1)), c.requires.0, c.requires.2)

@@ -1,0 +1,8 @@
+-- `search::caps::LineCaps::new` meets its contract.
+use native.Mathlib.Omega.{arith}
+use borrow.Author.Rules.{rules}
+use Rattle.search.proofs.Lowerings.{unlowered_shown}
+use Rattle.search.proofs.caps.LineCaps.new.Goals as goal
+
+pub returns : goal.returns
+returns c = unlowered_shown _ _ c.unlowered-caps.ensures (omega arith)

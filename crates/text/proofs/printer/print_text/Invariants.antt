@@ -1,0 +1,14 @@
+-- `text::print_text` meets its contract: byte by byte, the text so far is printed.
+use mathlib.Core.Path.{◌≡◌, refl}
+use Prim.Native.Nat.{◌+◌, ◌-◌, ◌≤◌}
+use native.Mathlib.Omega.{arith}
+use lib.ListN.{length, take, length-set}
+use Rattle.text.specs.Printed.{Printed}
+use Rattle.text.proofs.Printing.{printed_more, printed_all}
+use Rattle.text.proofs.printer.print_text.Given as goal
+
+abbrev pub invariant-loop-i : goal.invariant-loop-i
+invariant-loop-i l = (l.i ≤ length l.text) × (length l.buffer ≡ length l.initial.buffer) × Printed (take l.i l.text) l.initial.buffer l.at l.buffer (l.at + l.i)
+
+abbrev pub decreases-loop-i : goal.decreases-loop-i
+decreases-loop-i l = length l.text - l.i
