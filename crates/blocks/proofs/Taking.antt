@@ -3,7 +3,7 @@ use mathlib.Core.Path.{◌≡◌, ◌∙◌}
 use Prim.Native.Nat.{ℕ, ◌+◌, ◌*◌, ◌/◌, ◌%◌, ◌≤◌, ◌<◌}
 use mathlib.Core.List.{List}
 use native.Mathlib.Omega.{arith}
-use lib.ListN.{get_or, set}
+use lib.ListN.{set}
 use Rattle.layout.specs.Reading.{in_block}
 use Rattle.blocks.specs.Places.{Filling}
 use Rattle.blocks.specs.Contents.{taken_at, contents_in}

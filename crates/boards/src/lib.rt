@@ -1,5 +1,6 @@
 // The board: the starts of the charges that are asked for by their tickets, feeder by feeder.
 #![tactic(auto)]
+
 ghost use Rattle.std.specs.Prelude.{◌≡◌, cond, ◌&&◌, ◌≤◌, leb, ltb, eqb, length, get_or, replicate};
 ghost use Rattle.rules.specs.Basics.{first_of};
 ghost use Rattle.rules.specs.Site.{places, State};

@@ -7,7 +7,7 @@ use mathlib.Core.List.{List, [], ◌∷◌}
 use lib.Dec.{eqb}
 use borrow.Author.Tests.{ne_eqb, eq-eqb}
 use Rattle.rules.specs.Site.{State}
-use Rattle.rules.specs.Calls.{refused, opening, Call, replan_latest, enquire, written}
+use Rattle.rules.specs.Calls.{Call, replan_latest, enquire, written}
 use Rattle.layout.specs.Reading.{restoring}
 use Rattle.layout.specs.Saving.{SaveResult, save_refusal, saving}
 use Rattle.station.specs.View.{view, station_of}
@@ -15,7 +15,7 @@ use Rattle.image.specs.declared.restoring.Restored.{Restored}
 use Rattle.image.specs.declared.saving.Saved.{Saved}
 use Rattle.image.specs.Answers.{Restores, Saves}
 use Rattle.service.specs.declared.numbers.Numbers.{Numbers}
-use Rattle.service.specs.Left.{Told, told, counted, Leaves}
+use Rattle.service.specs.Left.{Told, counted, Leaves}
 use Rattle.service.specs.Named.{numbers_of, told_of, Serves}
 use Rattle.service.proofs.Telling.{told_refused, told_granted}
 use Rattle.service.proofs.Serving.{refusal_is, state-is}

@@ -1,5 +1,5 @@
 -- What an offer and both replans tell in the same way.
-use Rattle.std.specs.Prelude.{ℕ, ◌≡◌, List, [], ◌∷◌}
+use Rattle.std.specs.Prelude.{ℕ, ◌≡◌, List}
 use Rattle.rules.specs.Calls.{written, replan_latest}
 use Rattle.service.specs.Left.{counted}
 use Rattle.service.specs.Named.{told_of}

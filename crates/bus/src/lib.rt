@@ -2,6 +2,7 @@
 // station over it. A refusal, whether of the restore or of the call, leaves the image, the lent list and all that stands behind a
 // reference as they are. Each function returns 0, or the number of its refusal; a length or a number may be any of its type.
 #![tactic(auto)]
+
 pub mod board;
 pub mod clock;
 pub mod copy;

@@ -2,7 +2,7 @@
 use mathlib.Core.Path.{◌≡◌, refl, ap, sym, subst, ◌∙◌}
 use Prim.Native.Nat.{ℕ}
 use mathlib.Core.Bool.{true, false≢true}
-use mathlib.Core.List.{List, [], ◌∷◌}
+use mathlib.Core.List.{List}
 use Rattle.rules.specs.Calls as rules
 use Rattle.rules.specs.Calls.{Result, step}
 use Rattle.rules.specs.Valid.{ValidState}
@@ -13,11 +13,9 @@ use Rattle.station.specs.declared.One.{One}
 use Rattle.station.specs.View.{view, Valid, SameHead, station_of, Alone}
 use Rattle.station.specs.Given.{Keeps, Leaves, LeavesAlone}
 use Rattle.station.proofs.Ones.{only_formed, alone_left}
-use types.Run.{OneOf, miss}
-use denote.Enum.Declared.{tag_of}
+use Rattle.ordering.specs.declared.Order.{Order}
 use Rattle.calls.specs.declared.Call.{Call}
 use Rattle.calls.specs.declared.Call.TheVariants.{Preview, Commit, Move, Offer, ReplanLatest, ReplanLines, Enquire, Board, Withdraw}
-use Rattle.calls.specs.contracts.Call.{the_type}
 use Rattle.calls.specs.declared.Answer.{Answer}
 use Rattle.calls.proofs.Applying.{HandsOn}
 use Rattle.calls.specs.Applied.{call_of, lends, list_after, ListStays, answer_of, keeps_of, Applies}
@@ -68,14 +66,13 @@ module _ {o l next : One} {call found : Call} {numbers before after : List ℕ} 
 
 -- what keeps the station, and is neither a preview nor an enquiry, is a board
 pub board_left :
-    (call : Call) → keeps_of call ≡ true → OneOf (1 ∷ 2 ∷ 3 ∷ 4 ∷ 5 ∷ 6 ∷ 7 ∷ 8 ∷ []) (tag_of the_type call)
-    → OneOf (0 ∷ 1 ∷ 2 ∷ 3 ∷ 4 ∷ 5 ∷ 7 ∷ 8 ∷ []) (tag_of the_type call) → call ≡ Board
-board_left (Preview o) k p q = absurd (miss (1 ∷ 2 ∷ 3 ∷ 4 ∷ 5 ∷ 6 ∷ 7 ∷ 8 ∷ []) 0 tt p)
+    (call : Call) → keeps_of call ≡ true → ((o : Order) → call ≡ Preview o → ⊥) → ((ticket : ℕ) → call ≡ Enquire ticket → ⊥) → call ≡ Board
+board_left (Preview o) k p q = absurd (p o refl)
 board_left (Commit o shown) k p q = absurd (false≢true k)
 board_left (Move target) k p q = absurd (false≢true k)
 board_left (Offer feeder) k p q = absurd (false≢true k)
 board_left (ReplanLatest feeder) k p q = absurd (false≢true k)
 board_left (ReplanLines feeder allowance) k p q = absurd (false≢true k)
-board_left (Enquire ticket) k p q = absurd (miss (0 ∷ 1 ∷ 2 ∷ 3 ∷ 4 ∷ 5 ∷ 7 ∷ 8 ∷ []) 6 tt q)
+board_left (Enquire ticket) k p q = absurd (q ticket refl)
 board_left Board k p q = refl
 board_left (Withdraw ticket) k p q = absurd (false≢true k)

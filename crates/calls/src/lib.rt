@@ -1,5 +1,6 @@
 // Any call of a station that stands, given as a value, with the lists lent beside it.
 #![tactic(auto)]
+
 pub mod alone;
 pub mod clock;
 pub mod order;

@@ -4,24 +4,36 @@ ghost use Rattle.session.specs.Turns.{over, Room, Reached};
 
 use session::turn::{Session, Wants, turn};
 use station::Station;
+use std::io::{Read, Write};
+use std::rt::{Stdin, Stdout};
 
 // Reads once, and answers how many bytes came. A read that fails counts as the end of the input.
-fn read_some(part: &mut [u8]) -> usize
+fn read_some(mut input: Stdin, part: &mut [u8]) -> usize
     ensures { result ≤ length part.new }
 {
-    let got = libc::read(0, part);
-    io::count(got, part)
+    match input.read(part) {
+        Ok(got) => got,
+        Err(_) => 0,
+    }
 }
 
 // Reads once where bytes are wanted, to the places after those that are held, which stay.
-fn read_wanted(wants: Wants, block: &mut [u8], held: usize) -> usize
+fn read_wanted(input: Stdin, wants: Wants, block: &mut [u8], held: usize) -> usize
     requires { held ≤ length block.old }
     ensures { (held + result ≤ length block.old) × (take held block.new ≡ take held block.old) }
 {
     let Wants::Bytes = wants else {
         return 0;
     };
-    read_some(&mut block[held..])
+    read_some(input, &mut block[held..])
+}
+
+// Writes an answer. A write that fails is passed over: the calls after it are made all the same.
+fn write_answer(mut output: Stdout, answer: &[u8]) {
+    match output.write_all(answer) {
+        Ok(()) => {}
+        Err(_) => {}
+    }
 }
 
 fn is_over(wants: Wants) -> bool
@@ -36,7 +48,14 @@ fn is_over(wants: Wants) -> bool
 
 // From the fresh station of 1, 100, with one feeder and W 720, turn by turn to the end of the input; the last session. A proved loop has to end, and
 // nothing says that the input does. So the loop counts its turns down, from a number that no run uses up.
-pub fn serve(block: &mut [u8], numbers: &mut [u32], list: &mut [u32], out: &mut [u8]) -> Session
+pub fn serve(
+    input: Stdin,
+    output: Stdout,
+    block: &mut [u8],
+    numbers: &mut [u32],
+    list: &mut [u32],
+    out: &mut [u8],
+) -> Session
     requires { Room numbers.old list.old out.old }
     ensures { Reached result block.new }
 {
@@ -50,10 +69,10 @@ pub fn serve(block: &mut [u8], numbers: &mut [u32], list: &mut [u32], out: &mut 
     let mut turns = u64::MAX;
     while turns > 0 {
         let wants = session.wants;
-        let count = read_wanted(wants, block, session.held);
+        let count = read_wanted(input, wants, block, session.held);
         session = turn(session, count, block, numbers, list, out);
         let at = session.at;
-        io::write_all(1, &out[..at]);
+        write_answer(output, &out[..at]);
         let then = session.wants;
         if is_over(then) {
             return session;

@@ -1,5 +1,6 @@
 // An order, which is previewed and committed: the smallest start with which the held plan and the new charge are sound together.
 #![tactic(auto)]
+
 pub mod commit;
 pub mod refusal;
 pub mod start;

@@ -9,7 +9,7 @@ use lib.Dec.{ltb}
 use borrow.Author.Tests.{lt-ltb, le-ltb, ltb-false}
 use Rattle.rules.specs.Basics.{some, first_of}
 use Rattle.rules.specs.Load.{IsRate, last_until, limit_at, balance_at, from_on}
-use Rattle.rules.specs.Charge.{Charge, seen, loads_of, lateness}
+use Rattle.rules.specs.Charge.{seen, loads_of, lateness}
 use Rattle.rules.specs.Judgement.{restarted, judged}
 use Rattle.rules.proofs.Ranges.{below_or_not}
 use Rattle.rules.proofs.Lists.{each_tabulate}

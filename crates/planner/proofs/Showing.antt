@@ -1,12 +1,12 @@
 -- Held charges as loads: begun and waiting ones, and that a profile takes them.
 use mathlib.Core.Path.{◌≡◌, refl, ap}
-use Prim.Native.Nat.{ℕ, suc, ◌+◌, ◌^◌, ◌≤◌, ◌<◌}
+use Prim.Native.Nat.{ℕ, suc, ◌+◌, ◌≤◌}
 use mathlib.Core.Bool.{Bool, true, false, cond, not}
-use mathlib.Core.List.{List, [], ◌∷◌, ◌++◌, map}
+use mathlib.Core.List.{List, [], ◌∷◌, ◌++◌}
 use native.Mathlib.Omega.{arith}
 use lib.ListN.{length}
 use Rattle.rules.specs.Basics.{Each}
-use Rattle.rules.specs.Load.{Load, IsRate, last_until}
+use Rattle.rules.specs.Load.{IsRate, last_until}
 use Rattle.rules.specs.Charge.{Charge, active_until, load_of, loads_of, is_begun, begun_charges, waiting_charges}
 use Rattle.rules.proofs.Lists.{map-append, each_tabulate}
 use Rattle.rules.proofs.Ends.{until_each, until_kept}

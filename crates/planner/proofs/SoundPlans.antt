@@ -4,7 +4,6 @@ use Prim.Native.Nat.{ℕ, ◌-◌}
 use mathlib.Core.Bool.{Bool, true, false, true≢false}
 use mathlib.Core.List.{List}
 use lib.Dec.{eqb}
-use native.Mathlib.Omega.{arith}
 use Rattle.rules.specs.Load.{Load, last_until, Limits, limit_at, balance_at, sound_at, from_on, sound}
 use Rattle.rules.specs.Search.{first_unbalanced}
 use Rattle.rules.proofs.Ranges.{and_left, and_right, and_both, fails, throughout_at, throughout_all}

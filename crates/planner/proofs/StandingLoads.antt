@@ -1,10 +1,9 @@
 -- Loads put into a profile whole: of the other feeders, and of the charges that start before a minute.
-use mathlib.Core.Path.{◌≡◌, refl, sym, ◌∙◌, ap}
-use Prim.Native.Nat.{ℕ, zero, suc, ◌+◌, ◌*◌, ◌≤◌, ◌<◌}
-use mathlib.Core.Bool.{Bool, true, false, ◌&&◌}
-use mathlib.Core.List.{List, [], ◌∷◌, ◌++◌}
+use mathlib.Core.Path.{◌≡◌, refl, sym, ◌∙◌}
+use Prim.Native.Nat.{ℕ, ◌+◌, ◌*◌, ◌≤◌, ◌<◌}
+use mathlib.Core.List.{List, [], ◌∷◌}
 use native.Mathlib.Omega.{arith}
-use lib.Dec.{leb, ltb}
+use lib.Dec.{ltb}
 use lib.ListN.{length, length-append}
 use borrow.Author.Tests.{lt-ltb, le-leb}
 use Rattle.rules.specs.Basics.{Each, keep}
@@ -17,7 +16,7 @@ use Rattle.charges.specs.Arrays as arrays
 use Rattle.charges.specs.Arrays.{charge_at, charges_of}
 use Rattle.charges.specs.Drawn.{load_in, loads_in, drawn_of}
 use Rattle.charges.proofs.Drawing.{loads_in_lem, loads_begun}
-use Rattle.profile.specs.Shows.{Profile, profile_of, ShowsIn, Small}
+use Rattle.profile.specs.Shows.{Profile, ShowsIn, Small}
 use Rattle.profile.proofs.Shown.{shows_small}
 use Rattle.windows.specs.Windows.{starts_in, started, Drawable, CanAddStarted, StartedAdded}
 use Rattle.planner.specs.Ready.{Around, terms_of, Spacious, Plannable, Others, Profiled}

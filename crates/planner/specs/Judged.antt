@@ -2,7 +2,7 @@
 use Rattle.std.specs.Prelude.{◌≡◌, ℕ, zero, suc, not, List, [], ◌∷◌, ltb}
 use Rattle.rules.specs.Basics.{first_of}
 use Rattle.rules.specs.Load.{Load, Limits, limit_at, balance_at, from_on}
-use Rattle.rules.specs.Charge.{seen, lateness}
+use Rattle.rules.specs.Charge.{lateness}
 use Rattle.rules.specs.Judgement.{restarted, judged}
 use Rattle.charges.specs.declared.Charges.{Charges}
 use Rattle.charges.specs.Arrays.{charges_of, Holds}

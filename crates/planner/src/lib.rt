@@ -1,5 +1,6 @@
 // What stands beside a plan of a feeder, replan by latest start and the test of a plan.
 #![tactic(auto)]
+
 pub mod judge;
 pub mod latest;
 pub mod plan;

@@ -1,5 +1,6 @@
 // Offers and both replans of a feeder: a list of starts, and the test that all three end with.
 #![tactic(auto)]
+
 pub mod offer;
 pub mod replan;
 pub mod tested;

@@ -1,5 +1,6 @@
 // The priority of replan by lines: what a charge weighs at a start, and the charge that is taken there.
 #![tactic(auto)]
+
 pub mod choice;
 pub mod columns;
 pub mod crowd;

@@ -1,5 +1,6 @@
 // The held charges in the order in which they are taken: by start, then ticket, and by latest start, then ticket; and the reports.
 #![tactic(auto)]
+
 pub mod insertion;
 pub mod line;
 pub mod reports;

@@ -12,7 +12,7 @@ use borrow.Author.Tests.{leb-true, le-leb, lt-leb}
 use Rattle.rules.specs.Site.{places}
 use Rattle.rules.proofs.Ranges.{and_left, and_right, below_or_not}
 use Rattle.charges.specs.declared.Charges.{Charges}
-use Rattle.charges.specs.Arrays.{Column, tickets, lines, order_minutes, times, active_times, dues, starts, rates, column_of, Filled, Columns}
+use Rattle.charges.specs.Arrays.{Column, tickets, lines, order_minutes, times, active_times, dues, starts, rates, column_of, Filled}
 use Rattle.charges.proofs.Storing.{zeros, filled_none, filled_set}
 use Rattle.layout.specs.Reading.{header_at}
 use Rattle.validity.specs.Settled.{settings_valid}

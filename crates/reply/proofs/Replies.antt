@@ -5,7 +5,6 @@ use Prim.Native.Nat.{ℕ, ◌+◌, ◌-◌, ◌≤◌, min}
 use native.Mathlib.Omega.{arith}
 use lib.ListN.{length, take, drop, replicate, length-append, length-drop, length-replicate}
 use lib.Seq.{sets, sets-eq, length-sets, length-take-le, take_at, take_all}
-use Rattle.rules.specs.Basics.{at}
 use Rattle.rules.specs.Site.{State}
 use Rattle.rules.specs.Calls.{Result}
 use Rattle.text.specs.Printed.{Printed}

@@ -1,6 +1,7 @@
 // One request: read, called, printed. The station goes through the second step alone, in which nothing is read or printed: so the
 // compiled program copies it less often. Where a station has one feeder, this alone goes through it (`alone`).
 #![tactic(auto)]
+
 pub mod alone;
 
 ghost use Rattle.std.specs.Prelude.{◌≡◌, List, ℕ, ◌+◌, ◌≤◌, length, drop, take};

@@ -2,6 +2,7 @@
 //
 // No contract speaks of input or output: everything here is a function on slices.
 #![tactic(auto)]
+
 mod error;
 mod request;
 mod word;

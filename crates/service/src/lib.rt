@@ -2,6 +2,7 @@
 // image.
 // A refusal, whether of the restore or of the call, leaves the image and the lent lists as they are.
 #![tactic(auto)]
+
 pub mod numbers;
 
 ghost use Rattle.std.specs.Prelude.{◌≡◌, []};

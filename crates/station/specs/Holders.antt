@@ -1,5 +1,5 @@
 -- The feeder that holds a ticket.
-use Rattle.std.specs.Prelude.{◌≡◌, ℕ, suc, ◌<◌, eqb}
+use Rattle.std.specs.Prelude.{◌≡◌, ℕ, ◌<◌, eqb}
 use Rattle.rules.specs.Basics.{at, nothing, first}
 use Rattle.charges.specs.Arrays.{charge_at}
 use Rattle.station.specs.declared.Station.{Station}

@@ -1,5 +1,5 @@
 -- What a station is in the words of the rules, and what every call needs of it and keeps.
-use Rattle.std.specs.Prelude.{◌≡◌, ℕ, ◌+◌, ◌≤◌, ◌<◌, cond, List, [], ◌∷◌, ltb, length, get_or, set, replicate}
+use Rattle.std.specs.Prelude.{◌≡◌, ℕ, ◌+◌, ◌≤◌, ◌<◌, cond, [], ◌∷◌, ltb, length, get_or, set, replicate}
 use Rattle.rules.specs.Basics.{tabulate}
 use Rattle.rules.specs.Site as rules
 use Rattle.rules.specs.Site.{places, State}

@@ -1,6 +1,7 @@
 // A charging station by value: one to four feeders under one clock, one ticket row and the site's limit; how it is opened, what is
 // read off it, and what a call leaves of it.
 #![tactic(auto)]
+
 pub mod after;
 pub mod holder;
 pub mod open;

@@ -1,6 +1,7 @@
 // What is common to all text: its parts between separators, decimal numbers read from it and printed to it, bytes moved to its front.
 // What a text means is said elsewhere.
 #![tactic(auto)]
+
 mod block;
 mod fields;
 mod number;

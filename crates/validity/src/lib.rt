@@ -1,5 +1,6 @@
 // Whether the only feeder of a station is one whose image restore accepts: its settings, its charges, its plan.
 #![tactic(auto)]
+
 pub mod ranges;
 pub mod records;
 

@@ -1,9 +1,10 @@
 // Reads a saved image from standard input and prints the page for the office wall on standard output.
 #![tactic(auto)]
+
 mod show;
 
-fn main() {
-    let mut image = io::large_buffer();
-    let mut out = io::large_buffer();
-    show::show(&mut image, &mut out);
+fn main(rt: HostRuntime) {
+    let mut image = [0u8; 65536];
+    let mut out = [0u8; 65536];
+    show::show(rt.stdin(), rt.stdout(), &mut image, &mut out);
 }

@@ -1,5 +1,6 @@
 // The charges that start in a window of minutes, put into a profile.
 #![tactic(auto)]
+
 ghost use Rattle.std.specs.Prelude.{◌≡◌, ◌&&◌, leb, ltb};
 ghost use Rattle.charges.specs.Drawn.{loads_in};
 ghost use Rattle.profile.specs.Shows.{profile_of};

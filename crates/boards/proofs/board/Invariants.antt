@@ -1,9 +1,6 @@
 -- The invariant: so many charges are passed, and so many tickets done.
-use Prim.Native.Nat.{◌+◌, ◌-◌, ◌<◌}
-use lib.ListN.{get_or}
-use native.Mathlib.Omega.{arith}
-use Rattle.boards.proofs.Boarding.{Walked, looked_inside, walked_none, walked_on, walked_answered, walked_end}
-use borrow.Author.Rules.{rules}
+use Prim.Native.Nat.{◌+◌, ◌-◌}
+use Rattle.boards.proofs.Boarding.{Walked}
 use Rattle.boards.proofs.board.Given as goal
 
 abbrev pub invariant-loop-answered : goal.invariant-loop-answered

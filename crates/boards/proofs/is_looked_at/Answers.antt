@@ -1,6 +1,5 @@
 -- A held place is one of the 180, so that its ticket can be read; behind the held ones none is.
 use borrow.Author.Tests.{lt-ltb, le-ltb}
-use borrow.Author.Rules.{rules}
 use Rattle.boards.proofs.is_looked_at.Goals as goal
 
 pub returns-then-place-held : goal.returns-then-place-held

@@ -1,7 +1,5 @@
-use Prim.Native.Nat.{◌-◌, ◌≤◌}
 use native.Mathlib.Omega.{arith}
-use Rattle.rules.specs.Calls.{not_held}
-use Rattle.boards.proofs.Feeders.{Fills, fills_none, fills_next, fills_end}
+use Rattle.boards.proofs.Feeders.{fills_none, fills_next, fills_end}
 use Rattle.boards.proofs.none_held.Goals as goal
 
 pub loop-i-init : goal.loop-i-init

@@ -1,8 +1,7 @@
 -- The invariant: the first i answers say that none is held, and behind them the list is as it was lent.
 use Prim.Native.Nat.{◌-◌, ◌≤◌}
-use native.Mathlib.Omega.{arith}
 use Rattle.rules.specs.Calls.{not_held}
-use Rattle.boards.proofs.Feeders.{Fills, fills_none, fills_next, fills_end}
+use Rattle.boards.proofs.Feeders.{Fills}
 use Rattle.boards.proofs.none_held.Given as goal
 
 abbrev pub invariant-loop-i : goal.invariant-loop-i

@@ -1,8 +1,7 @@
 use mathlib.Core.Path.{◌≡◌, ◌∙◌}
-use Prim.Native.Nat.{◌+◌, ◌-◌, ◌≤◌}
+use Prim.Native.Nat.{◌+◌, ◌-◌}
 use native.Mathlib.Omega.{arith}
-use lib.ListN.{get_or, drop}
-use Rattle.rules.specs.Calls.{rises_from}
+use lib.ListN.{get_or}
 use Rattle.boards.proofs.Ascending.{rises_first, rises_on, rises_not, rises_end}
 use Rattle.boards.proofs.rises.Goals as goal
 

@@ -1,10 +1,8 @@
 -- The invariant: the numbers rise where those that are left rise from above the last.
-use mathlib.Core.Path.{◌≡◌, ◌∙◌}
+use mathlib.Core.Path.{◌≡◌}
 use Prim.Native.Nat.{◌+◌, ◌-◌, ◌≤◌}
-use native.Mathlib.Omega.{arith}
 use lib.ListN.{get_or, drop}
 use Rattle.rules.specs.Calls.{rises_from}
-use Rattle.boards.proofs.Ascending.{rises_first, rises_on, rises_not, rises_end}
 use Rattle.boards.proofs.rises.Given as goal
 
 abbrev pub invariant-loop-i : goal.invariant-loop-i

@@ -1,17 +1,15 @@
 use native.Mathlib.Omega.{arith}
-use mathlib.Core.Logic.{⊎_elim}
-use Prim.Native.Nat.{◌≤◌, ◌-◌}
-use Rattle.planner.proofs.Collecting.{Collecting, collecting_start, collecting_begun, collecting_waiting, collecting_end}
+use Rattle.planner.proofs.Collecting.{collecting_start, collecting_begun, collecting_waiting, collecting_end}
 use Rattle.planner.proofs.waiting_starts.Goals.{then-clock-charges, else-clock-charges}
 use Rattle.planner.proofs.waiting_starts.Goals as goal
 
 pub loop-i-init : goal.loop-i-init
-loop-i-init c = (omega arith, omega arith, collecting_start c.args.clock c.args.self c.args.t3)
+loop-i-init c = (omega arith, omega arith, collecting_start c.args.clock c.args.charges c.args.by_place)
 
 pub loop-i-preserved : goal.loop-i-preserved
 loop-i-preserved c =
     elim c.if-clock-charges.branch [
-      | then-clock-charges w ↦ (omega arith, omega (arith, w.k-is), collecting_waiting c.loop-i.invariant.2 (omega arith) c.requires.few (omega (arith, w.if-clock-charges.true)) (search w.listed-is) w.k-is)
+      | then-clock-charges w ↦ (omega arith, omega (arith, w.k-is), collecting_waiting c.loop-i.invariant.2 (omega arith) c.requires.few (omega (arith, w.if-clock-charges.true)) w.listed-is w.k-is)
       | else-clock-charges w ↦ (omega arith, omega (arith, w.k-is), collecting_begun c.loop-i.invariant.2 (omega arith) c.requires.few (omega (arith, w.if-clock-charges.false)) w.listed-is w.k-is)
     ]
 

@@ -1,12 +1,7 @@
 -- The invariant: the starts of those of the first i charges that wait are listed, k of them.
-use native.Mathlib.Omega.{arith}
-use mathlib.Core.Logic.{⊎_elim}
-use Prim.Native.Nat.{◌≤◌, ◌-◌}
-use Rattle.planner.proofs.Collecting.{Collecting, collecting_start, collecting_begun, collecting_waiting, collecting_end}
+use Prim.Native.Nat.{◌≤◌}
+use Rattle.planner.proofs.Collecting.{Collecting}
 use Rattle.planner.proofs.waiting_starts.Given as goal
 
 abbrev pub invariant-loop-i : goal.invariant-loop-i
 invariant-loop-i l = (l.i ≤ l.n) × (l.k ≤ l.i) × Collecting l.clock l.charges l.by_place l.i l.listed l.k
-
-abbrev pub decreases-loop-i : goal.decreases-loop-i
-decreases-loop-i l = l.n - l.i

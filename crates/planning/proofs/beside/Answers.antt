@@ -1,7 +1,6 @@
 -- The clock and the limits are the feeder's.
 use Rattle.planning.proofs.Ready.{beside_is}
 use native.Mathlib.Omega.{arith}
-use borrow.Author.Rules.{rules}
 use Rattle.planning.proofs.beside.Goals as goal
 
 pub returns : goal.returns

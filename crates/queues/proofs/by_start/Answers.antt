@@ -6,15 +6,14 @@ use Rattle.charges.specs.declared.places.Which.TheVariants.{Passed}
 use Rattle.charges.proofs.Collecting.{meant_inside}
 use Rattle.queues.specs.Queues.{not_after}
 use Rattle.queues.proofs.Ordering.{ordered, by_start_before}
-use borrow.Author.Rules.{rules}
 use Rattle.queues.proofs.by_start.Goals as goal
 
 pub sorted-requires : goal.sorted-requires
-sorted-requires c = meant_inside (Passed c.args.clock c.args.target) c.args.self c.requires.columns.few (search c.?meant.ensures)
+sorted-requires c = meant_inside (Passed c.args.clock c.args.target) c.args.charges c.requires.columns.few c.meant-passed.ensures
 
 pub returns : goal.returns
 returns c =
-    ordered (Passed c.args.clock c.args.target) c.args.self (not_after c.args.self.starts (replicate places 0)) start_before c.?meant.result c.sorted.result c.requires.rising
-    (by_start_before c.args.self)
-    (search c.?meant.ensures)
-    (search c.sorted.ensures)
+    ordered (Passed c.args.clock c.args.target) c.args.charges (not_after c.args.charges.starts (replicate places 0)) start_before c.meant-passed.result c.sorted.result c.requires.rising
+    (by_start_before c.args.charges)
+    c.meant-passed.ensures
+    c.sorted.ensures

@@ -5,13 +5,9 @@ use native.Mathlib.Omega.{arith}
 use lib.Seq.{sets}
 use Rattle.requests.specs.Requests.{lent_list}
 use Rattle.reply.proofs.Replies.{filled_lent}
-use borrow.Author.Rules.{rules}
 use Rattle.reply.proofs.read.Goals as goal
 
-pub returns : goal.returns
-returns c =
-    (
-      c.read_request-request.ensures,
-      filled_lent c.places_lent-lent.result c.places_asked-places.result c.args.list.now c.fill_lent.new.0 c.places_lent-lent.ensures.0 (omega (arith, c.places_lent-lent.ensures.1, c.requires.1)) c.fill_lent.ensures
-          ∙ ap (λ (n : ℕ). sets c.args.list.now 0 (lent_list n)) c.places_asked-places.ensures,
-    )
+pub returns-clause-list_after : goal.returns-clause-list_after
+returns-clause-list_after c =
+    filled_lent c.places_lent-lent.result c.places_asked-places.result c.args.list.now c.fill_lent.new.list c.places_lent-lent.ensures.0 (omega (arith, c.places_lent-lent.ensures.1, c.requires.1)) c.fill_lent.ensures
+    ∙ ap (λ (n : ℕ). sets c.args.list.now 0 (lent_list n)) c.places_asked-places.ensures

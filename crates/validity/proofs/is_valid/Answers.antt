@@ -1,23 +1,21 @@
 -- A record that is not right, or the plan by its own test.
 use mathlib.Core.Path.{refl, sym, ◌∙◌}
-use borrow.Author.Tests.{not-true, not-false}
 use Rattle.validity.proofs.Settling.{valid_fails, valid_told, all_profiled}
 use Rattle.validity.proofs.Alone.{alone_spacious, alone_others}
 use borrow.Author.Rules.{rules}
 use Rattle.validity.proofs.is_valid.Goals as goal
 
 pub returns-then-not-records_right : goal.returns-then-not-records_right
-returns-then-not-records_right c = valid_fails _ c.requires _ c.records_right.ensures (not-true _ c.if-not-records_right.true)
+returns-then-not-records_right c = valid_fails _ c.requires _ c.records_right.ensures c.if-not-records_right.true
 
 pub plan_sound-requires : goal.plan_sound-requires
-plan_sound-requires c =
-    (
+plan_sound-requires c = (
   alone_spacious _ refl,
   alone_others _ refl,
-  all_profiled _ c.requires (sym c.records_right.ensures ∙ not-false _ c.if-not-records_right.false),
+  all_profiled _ c.requires (sym c.records_right.ensures ∙ c.if-not-records_right.false),
 )
 
 pub returns : goal.returns
 returns c =
     valid_told _ c.requires _ _ _ _ _ _ _ c.records_right.ensures
-    (not-false _ c.if-not-records_right.false) c.?plan_sound_lem.ensures refl (search rules) (search rules) (search rules) (search rules)
+    c.if-not-records_right.false c.plan_sound.ensures refl (search rules) (search rules) (search rules) (search rules)

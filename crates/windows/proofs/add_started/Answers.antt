@@ -1,11 +1,6 @@
-use Prim.Native.Nat.{◌≤◌, ◌-◌}
 use mathlib.Core.Path.{◌≡◌, sym, ◌∙◌}
-use mathlib.Core.Logic.{⊎_elim}
 use native.Mathlib.Omega.{arith}
-use borrow.Author.Rules.{rules}
-use Rattle.profile.specs.Shows.{profile_of}
-use Rattle.charges.specs.Drawn.{load_in}
-use Rattle.windows.proofs.Extending.{same_parts, Extended, extended_none, extended_can_add, extended_on, extended_past, extended_at, extended_counts}
+use Rattle.windows.proofs.Extending.{same_parts, extended_none, extended_can_add, extended_on, extended_past, extended_at, extended_counts}
 use Rattle.windows.proofs.add_started.Goals.{then-is_between, else-is_between}
 use Rattle.windows.proofs.add_started.Goals as goal
 
@@ -42,7 +37,7 @@ add-steps-requires c = extended_can_add c.requires c.loop-i.invariant.1 (omega (
 pub loop-i-preserved : goal.loop-i-preserved
 loop-i-preserved c =
     elim c.if-is_between.branch [
-      | then-is_between w ↦ (omega arith, extended_on c.requires c.loop-i.invariant.1 (omega (arith, c.loop-i-test.true)) (sym c.is_between.ensures ∙ w.if-is_between.true) w.6-is.ensures (same_parts w.13 w.11 w.12))
+      | then-is_between w ↦ (omega arith, extended_on c.requires c.loop-i.invariant.1 (omega (arith, c.loop-i-test.true)) (sym c.is_between.ensures ∙ w.if-is_between.true) w.add-steps.ensures (same_parts w.steps-is w.at-is w.counts-is))
       | else-is_between w ↦ (omega arith, extended_past c.requires c.loop-i.invariant.1 (omega (arith, c.loop-i-test.true)) (sym c.is_between.ensures ∙ w.if-is_between.false) (same_parts w.steps-is w.at-is w.counts-is))
     ]
 

@@ -1,33 +1,30 @@
 -- `answers::print_enquiry` meets its contract, case by case.
+use mathlib.Core.Path.{◌≡◌, refl}
+use Prim.Native.Nat.{ℕ}
+use Rattle.site.specs.declared.enquiry.EnquiryAnswer.{EnquiryAnswer}
+use Rattle.site.specs.declared.enquiry.EnquiryAnswer.TheVariants.{Waiting, Charging, Refused}
 use Rattle.answers.specs.Answers.{answer_text}
 use Rattle.text.proofs.Printing.{printed_as}
-use Rattle.calls.proofs.Enquiries.{refused_left}
 use borrow.Author.Rules.{rules}
 use Rattle.answers.proofs.answer.print_enquiry.Goals as goal
 
--- ?? no goal for slice-aggregate-print-two
--- slice-aggregate-print-two : tie.Need-slice-aggregate-print-two
--- slice-aggregate-print-two c = search rules
+-- what is neither waiting nor charging is refused
+refused_left :
+    (a : EnquiryAnswer) → ((start rate : ℕ) → a ≡ Waiting start rate → ⊥) → ((start end rate : ℕ) → a ≡ Charging start end rate → ⊥) → a ≡ Refused
+refused_left (Waiting start rate) p q = absurd (p start rate refl)
+refused_left (Charging start end rate) p q = absurd (q start end rate refl)
+refused_left Refused p q = refl
 
--- ?? no goal for slice-aggregate-print-two-2
--- slice-aggregate-print-two-2 : tie.Need-slice-aggregate-print-two-2
--- slice-aggregate-print-two-2 c = search rules
-
--- ?? form
-returns : tie.Need-returns
+pub returns-in-Waiting : goal.returns-in-Waiting
 unfolding answer_text
-returns c asked list = rw c.before.before.before.before.before.before.before.answer.given.1 (printed_as c.before.before.print-two.ensures (search))
+returns-in-Waiting c asked list = rw c.in-Waiting.is (printed_as c.print_two.ensures (search rules))
 
--- ?? form
-returns-2 : tie.Need-returns-2
+pub returns-in_default-answer : goal.returns-in_default-answer
 unfolding answer_text
-returns-2 c asked list = rw (refused_left c.before.before.before.before.before.before.before.args.answer c.before.before.before.before.before.match.keys2 c.before.before.before.before.match2.keys2) (printed_as (c.before.before.print-refused.ensures asked list) (search))
+returns-in_default-answer c asked list =
+    rw (refused_left c.args.answer c.in_default.not-Waiting c.in_default-answer.not-Charging)
+    (printed_as (c.print_refused.ensures asked list) (search rules))
 
--- ?? no goal for slice-aggregate-print-three
--- slice-aggregate-print-three : tie.Need-slice-aggregate-print-three
--- slice-aggregate-print-three c = search rules
-
--- ?? form
-returns-3 : tie.Need-returns-3
+pub returns : goal.returns
 unfolding answer_text
-returns-3 c asked list = rw c.before.before.before.before.before.before.answer2.given.1 (printed_as c.before.before.print-three.ensures (search))
+returns c asked list = rw c.in-Charging.is (printed_as c.print_three.ensures (search rules))

@@ -1,7 +1,4 @@
 -- `answers::print_opened` meets its contract: its parts are printed one after another.
-use mathlib.Core.Path.{◌≡◌, ap}
-use mathlib.Core.List.{List, ◌++◌}
-use Prim.Native.Nat.{ℕ}
 use native.Mathlib.Omega.{arith}
 use Rattle.answers.specs.Answers.{answer_text}
 use Rattle.answers.proofs.Answering.{up_to_last}
@@ -9,17 +6,9 @@ use Rattle.text.proofs.Printing.{printed_as, printed_then}
 use borrow.Author.Rules.{rules}
 use Rattle.answers.proofs.answer.print_opened.Goals as goal
 
--- ?? no goal for slice-aggregate-print-text
--- slice-aggregate-print-text : tie.Need-slice-aggregate-print-text
--- slice-aggregate-print-text c = search rules
-
--- ?? no goal for slice-aggregate-print-text-2
--- slice-aggregate-print-text-2 : tie.Need-slice-aggregate-print-text-2
--- slice-aggregate-print-text-2 c = search rules
-
 pub returns : goal.returns
 unfolding answer_text
 returns c =
     printed_as
-    (printed_then c.print_text-a.ensures (printed_then c.print_list-b.ensures.0 c.print_text.ensures))
-    (rw (up_to_last c.args.bounds.now c.args.count c.bounds_up_to-up_to.result 4 c.requires.0 (omega (arith, c.bounds_up_to-up_to.ensures))) search)
+    (printed_then c.print_text-a.ensures (printed_then c.print_list-b.ensures.printed c.print_text.ensures))
+    (rw (up_to_last c.args.bounds.now c.args.count c.bounds_up_to-up_to.result 4 c.requires.0 (omega (arith, c.bounds_up_to-up_to.ensures))) (search rules))

@@ -4,16 +4,10 @@ use Rattle.text.proofs.Printing.{printed_as}
 use borrow.Author.Rules.{rules}
 use Rattle.answers.proofs.answer.print_plan.Goals as goal
 
--- ?? no goal for slice-aggregate-print-four
--- slice-aggregate-print-four : tie.Need-slice-aggregate-print-four
--- slice-aggregate-print-four c = search rules
-
--- ?? form
-returns : tie.Need-returns
+pub returns-in-Planned : goal.returns-in-Planned
 unfolding answer_text
-returns c asked list = rw c.before.before.before.before.before.before.answer.given.1 (printed_as c.before.before.print-four.ensures (search))
+returns-in-Planned c asked list = rw c.in-Planned.is (printed_as c.print_four.ensures (search rules))
 
--- ?? form
-returns-2 : tie.Need-returns-2
+pub returns-in-Refused : goal.returns-in-Refused
 unfolding answer_text
-returns-2 c asked list = rw c.before.before.before.before.before.answer2.given.1 (printed_as (c.before.before.print-refused.ensures asked list) (search))
+returns-in-Refused c asked list = rw c.in-Refused.is (printed_as (c.print_refused.ensures asked list) (search rules))

@@ -4,16 +4,10 @@ use Rattle.text.proofs.Printing.{printed_as}
 use borrow.Author.Rules.{rules}
 use Rattle.answers.proofs.answer.print_withdrawal.Goals as goal
 
--- ?? no goal for slice-aggregate-print-text
--- slice-aggregate-print-text : tie.Need-slice-aggregate-print-text
--- slice-aggregate-print-text c = search rules
-
--- ?? form
-returns : tie.Need-returns
+pub returns-in-Withdrawn : goal.returns-in-Withdrawn
 unfolding answer_text
-returns c asked list = rw c.before.before.before.before.before.enum_told.given.1 (printed_as c.before.before.print-text.ensures (search))
+returns-in-Withdrawn c asked list = rw c.in-Withdrawn.is (printed_as c.print_text.ensures (search rules))
 
--- ?? form
-returns-2 : tie.Need-returns-2
+pub returns-in-Refused : goal.returns-in-Refused
 unfolding answer_text
-returns-2 c asked list = rw c.before.before.before.before.before.answer.given.1 (printed_as (c.before.before.print-refused.ensures asked list) (search))
+returns-in-Refused c asked list = rw c.in-Refused.is (printed_as (c.print_refused.ensures asked list) (search rules))

@@ -1,6 +1,5 @@
 -- The sum of the bytes, each with its weight, fits.
 use Rattle.blocks.proofs.Numbers.{number_joined}
-use borrow.Author.Rules.{rules}
 use Rattle.blocks.proofs.bytes.number_at.Goals as goal
 
 pub returns : goal.returns

@@ -1,7 +1,4 @@
-use mathlib.Core.Logic.{⊎_elim}
 use mathlib.Core.Path.{◌≡◌, sym, ◌∙◌, ap}
-use Prim.Native.Nat.{◌≤◌, ◌-◌}
-use borrow.Author.Tests.{not-true, not-false}
 use Rattle.layout.specs.Blocks.{failing, same_block, differing}
 use Rattle.layout.proofs.Comparing.{failing_none}
 use Rattle.blocks.specs.Contents.{same_part}
@@ -19,15 +16,15 @@ loop-number-preserved c =
     let f = same_block c.args.a.now c.args.b.now in
     elim c.if-not-same_part.branch [
       | then-not-same_part w ↦ (
-      omega arith,
-      omega (arith, w.count-is),
-      one_more f c.loop-number.number c.loop-number.count c.if-not-same_part.count _ c.loop-number.invariant.2 c.same_part.ensures (not-true _ w.if-not-same_part.true) w.count-is,
-    )
+        omega arith,
+        omega (arith, w.count-is),
+        one_more f c.loop-number.number c.loop-number.count c.if-not-same_part.count _ c.loop-number.invariant.2 c.same_part.ensures w.if-not-same_part.true w.count-is,
+      )
       | else-not-same_part w ↦ (
-      omega arith,
-      omega (arith, w.count-is),
-      no_more f c.loop-number.number c.loop-number.count c.if-not-same_part.count _ c.loop-number.invariant.2 c.same_part.ensures (not-false _ w.if-not-same_part.false) w.count-is,
-    )
+        omega arith,
+        omega (arith, w.count-is),
+        no_more f c.loop-number.number c.loop-number.count c.if-not-same_part.count _ c.loop-number.invariant.2 c.same_part.ensures w.if-not-same_part.false w.count-is,
+      )
     ]
 
 pub returns : goal.returns

@@ -1,7 +1,5 @@
-use mathlib.Core.Logic.{⊎_elim}
-use mathlib.Core.Path.{◌≡◌, refl, sym, ◌∙◌, ap}
-use mathlib.Core.Bool.{true}
-use Prim.Native.Nat.{◌+◌, ◌-◌, ◌≤◌}
+use mathlib.Core.Path.{◌≡◌, sym, ◌∙◌, ap}
+use Prim.Native.Nat.{◌+◌}
 use borrow.Author.Tests.{eq-eqb, ne_eqb}
 use Rattle.layout.specs.Lists.{every}
 use Rattle.layout.specs.Reading.{same_place}
@@ -16,14 +14,13 @@ pub loop-i-init : goal.loop-i-init
 loop-i-init c = (omega arith, sym (every_none _))
 
 pub loop-i-preserved : goal.loop-i-preserved
-loop-i-preserved c =
-    (
-      omega arith,
-      elim c.if-a-from.branch [
-      | then-a-from w ↦ flag_down _ c.loop-i.i _ _ c.loop-i.invariant.1 (ne_eqb _ _ w.if-a-from.true) w.same-is
-      | else-a-from w ↦ flag_stays _ c.loop-i.i _ _ c.loop-i.invariant.1 (eq-eqb _ _ w.if-a-from.false) w.same-is
-    ],
-    )
+loop-i-preserved c = (
+  omega arith,
+  elim c.if-a-from.branch [
+    | then-a-from w ↦ flag_down _ c.loop-i.i _ _ c.loop-i.invariant.1 (ne_eqb _ _ w.if-a-from.true) w.same-is
+    | else-a-from w ↦ flag_stays _ c.loop-i.i _ _ c.loop-i.invariant.1 (eq-eqb _ _ w.if-a-from.false) w.same-is
+  ],
+)
 
 pub returns : goal.returns
 unfolding same_part

@@ -1,11 +1,7 @@
-use Prim.Native.Nat.{◌+◌, ◌-◌, ◌*◌, ◌≤◌}
-use mathlib.Core.Path.{◌≡◌, refl, sym}
-use lib.ListN.{length, length-set}
-use Rattle.layout.specs.Image.{weighed}
+use mathlib.Core.Path.{refl, sym}
+use lib.ListN.{length-set}
 use Rattle.layout.proofs.Checks.{weighed_none, weighed_more}
-use Rattle.blocks.specs.Places.{Filling}
-use Rattle.blocks.specs.Contents.{in_contents, laid_at}
-use Rattle.blocks.proofs.Filling.{put_length}
+use Rattle.blocks.specs.Contents.{in_contents}
 use Rattle.blocks.proofs.Putting.{putting_begun, putting_more, block_put}
 use native.Mathlib.Omega.{arith}
 use Rattle.blocks.proofs.contents.put_block.Goals as goal
@@ -22,9 +18,6 @@ loop-place-preserved c =
       omega (arith, weighed_more f c.loop-place.place, c.weight-sum.ensures.0),
       λ w. putting_more c.args.contents.now c.args.block c.requires.0 (omega arith) _ refl (c.loop-place.invariant.4 w),
     )
-
-pub shape_of-image : goal.shape_of-image
-shape_of-image c = omega (arith, put_length c.put_number.ensures, c.loop-place.invariant.1)
 
 pub returns : goal.returns
 returns c = block_put c.args.contents.now c.args.block c.requires.0 (omega arith) c.loop-place.invariant.1 c.loop-place.invariant.3 c.loop-place.invariant.4 c.put_number.ensures

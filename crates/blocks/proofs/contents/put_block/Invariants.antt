@@ -1,14 +1,10 @@
 -- The loop has put the bytes before it, and their check so far.
-use Prim.Native.Nat.{◌+◌, ◌-◌, ◌*◌, ◌≤◌}
-use mathlib.Core.Path.{◌≡◌, refl, sym}
-use lib.ListN.{length, length-set}
+use Prim.Native.Nat.{◌+◌, ◌*◌, ◌≤◌}
+use mathlib.Core.Path.{◌≡◌}
+use lib.ListN.{length}
 use Rattle.layout.specs.Image.{weighed}
-use Rattle.layout.proofs.Checks.{weighed_none, weighed_more}
 use Rattle.blocks.specs.Places.{Filling}
 use Rattle.blocks.specs.Contents.{in_contents, laid_at}
-use Rattle.blocks.proofs.Filling.{put_length}
-use Rattle.blocks.proofs.Putting.{putting_begun, putting_more, block_put}
-use native.Mathlib.Omega.{arith}
 use Rattle.blocks.proofs.contents.put_block.Given as goal
 
 abbrev pub invariant-loop-place : goal.invariant-loop-place
@@ -17,6 +13,3 @@ invariant-loop-place l = (l.place ≤ 508)
     × (l.sum ≤ 129540 * l.place)
     × (l.sum ≡ weighed (in_contents l.contents l.block) l.place)
     × (Filling (laid_at l.contents) 4608 (512 * l.block) l.initial.image → Filling (laid_at l.contents) 4608 (512 * l.block + l.place) l.image)
-
-abbrev pub decreases-loop-place : goal.decreases-loop-place
-decreases-loop-place l = 508 - l.place

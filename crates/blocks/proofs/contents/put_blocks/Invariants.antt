@@ -1,16 +1,10 @@
 -- The loop has put the blocks before it.
 use mathlib.Core.Path.{◌≡◌}
-use Prim.Native.Nat.{◌-◌, ◌*◌, ◌≤◌}
+use Prim.Native.Nat.{◌*◌, ◌≤◌}
 use lib.ListN.{length}
 use Rattle.blocks.specs.Places.{Filling}
 use Rattle.blocks.specs.Contents.{laid_at}
-use Rattle.blocks.proofs.Filling.{filling_none}
-use Rattle.blocks.proofs.Putting.{put_all}
-use native.Mathlib.Omega.{arith}
 use Rattle.blocks.proofs.contents.put_blocks.Given as goal
 
 abbrev pub invariant-loop-block : goal.invariant-loop-block
 invariant-loop-block l = (l.block ≤ 9) × (length l.image ≡ 4608) × Filling (laid_at l.contents) 4608 (512 * l.block) l.image
-
-abbrev pub decreases-loop-block : goal.decreases-loop-block
-decreases-loop-block l = 9 - l.block

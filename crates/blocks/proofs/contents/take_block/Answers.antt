@@ -1,11 +1,8 @@
-use Prim.Native.Nat.{◌+◌, ◌-◌, ◌*◌, ◌≤◌}
 use mathlib.Core.Path.{◌≡◌, refl, sym, ◌∙◌, ap}
-use lib.ListN.{length, length-set}
+use lib.ListN.{length-set}
 use Rattle.layout.specs.Image.{weighed}
 use Rattle.layout.specs.Reading.{in_block}
 use Rattle.layout.proofs.Checks.{weighed_none, weighed_more, check_is}
-use Rattle.blocks.specs.Places.{Filling}
-use Rattle.blocks.specs.Contents.{taken_at}
 use Rattle.blocks.proofs.Taking.{taking_begun, taking_more, taking_ended}
 use native.Mathlib.Omega.{arith}
 use Rattle.blocks.proofs.contents.take_block.Goals as goal

@@ -5,10 +5,16 @@ use borrow.Author.Rules.{rules}
 use Rattle.bus.proofs.copy.togbeyis_save.Goals as goal
 
 pub returns-then-refusal-gt0 : goal.returns-then-refusal-gt0
-returns-then-refusal-gt0 c = copy_refused c.restore-restored.ensures (omega (arith, c.if-refusal-gt0.true)) (search rules) (search rules) (search rules)
+returns-then-refusal-gt0 c =
+    copy_refused c.restore-restored.ensures (omega (arith, c.if-refusal-gt0.true)) (search rules) (search rules) (search rules)
 
 pub returns-then-refused-gt0 : goal.returns-then-refused-gt0
-returns-then-refused-gt0 c = copy_unsized c.restore-restored.ensures (omega (arith, c.if-refusal-gt0.false)) c.save_only-saved.ensures (search rules) (omega (arith, c.if-refused-gt0.true)) (search rules) (search rules) (search (save_refused c.save_only-saved.ensures c.if-refused-gt0.true))
+returns-then-refused-gt0 c =
+    copy_unsized c.restore-restored.ensures (omega (arith, c.if-refusal-gt0.false)) c.save_only-saved.ensures (search rules)
+    (omega (arith, c.if-refused-gt0.true)) (search rules) (search rules)
+    (save_refused c.save_only-saved.ensures c.if-refused-gt0.true)
 
 pub returns : goal.returns
-returns c = copy_saved c.restore-restored.ensures (omega (arith, c.if-refusal-gt0.false)) c.save_only-saved.ensures (search rules) (omega (arith, c.if-refused-gt0.false)) (search rules) (search rules) (search rules)
+returns c =
+    copy_saved c.restore-restored.ensures (omega (arith, c.if-refusal-gt0.false)) c.save_only-saved.ensures (search rules)
+    (omega (arith, c.if-refused-gt0.false)) (search rules) (search rules) (search rules)

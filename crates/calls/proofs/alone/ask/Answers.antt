@@ -5,10 +5,12 @@ use borrow.Author.Rules.{rules}
 use Rattle.calls.proofs.alone.ask.Goals as goal
 
 pub returns-in-Preview : goal.returns-in-Preview
-returns-in-Preview c = kept_applies c.requires.0.valid c.call-1.is.1 c.preview_alone-answer.ensures (search rules) refl
+returns-in-Preview c = kept_applies c.requires.0.valid c.in-Preview.is c.preview_alone-answer.ensures (search rules) refl
 
 pub returns-in-Enquire : goal.returns-in-Enquire
-returns-in-Enquire c = kept_applies c.requires.0.valid c.call-in-Enquire-1.is.1 c.enquire_alone-answer.ensures (search rules) refl
+returns-in-Enquire c = kept_applies c.requires.0.valid c.in-Enquire.is c.enquire_alone-answer.ensures (search rules) refl
 
 pub returns : goal.returns
-returns c = kept_applies c.requires.0.valid (board_left c.args.call c.requires.1 c.in_default.keys2 c.in_default-call.keys2) c.board_alone-answer.ensures (search rules) tt
+returns c =
+    kept_applies c.requires.0.valid (board_left c.args.call c.requires.1 c.in_default.not-Preview c.in_default-call.not-Enquire)
+    c.board_alone-answer.ensures (search rules) tt

@@ -1,49 +1,55 @@
 -- All eight columns are gathered at the same places, so that each charge goes over whole.
-use mathlib.Core.Path.{refl}
-use Rattle.charges.specs.Arrays.{tickets, lines, order_minutes, times, active_times, dues, starts, rates}
-use Rattle.charges.specs.Places.{places_from}
+use Prim.Native.Nat.{ℕ}
+use mathlib.Core.List.{List}
+use mathlib.Core.Path.{◌≡◌, refl}
+use Rattle.charges.specs.declared.Charges.{Charges}
+use Rattle.charges.specs.Arrays.{Column, tickets, lines, order_minutes, times, active_times, dues, starts, rates, column_of}
+use Rattle.charges.specs.Places.{places_from, gathered_of}
 use Rattle.charges.proofs.Gathering.{holds_at}
 use Rattle.charges.proofs.Charges.at_places.Goals as goal
 
-pub gathered-requires : goal.gathered-requires
-gathered-requires c = c.?before.before.requires
-
-pub gathered-requires-2 : goal.gathered-requires-2
-gathered-requires-2 c = c.?before.before.before.requires
-
-pub gathered-requires-3 : goal.gathered-requires-3
-gathered-requires-3 c = c.?before.before.before.before.requires
-
-pub gathered-requires-4 : goal.gathered-requires-4
-gathered-requires-4 c = c.?before.before.before.before.before.requires
-
-pub gathered-requires-5 : goal.gathered-requires-5
-gathered-requires-5 c = c.?before.before.before.before.before.before.requires
-
-pub gathered-requires-6 : goal.gathered-requires-6
-gathered-requires-6 c = c.?before.before.before.before.before.before.before.requires
-
-pub gathered-requires-7 : goal.gathered-requires-7
-gathered-requires-7 c = c.?before.before.before.before.before.before.before.before.requires
-
-pub gathered-requires-8 : goal.gathered-requires-8
-gathered-requires-8 c = c.?before.before.before.before.before.before.before.before.before.requires
+each_column :
+    (c next : Charges) (is : List ℕ) (count : ℕ)
+    → next.tickets ≡ gathered_of c.tickets is count
+    → next.lines ≡ gathered_of c.lines is count
+    → next.order_minutes ≡ gathered_of c.order_minutes is count
+    → next.times ≡ gathered_of c.times is count
+    → next.active_times ≡ gathered_of c.active_times is count
+    → next.dues ≡ gathered_of c.dues is count
+    → next.starts ≡ gathered_of c.starts is count
+    → next.rates ≡ gathered_of c.rates is count
+    → (k : Column) → column_of next k ≡ gathered_of (column_of c k) is count
+each_column c next is count e1 e2 e3 e4 e5 e6 e7 e8 tickets = e1
+each_column c next is count e1 e2 e3 e4 e5 e6 e7 e8 lines = e2
+each_column c next is count e1 e2 e3 e4 e5 e6 e7 e8 order_minutes = e3
+each_column c next is count e1 e2 e3 e4 e5 e6 e7 e8 times = e4
+each_column c next is count e1 e2 e3 e4 e5 e6 e7 e8 active_times = e5
+each_column c next is count e1 e2 e3 e4 e5 e6 e7 e8 dues = e6
+each_column c next is count e1 e2 e3 e4 e5 e6 e7 e8 starts = e7
+each_column c next is count e1 e2 e3 e4 e5 e6 e7 e8 rates = e8
 
 pub returns : goal.returns
 returns c =
-    let two = c.?before.before.before in
-    let one = two.before.before.before in
-    let s = one.before.before.before in
-    holds_at s.args.t1 (places_from s.args.count s.args.places.now) refl
-    (λ k.
-    elim k [
-      | tickets ↦ search one.gathered.ensures
-      | lines ↦ search two.gathered2.ensures
-      | order_minutes ↦ search c.?gathered3.ensures
-      | times ↦ search c.?gathered4.ensures
-      | active_times ↦ search c.?gathered5.ensures
-      | dues ↦ search c.?gathered6.ensures
-      | starts ↦ search c.?gathered7.ensures
-      | rates ↦ search c.gathered-8.ensures
-    ])
-    s.requires
+    let next : Charges =
+    record {
+      held = c.args.count;
+      tickets = c.gathered.result;
+      lines = c.gathered-2.result;
+      order_minutes = c.gathered-3.result;
+      times = c.gathered-4.result;
+      active_times = c.gathered-5.result;
+      dues = c.gathered-6.result;
+      starts = c.gathered-7.result;
+      rates = c.gathered-8.result;
+    } in
+    holds_at c.args.self (places_from c.args.count c.args.places.now) refl
+    (each_column c.args.self next c.args.places.now c.args.count
+    c.gathered.ensures
+    c.gathered-2.ensures
+    c.gathered-3.ensures
+    c.gathered-4.ensures
+    c.gathered-5.ensures
+    c.gathered-6.ensures
+    c.gathered-7.ensures
+    c.gathered-8.ensures)
+    c.requires

@@ -1,8 +1,6 @@
-use Prim.Native.Nat.{◌-◌}
 use native.Mathlib.Omega.{arith}
 use borrow.Author.Rules.{rules}
-use Rattle.charges.specs.Drawn.{number_at}
-use Rattle.charges.proofs.Joining.{Appending, appending_none, appending_next, appending_end}
+use Rattle.charges.proofs.Joining.{appending_none, appending_next, appending_end}
 use Rattle.charges.proofs.drawn.append.Goals as goal
 
 pub loop-i-init : goal.loop-i-init

@@ -1,7 +1,5 @@
-use Prim.Native.Nat.{◌-◌}
 use native.Mathlib.Omega.{arith}
-use Rattle.charges.specs.Drawn.{line_at}
-use Rattle.charges.proofs.Joining.{Appending, appending_none, appending_next, appending_end}
+use Rattle.charges.proofs.Joining.{appending_none, appending_next, appending_end}
 use Rattle.charges.proofs.drawn.append_lines.Goals as goal
 
 pub loop-i-init : goal.loop-i-init

@@ -1,9 +1,5 @@
 use mathlib.Core.Path.{◌≡◌}
-use Prim.Native.Nat.{◌≤◌, ◌-◌}
-use Prim.Native.Nat.{ℕ}
-use mathlib.Core.List.{List}
-use Rattle.rules.specs.Load.{last_until}
-use Rattle.charges.specs.Drawn.{load_in, loads_in}
+use Rattle.charges.specs.Drawn.{load_in}
 use Rattle.charges.proofs.Totals.{until_next}
 use native.Mathlib.Omega.{arith}
 use Rattle.charges.proofs.ends.last_until.Goals as goal
@@ -12,7 +8,7 @@ pub loop-i-init : goal.loop-i-init
 loop-i-init c = (omega arith, λ lines rates. omega arith)
 
 pub loop-i-preserved : goal.loop-i-preserved
-loop-i-preserved c = (omega arith, λ lines rates. omega (arith, c.loop-i.invariant.1 lines rates, until_next (load_in lines c.args.«active-times».now c.args.starts.now rates) c.loop-i.i))
+loop-i-preserved c = (omega arith, λ lines rates. omega (arith, c.loop-i.invariant.1 lines rates, until_next (load_in lines c.args.active_times.now c.args.starts.now rates) c.loop-i.i))
 
 pub returns : goal.returns
 returns c =

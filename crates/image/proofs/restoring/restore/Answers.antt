@@ -2,8 +2,7 @@
 use mathlib.Core.Path.{refl, ap, sym, ◌∙◌}
 use native.Mathlib.Omega.{arith}
 use Rattle.image.specs.Answers.{is_from}
-use borrow.Author.Tests.{not-true, not-false}
-use Rattle.layout.proofs.Refusing.{refused_length, refused_check, refused_contents, not_refused}
+use Rattle.layout.proofs.Refusing.{refused_length, refused_check}
 use Rattle.image.proofs.Answering.{header_wrong, contents_wrong, contents_right, restores_refused, restores_accepted}
 use borrow.Author.Rules.{rules}
 use Rattle.image.proofs.restoring.restore.Goals as goal
@@ -14,25 +13,22 @@ returns-then-image-ne4608 c = restores_refused c.args.image.now 20 _ _ refl c.re
 pub returns-then-not-take_blocks : goal.returns-then-not-take_blocks
 returns-then-not-take_blocks c =
     restores_refused c.args.image.now 21 _ _ refl c.refused-then-not-take_blocks.ensures (search rules)
-    (refused_check c.args.image.now c.if-image-ne4608.false (sym c.take_blocks.ensures.all_checked ∙ not-true _ c.if-not-take_blocks.true))
+    (refused_check c.args.image.now c.if-image-ne4608.false (sym c.take_blocks.ensures.all_checked ∙ c.if-not-take_blocks.true))
 
 pub returns-then-not-header_right : goal.returns-then-not-header_right
 returns-then-not-header_right c =
     restores_refused c.args.image.now 22 _ _ refl c.refused-then-not-header_right.ensures (search rules)
-    (contents_wrong c.args.image.now _ c.if-image-ne4608.false (λ i. omega (arith, c.shared_slice_known-1.is i)) (sym c.take_blocks.ensures.all_checked ∙ not-false _ c.if-not-take_blocks.false) c.take_blocks.ensures.true
-    (header_wrong _ (sym c.header_right.ensures ∙ not-true _ c.if-not-header_right.true)))
-
-pub read-one-requires : goal.read-one-requires
-read-one-requires c = (search rules, sym c.header_right.ensures ∙ not-false _ c.if-not-header_right.false)
+    (contents_wrong c.args.image.now _ c.if-image-ne4608.false (λ i. omega (arith, c.type_inv.image i)) (sym c.take_blocks.ensures.all_checked ∙ c.if-not-take_blocks.false) c.take_blocks.ensures.taken
+    (header_wrong _ (sym c.header_right.ensures ∙ c.if-not-header_right.true)))
 
 pub returns-then-not-is_of : goal.returns-then-not-is_of
 returns-then-not-is_of c =
     restores_refused c.args.image.now 22 _ _ refl c.refused-then-not-is_of.ensures (search rules)
-    (contents_wrong c.args.image.now _ c.if-image-ne4608.false (λ i. omega (arith, c.shared_slice_known-1.is i)) (sym c.take_blocks.ensures.all_checked ∙ not-false _ c.if-not-take_blocks.false) c.take_blocks.ensures.true
-    (ap (is_from _) (sym c.read-one.ensures.state) ∙ sym c.is_of.ensures ∙ not-true _ c.if-not-is_of.true))
+    (contents_wrong c.args.image.now _ c.if-image-ne4608.false (λ i. omega (arith, c.type_inv.image i)) (sym c.take_blocks.ensures.all_checked ∙ c.if-not-take_blocks.false) c.take_blocks.ensures.taken
+    (ap (is_from _) (sym c.read-one.ensures.state) ∙ sym c.is_of.ensures ∙ c.if-not-is_of.true))
 
 pub returns : goal.returns
 returns c =
-    restores_accepted c.args.image.now _ _ c.if-image-ne4608.false c.take_blocks.ensures.true c.read-one.ensures
-    (contents_right c.args.image.now _ c.if-image-ne4608.false (λ i. omega (arith, c.shared_slice_known-1.is i)) (sym c.take_blocks.ensures.all_checked ∙ not-false _ c.if-not-take_blocks.false) c.take_blocks.ensures.true
-    (ap (is_from _) (sym c.read-one.ensures.state) ∙ sym c.is_of.ensures ∙ not-false _ c.if-not-is_of.false))
+    restores_accepted c.args.image.now _ _ c.if-image-ne4608.false c.take_blocks.ensures.taken c.read-one.ensures
+    (contents_right c.args.image.now _ c.if-image-ne4608.false (λ i. omega (arith, c.type_inv.image i)) (sym c.take_blocks.ensures.all_checked ∙ c.if-not-take_blocks.false) c.take_blocks.ensures.taken
+    (ap (is_from _) (sym c.read-one.ensures.state) ∙ sym c.is_of.ensures ∙ c.if-not-is_of.false))

@@ -4,7 +4,6 @@ use Rattle.station.specs.View.{view}
 use Rattle.station.proofs.Views.{view_length}
 use Rattle.station.proofs.Ones.{taken_whole, taken_alone}
 use Rattle.image.proofs.SavedImages.{passed, passed_one, station_refused, saves_refused, saves_whole}
-use borrow.Author.Rules.{rules}
 use Rattle.image.proofs.saving.save_back.Goals as goal
 
 pub returns-then-refusal-ne0 : goal.returns-then-refusal-ne0

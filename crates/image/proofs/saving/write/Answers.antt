@@ -1,8 +1,7 @@
 -- The contents laid out with their checks are the image.
 use mathlib.Core.Path.{ap, ◌∙◌}
 use Rattle.blocks.specs.Contents.{laid_out}
-use Rattle.image.proofs.Imaging.{contents_long, laid_image}
-use borrow.Author.Rules.{rules}
+use Rattle.image.proofs.Imaging.{laid_image}
 use Rattle.image.proofs.saving.write.Goals as goal
 
 pub returns : goal.returns

@@ -8,7 +8,7 @@ pub chosen_at-here-requires : goal.chosen_at-here-requires
 chosen_at-here-requires c = can_here c.requires
 
 pub returns-then-here-n : goal.returns-then-here-n
-returns-then-here-n c = next_here c.requires c.?Chosen-at.ensures (omega (arith, c.if-here-n.true))
+returns-then-here-n c = next_here c.requires c.chosen_at-here.ensures (omega (arith, c.if-here-n.true))
 
 pub narrowed-crowd-requires : goal.narrowed-crowd-requires
 narrowed-crowd-requires c = c.requires.can_choose.range

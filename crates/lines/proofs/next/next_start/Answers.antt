@@ -1,6 +1,5 @@
 -- `lines::next::next_start` meets its contract: the smaller one of the starts for the two rates.
 use native.Mathlib.Omega.{arith}
-use borrow.Author.Rules.{rules}
 use Rattle.lines.proofs.Seeking.{seek_for, seek_both}
 use Rattle.lines.proofs.next.next_start.Goals as goal
 

@@ -1,18 +1,10 @@
 -- The invariant: whatever the caps are, so many charges of the line are placed as the rules place them.
-use native.Mathlib.Omega.{arith}
-use mathlib.Core.Path.{refl}
 use lib.ListN.{length}
-use borrow.Author.Rules.{rules}
 use Rattle.rules.specs.Search.{Caps}
 use Rattle.profile.specs.Shows.{profile_of}
 use Rattle.search.specs.Caps.{CapsShown}
 use Rattle.planner.specs.Ready.{around_of}
 use Rattle.lines.proofs.LinePlans.{LineSoFar}
-use Rattle.lines.proofs.LineNumbers.{queue_inside}
-use Rattle.lines.proofs.Beginning.{own_range, line_start}
-use Rattle.lines.proofs.Continuing.{line_next}
-use Rattle.lines.proofs.Turns.{turn_can, turn_inside, turn_small, turn_adds, turn_removes}
-use Rattle.lines.proofs.Ending.{line_done}
 use Rattle.lines.proofs.place.place_line.Given as goal
 
 abbrev pub invariant-loop-n : goal.invariant-loop-n

@@ -1,14 +1,9 @@
 -- The invariant: whatever the caps are, the charges of the lines before this one are placed as the rules place them.
-use native.Mathlib.Omega.{arith}
-use mathlib.Core.Path.{refl, sym}
 use Prim.Native.Nat.{◌-◌, ◌≤◌}
 use lib.ListN.{length}
-use borrow.Author.Rules.{rules}
 use Rattle.profile.specs.Shows.{profile_of}
 use Rattle.planner.specs.Ready.{around_of}
 use Rattle.lines.specs.Lines.{LinesUnder}
-use Rattle.lines.proofs.Beginning.{lines_start}
-use Rattle.lines.proofs.Ending.{lines_same, place_same, lines_length}
 use Rattle.lines.proofs.place.place_lines.Given as goal
 
 abbrev pub invariant-loop-line : goal.invariant-loop-line

@@ -1,8 +1,10 @@
 -- Refused with 29 or by the feeder's numbers; otherwise the columns lent are all that it sees.
-use mathlib.Core.Path.{refl}
+use mathlib.Core.Path.{◌≡◌, refl}
+use mathlib.Core.Bool.{Bool, false, ◌||◌}
+use lib.Dec.{ltb}
 use native.Mathlib.Omega.{arith}
-use borrow.Author.Rules.{rules}
-use Rattle.station.specs.View.{station_of, Of, Names}
+use Rattle.station.specs.declared.One.{One}
+use Rattle.station.specs.View.{station_of, Of, Names, Alone}
 use Rattle.station.proofs.Ones.{alone_of}
 use Rattle.ordering.specs.declared.Order.{Order}
 use Rattle.ordering.proofs.Rows.{There, lacking, present}
@@ -10,38 +12,44 @@ use Rattle.ordering.proofs.Seeking.{own_can_seek}
 use Rattle.ordering.proofs.Answering.{refusal_shown, number_shown, own_shown}
 use Rattle.ordering.proofs.start.preview_alone.Goals as goal
 
--- where the feeder is there
+-- where the feeder is there, the order names it
+record NamesIt (one : One) (o : Order) : Type 0 where
+  there : There 1 o
+  of : Of (station_of one) one
+  names : Names one o.feeder
 
-module _ (c : tie.Else1) where
-  abbrev begun : tie.Start
-  begun = c.before.before
-
-  abbrev order : Order
-  order = begun.args.order
-
-  of : Of (station_of begun.args.one) begun.args.one
-  of = alone_of begun.pre
-
-  names : Names begun.args.one order.feeder
-  names a b = omega (arith, begun.pre.single, begun.pre.first)
-
-  there : There 1 order
-  there = present of order c.before.lacks.result (search rules) c.if1.false
+names_it : {one : One} (o : Order) {b : Bool} → Alone one → b ≡ (ltb o.feeder 1 || ltb one.count o.feeder) → b ≡ false → NamesIt one o
+names_it {one} o {b} a e f =
+    record {
+      there = present (alone_of a) o b e f;
+      of = alone_of a;
+      names = λ low high. omega (arith, a.single, a.first);
+    }
 
 pub returns-then-lacks : goal.returns-then-lacks
-returns-then-lacks c = refusal_shown (station_of c.args.one) c.args.order (lacking (alone_of c.requires) c.args.order c.lacks.result (search rules) c.if-lacks.true) (omega arith)
+returns-then-lacks c = refusal_shown (station_of c.args.one) c.args.order (lacking (alone_of c.requires) c.args.order c.lacks.result c.lacks.ensures c.if-lacks.true) (omega arith)
 
 pub returns-then-own-gt0 : goal.returns-then-own-gt0
-returns-then-own-gt0 c = number_shown (of c) (order c) (names c) (there c) c.sought-own.ensures c.if-own-gt0.true
+returns-then-own-gt0 c =
+    let t = names_it c.args.order c.requires c.lacks.ensures c.if-lacks.false in
+    number_shown t.of c.args.order t.names t.there c.sought-own.ensures c.if-own-gt0.true
 
 pub start_for-requires : goal.start_for-requires
-start_for-requires c = own_can_seek (of c) (order c) (names c) (there c) c.?sought.ensures (omega arith) refl (λ few. omega (arith, few))
+start_for-requires c =
+    let t = names_it c.args.order c.requires c.lacks.ensures c.if-lacks.false in
+    own_can_seek t.of c.args.order t.names t.there c.sought-own.ensures (omega arith) refl (λ few. omega (arith, few))
 
 pub returns-then-own-le-FEW : goal.returns-then-own-le-FEW
-returns-then-own-le-FEW c = own_shown (of c) (order c) (names c) (there c) c.?sought.ensures c.?if2.false refl c.start_for.ensures
+returns-then-own-le-FEW c =
+    let t = names_it c.args.order c.requires c.lacks.ensures c.if-lacks.false in
+    own_shown t.of c.args.order t.names t.there c.sought-own.ensures c.if-own-gt0.false refl c.start_for.ensures
 
 pub start_for-requires-2 : goal.start_for-requires-2
-start_for-requires-2 c = own_can_seek (of c) (order c) (names c) (there c) c.?sought.ensures (omega arith) refl (λ few. omega (arith, few))
+start_for-requires-2 c =
+    let t = names_it c.args.order c.requires c.lacks.ensures c.if-lacks.false in
+    own_can_seek t.of c.args.order t.names t.there c.sought-own.ensures (omega arith) refl (λ few. omega (arith, few))
 
 pub returns : goal.returns
-returns c = own_shown (of c) (order c) (names c) (there c) c.?sought.ensures c.?if2.false refl c.start_for-2.ensures
+returns c =
+    let t = names_it c.args.order c.requires c.lacks.ensures c.if-lacks.false in
+    own_shown t.of c.args.order t.names t.there c.sought-own.ensures c.if-own-gt0.false refl c.start_for-2.ensures

@@ -1,6 +1,5 @@
 -- The refusals are looked at by the feeder's own numbers, which are handed on as they are.
 use mathlib.Core.Path.{refl}
-use borrow.Author.Rules.{rules}
 use Rattle.ordering.proofs.start.sought.Goals as goal
 
 pub returns : goal.returns

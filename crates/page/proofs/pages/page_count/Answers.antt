@@ -1,7 +1,6 @@
 -- `page::page_count` meets its contract.
 use native.Mathlib.Omega.{arith}
 use Rattle.page.proofs.Counting.{one_page, some_pages}
-use borrow.Author.Rules.{rules}
 use Rattle.page.proofs.pages.page_count.Goals as goal
 
 pub returns-then-held-eq0 : goal.returns-then-held-eq0

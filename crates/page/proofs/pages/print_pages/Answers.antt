@@ -1,12 +1,9 @@
 use mathlib.Core.Path.{◌≡◌, refl, sym, ap, ◌∙◌}
-use Prim.Native.Nat.{◌-◌, ◌*◌, ◌≤◌}
 use native.Mathlib.Omega.{arith}
-use lib.ListN.{length}
 use Rattle.rules.proofs.Lists.{length_tabulate}
 use Rattle.charges.specs.Arrays.{charges_of, charge_at}
-use Rattle.text.specs.Printed.{Printed}
 use Rattle.text.proofs.Printing.{printed_none, printed_then}
-use Rattle.page.specs.Pages.{texts, page, page_count}
+use Rattle.page.specs.Pages.{page, page_count}
 use Rattle.page.proofs.Aligning.{printed_as}
 use Rattle.page.proofs.Paging.{texts_none, page_more, whole_pages}
 use Rattle.page.proofs.pages.print_pages.Goals as goal
@@ -21,13 +18,12 @@ pub print_page-next-requires : goal.print_page-next-requires
 print_page-next-requires c = (c.requires.0, c.requires.1, omega (arith, c.page_count-count.ensures.1), omega (arith, c.page_count-count.ensures.1, c.loop-k.invariant.1, c.loop-k.invariant.2, c.requires.2))
 
 pub loop-k-preserved : goal.loop-k-preserved
-loop-k-preserved c =
-    (
-      omega arith,
-      c.print_page-next.auto.1.1.1.0 ∙ c.loop-k.invariant.1,
-      omega (arith, c.print_page-next.ensures.1, c.loop-k.invariant.2),
-      printed_as (printed_then c.loop-k.invariant.3 c.print_page-next.ensures.0) (page_more c.args.clock (charges_of c.args.charges) _ c.loop-k.k (search)),
-    )
+loop-k-preserved c = (
+  omega arith,
+  c.print_page-next.auto.buffer ∙ c.loop-k.invariant.1,
+  omega (arith, c.print_page-next.ensures.value, c.loop-k.invariant.2),
+  printed_as (printed_then c.loop-k.invariant.3 c.print_page-next.ensures.printed) (page_more c.args.clock (charges_of c.args.charges) _ c.loop-k.k (search)),
+)
 
 pub shape_of-buffer : goal.shape_of-buffer
 shape_of-buffer c = c.loop-k.invariant.1

@@ -1,12 +1,9 @@
-use mathlib.Core.Path.{◌≡◌, refl, ◌∙◌}
-use Prim.Native.Nat.{◌+◌, ◌-◌, ◌*◌, ◌≤◌}
+use mathlib.Core.Path.{refl, ◌∙◌}
 use native.Mathlib.Omega.{arith}
-use lib.ListN.{length}
 use Rattle.charges.specs.Arrays.{charges_of}
-use Rattle.text.specs.Printed.{Printed}
 use Rattle.text.proofs.Printing.{printed_none, printed_then}
 use Rattle.page.proofs.Aligning.{printed_as}
-use Rattle.page.proofs.Paging.{rows_to, no_row, row_more, all_rows}
+use Rattle.page.proofs.Paging.{no_row, row_more, all_rows}
 use Rattle.page.proofs.pages.print_rows.Goals as goal
 
 pub loop-i-init : goal.loop-i-init
@@ -16,16 +13,18 @@ pub print_place-next-requires : goal.print_place-next-requires
 print_place-next-requires c = (c.requires.0, c.requires.1, omega (arith, c.loop-i.invariant.0, c.loop-i.invariant.1, c.loop-i.invariant.2, c.requires.3))
 
 pub loop-i-preserved : goal.loop-i-preserved
-loop-i-preserved c =
-    (
-      omega arith,
-      c.print_place-next.auto.1.1.1.0 ∙ c.loop-i.invariant.1,
-      omega (arith, c.print_place-next.ensures.1, c.loop-i.invariant.2),
-      printed_as (printed_then c.loop-i.invariant.3 c.print_place-next.ensures.0) (row_more c.args.clock (charges_of c.args.charges) c.args.k _ c.loop-i.i (search)),
-    )
+loop-i-preserved c = (
+  omega arith,
+  c.print_place-next.auto.buffer ∙ c.loop-i.invariant.1,
+  omega (arith, c.print_place-next.ensures.value, c.loop-i.invariant.2),
+  printed_as (printed_then c.loop-i.invariant.3 c.print_place-next.ensures.printed) (row_more c.args.clock (charges_of c.args.charges) c.args.k _ c.loop-i.i (search)),
+)
 
 pub shape_of-buffer : goal.shape_of-buffer
 shape_of-buffer c = c.loop-i.invariant.1
 
 pub returns : goal.returns
-returns c = (printed_as c.loop-i.invariant.3 (all_rows c.args.clock (charges_of c.args.charges) c.args.k c.loop-i.i (omega arith)), omega (arith, c.loop-i.invariant.2))
+returns c = record {
+  printed = printed_as c.loop-i.invariant.3 (all_rows c.args.clock (charges_of c.args.charges) c.args.k c.loop-i.i (omega arith));
+  value = omega (arith, c.loop-i.invariant.2);
+}

@@ -1,12 +1,10 @@
 -- `page::print_blank` meets its contract: what it puts is the line of no words.
 use native.Mathlib.Omega.{arith}
 use Rattle.page.proofs.Aligning.{printed_as}
-use borrow.Author.Rules.{rules}
 use Rattle.page.proofs.row.print_blank.Goals as goal
 
--- ?? no goal for slice-aggregate-print-text
--- slice-aggregate-print-text : tie.Need-slice-aggregate-print-text
--- slice-aggregate-print-text c = search rules
-
 pub returns : goal.returns
-returns c = (printed_as c.print_text.ensures (search), omega (arith, c.print_text.ensures.place))
+returns c = record {
+  printed = printed_as c.print_text.ensures (search);
+  value = omega (arith, c.print_text.ensures.place);
+}

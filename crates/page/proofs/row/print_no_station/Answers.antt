@@ -1,11 +1,6 @@
 -- `page::print_no_station` meets its contract: what it puts is the row of a refused image.
 use Rattle.page.proofs.Aligning.{printed_as}
-use borrow.Author.Rules.{rules}
 use Rattle.page.proofs.row.print_no_station.Goals as goal
-
--- ?? no goal for slice-aggregate-print-text
--- slice-aggregate-print-text : tie.Need-slice-aggregate-print-text
--- slice-aggregate-print-text c = search rules
 
 pub returns : goal.returns
 returns c = printed_as c.print_text.ensures (search)

@@ -6,14 +6,6 @@ use Rattle.page.proofs.Aligning.{printed_as, ticket_digits, line_digits, start_d
 use borrow.Author.Rules.{rules}
 use Rattle.page.proofs.row.print_row.Goals as goal
 
--- ?? no goal for slice-aggregate-print-text
--- slice-aggregate-print-text : tie.Need-slice-aggregate-print-text
--- slice-aggregate-print-text c = search rules
-
--- ?? no goal for slice-aggregate-print-text-2
--- slice-aggregate-print-text-2 : tie.Need-slice-aggregate-print-text-2
--- slice-aggregate-print-text-2 c = search rules
-
 pub print_column-a-requires : goal.print_column-a-requires
 print_column-a-requires c = (ticket_digits c.requires.0, search rules)
 
@@ -28,8 +20,14 @@ print_column-d-requires c = (end_digits c.requires.0, search rules)
 
 pub returns-then-begun : goal.returns-then-begun
 unfolding row_of
-returns-then-begun c = (rw c.if-begun.true (printed_as (printed_then c.print_column-a.ensures.0 (printed_then c.print_column-b.ensures.0 (printed_then c.print_column-c.ensures.0 (printed_then c.print_column-d.ensures.0 c.print_text.ensures)))) (search)), omega (arith, c.print_column-a.ensures.1, c.print_column-b.ensures.1, c.print_column-c.ensures.1, c.print_column-d.ensures.1, c.print_text.ensures.place))
+returns-then-begun c = record {
+  printed = rw c.if-begun.true (printed_as (printed_then c.print_column-a.ensures.printed (printed_then c.print_column-b.ensures.printed (printed_then c.print_column-c.ensures.printed (printed_then c.print_column-d.ensures.printed c.print_text.ensures)))) (search));
+  value = omega (arith, c.print_column-a.ensures.value, c.print_column-b.ensures.value, c.print_column-c.ensures.value, c.print_column-d.ensures.value, c.print_text.ensures.place);
+}
 
 pub returns : goal.returns
 unfolding row_of
-returns c = (rw c.if-begun.false (printed_as (printed_then c.print_column-a.ensures.0 (printed_then c.print_column-b.ensures.0 (printed_then c.print_column-c.ensures.0 (printed_then c.print_column-d.ensures.0 c.print_text-2.ensures)))) (search)), omega (arith, c.print_column-a.ensures.1, c.print_column-b.ensures.1, c.print_column-c.ensures.1, c.print_column-d.ensures.1, c.print_text-2.ensures.place))
+returns c = record {
+  printed = rw c.if-begun.false (printed_as (printed_then c.print_column-a.ensures.printed (printed_then c.print_column-b.ensures.printed (printed_then c.print_column-c.ensures.printed (printed_then c.print_column-d.ensures.printed c.print_text-2.ensures)))) (search));
+  value = omega (arith, c.print_column-a.ensures.value, c.print_column-b.ensures.value, c.print_column-c.ensures.value, c.print_column-d.ensures.value, c.print_text-2.ensures.place);
+}

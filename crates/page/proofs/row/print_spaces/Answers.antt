@@ -1,9 +1,6 @@
 use mathlib.Core.Path.{◌≡◌, refl}
-use Prim.Native.Nat.{◌+◌, ◌-◌, ◌≤◌}
 use native.Mathlib.Omega.{arith}
-use lib.ListN.{length, length-set}
-use Rattle.text.specs.Printed.{Printed}
-use Rattle.page.specs.Lines.{spaces}
+use lib.ListN.{length-set}
 use Rattle.page.proofs.Aligning.{printed_space}
 use Rattle.page.proofs.row.print_spaces.Goals as goal
 
@@ -11,12 +8,11 @@ pub loop-i-init : goal.loop-i-init
 loop-i-init c = (omega arith, refl, record { bytes = refl; place = refl; within = omega arith })
 
 pub loop-i-preserved : goal.loop-i-preserved
-loop-i-preserved c =
-    (
-      omega arith,
-      simp length-set c.loop-i.invariant.1,
-      printed_space c.args.buffer.now c.args.at c.loop-i.i c.loop-i.buffer (search) (omega arith) c.loop-i.invariant.2,
-    )
+loop-i-preserved c = (
+  omega arith,
+  simp length-set c.loop-i.invariant.1,
+  printed_space c.args.buffer.now c.args.at c.loop-i.i c.loop-i.buffer (search) (omega arith) c.loop-i.invariant.2,
+)
 
 pub returns : goal.returns
 returns c =

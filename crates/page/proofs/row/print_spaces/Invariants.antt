@@ -1,11 +1,9 @@
 -- `page::print_spaces` meets its contract: space by space.
-use mathlib.Core.Path.{◌≡◌, refl}
+use mathlib.Core.Path.{◌≡◌}
 use Prim.Native.Nat.{◌+◌, ◌-◌, ◌≤◌}
-use native.Mathlib.Omega.{arith}
-use lib.ListN.{length, length-set}
+use lib.ListN.{length}
 use Rattle.text.specs.Printed.{Printed}
 use Rattle.page.specs.Lines.{spaces}
-use Rattle.page.proofs.Aligning.{printed_space}
 use Rattle.page.proofs.row.print_spaces.Given as goal
 
 abbrev pub invariant-loop-i : goal.invariant-loop-i

@@ -1,9 +1,6 @@
 -- Each way out is the first of causes 3 to 6 that applies.
-use native.Mathlib.Omega.{arith}
 use Rattle.planner.proofs.Judging.{next_profiled, judges_three, judges_four, judges_broken}
 use mathlib.Core.Path.{sym, ◌∙◌}
-use borrow.Author.Tests.{not-true, not-false}
-use borrow.Author.Rules.{rules}
 use Rattle.planner.proofs.judge.cause_of.Goals as goal
 
 pub returns-then-start_below : goal.returns-then-start_below

@@ -1,15 +1,10 @@
 use native.Mathlib.Omega.{arith}
-use borrow.Author.Rules.{rules}
-use Prim.Native.Nat.{◌≤◌, ◌-◌}
-use lib.ListN.{length}
-use Rattle.profile.specs.Shows.{profile_of}
 use Rattle.profile.proofs.Shown.{own_size}
-use Rattle.planner.specs.Ready.{around_of, terms_of}
 use Rattle.planner.proofs.Showing.{listed_profiled}
 use Rattle.planner.proofs.StandingLoads.{spacious_room}
 use Rattle.planner.proofs.Queueing.{queue_latest_start}
-use Rattle.planner.proofs.Plans.{PlacedSoFar, placed_start, placed_end, next_inside, next_below, next_rated, next_can_start}
-use Rattle.planner.proofs.Finding.{sound_in, sound_stuck, sound_can_add, sound_placed}
+use Rattle.planner.proofs.Plans.{placed_start, placed_end, next_inside, next_below, next_rated, next_can_start}
+use Rattle.planner.proofs.Finding.{sound_stuck, sound_can_add, sound_placed}
 use Rattle.planner.proofs.Proposing.{latest_none, latest_starts}
 use Rattle.planner.proofs.latest.latest.Goals as goal
 
@@ -39,11 +34,11 @@ bounds-charges-i-in-loop-k-2 c = omega (arith, next_below c.requires.2.listed c.
 
 pub earliest-found-requires : goal.earliest-found-requires
 earliest-found-requires c =
-    let u = (queue_latest_start c.requires.2.listed c.?by-latest-start.ensures) in
-    let inside = next_inside c.requires.2.listed u.places c.?loop-test.true in (
-      next_can_start c.requires.2.listed u c.?loop.invariant.1 (omega (arith, spacious_room c.requires.0, c.?standing.ensures.sized)) c.?loop-test.true,
+    let u = (queue_latest_start c.requires.2.listed c.by_latest_start-queue.ensures) in
+    let inside = next_inside c.requires.2.listed u.places c.loop-k-test.true in (
+      next_can_start c.requires.2.listed u c.loop-k.invariant.1 (omega (arith, spacious_room c.requires.0, c.standing-steps.ensures.sized)) c.loop-k-test.true,
       record {
-        is_rate = next_rated c.requires.2.listed u.places c.?loop-test.true;
+        is_rate = next_rated c.requires.2.listed u.places c.loop-k-test.true;
         within_limit = c.requires.2.within_limit _ inside;
         within_site_lem = c.requires.2.within_site_lem _ inside;
         within_bound = c.requires.2.within_bound _ inside;
@@ -51,25 +46,19 @@ earliest-found-requires c =
     )
 
 pub returns-in_default : goal.returns-in_default
-returns-in_default c = latest_none _ c.?by-latest-start.ensures (sound_stuck c.requires.2 (queue_latest_start c.requires.2.listed c.?by-latest-start.ensures) c.?loop.invariant.1 (omega (arith, spacious_room c.requires.0, c.?standing.ensures.sized)) c.?loop-test.true _ c.earliest-found.ensures c.enum_told-1.is.1) (search c.none.ensures.0) c.none.ensures.1
+returns-in_default c = latest_none _ c.by_latest_start-queue.ensures (sound_stuck c.requires.2 (queue_latest_start c.requires.2.listed c.by_latest_start-queue.ensures) c.loop-k.invariant.1 (omega (arith, spacious_room c.requires.0, c.standing-steps.ensures.sized)) c.loop-k-test.true _ c.earliest-found.ensures c.in_default.is) c.none.ensures.0 c.none.ensures.1
 
 pub add-steps-requires : goal.add-steps-requires
-add-steps-requires c = sound_can_add c.requires.2 (queue_latest_start c.requires.2.listed c.?by-latest-start.ensures) c.?loop.invariant.1 (omega (arith, spacious_room c.requires.0, c.?standing.ensures.sized)) c.?loop-test.true _ c.earliest-found.ensures c.found-1.is.1 (omega (arith, next_rated c.requires.2.listed c.?by-latest-start.ensures.places c.?loop-test.true))
+add-steps-requires c = sound_can_add c.requires.2 (queue_latest_start c.requires.2.listed c.by_latest_start-queue.ensures) c.loop-k.invariant.1 (omega (arith, spacious_room c.requires.0, c.standing-steps.ensures.sized)) c.loop-k-test.true _ c.earliest-found.ensures c.in-Minute.is (omega (arith, next_rated c.requires.2.listed c.by_latest_start-queue.ensures.places c.loop-k-test.true))
 
 pub offset_bounds-by_place-i : goal.offset_bounds-by_place-i
-offset_bounds-by_place-i c = omega (arith, next_below c.requires.2.listed c.?by-latest-start.ensures.places c.?loop-test.true)
+offset_bounds-by_place-i c = omega (arith, next_below c.requires.2.listed c.by_latest_start-queue.ensures.places c.loop-k-test.true)
 
 pub bounds-by_place-i : goal.bounds-by_place-i
-bounds-by_place-i c = omega (arith, next_below c.requires.2.listed c.?by-latest-start.ensures.places c.?loop-test.true)
-
-pub overflow_step-k : goal.overflow_step-k
-overflow_step-k c = omega (arith, c.requires.2.listed.columns.few, c.?by-latest-start.ensures.places.few, c.?loop-test.true)
-
-pub loop-k-smaller : goal.loop-k-smaller
-loop-k-smaller c = omega (arith, c.?loop-test.true)
+bounds-by_place-i c = omega (arith, next_below c.requires.2.listed c.by_latest_start-queue.ensures.places c.loop-k-test.true)
 
 pub loop-k-preserved : goal.loop-k-preserved
-loop-k-preserved c = (omega (arith, c.?loop-test.true), sound_placed c.requires.2 (queue_latest_start c.requires.2.listed c.?by-latest-start.ensures) c.?loop.invariant.1 (omega (arith, spacious_room c.requires.0, c.?standing.ensures.sized)) c.?loop-test.true _ c.earliest-found.ensures c.found-1.is.1 c.add-steps.ensures (omega arith))
+loop-k-preserved c = (omega (arith, c.loop-k-test.true), sound_placed c.requires.2 (queue_latest_start c.requires.2.listed c.by_latest_start-queue.ensures) c.loop-k.invariant.1 (omega (arith, spacious_room c.requires.0, c.standing-steps.ensures.sized)) c.loop-k-test.true _ c.earliest-found.ensures c.in-Minute.is c.add-steps.ensures (omega arith))
 
 pub returns : goal.returns
 returns c = latest_starts _ c.by_latest_start-queue.ensures (placed_end c.requires.2.listed (queue_latest_start c.requires.2.listed c.by_latest_start-queue.ensures) c.loop-k.invariant.1 (omega arith)) c.waiting_starts-starts.ensures (omega arith)

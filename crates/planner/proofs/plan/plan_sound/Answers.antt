@@ -1,10 +1,9 @@
 -- Sound is what breaks neither.
 use Rattle.planner.proofs.SoundPlans.{sound_broken}
-use mathlib.Core.Path.{sym, ◌∙◌}
+use mathlib.Core.Path.{sym}
 use Rattle.rules.specs.Charge.{seen}
 use Rattle.charges.specs.Arrays.{charges_of}
 use Rattle.planner.specs.Ready.{around_of, terms_of}
-use borrow.Author.Rules.{rules}
 use Rattle.planner.proofs.plan.plan_sound.Goals as goal
 
 pub returns : goal.returns

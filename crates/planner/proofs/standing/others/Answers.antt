@@ -1,6 +1,5 @@
 -- All that the other feeders draw is put into a profile of nothing.
 use Rattle.planner.proofs.StandingLoads.{others_can_add, others_shown}
-use borrow.Author.Rules.{rules}
 use Rattle.planner.proofs.standing.others.Goals as goal
 
 pub add_started-requires : goal.add_started-requires

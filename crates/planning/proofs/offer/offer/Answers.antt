@@ -3,14 +3,13 @@ use Rattle.planning.proofs.Refusals.{offer_lacks, offer_refused}
 use Rattle.planning.proofs.Replanning.{offer_tested}
 use mathlib.Core.Path.{refl, sym, ◌∙◌}
 use native.Mathlib.Omega.{arith}
-use borrow.Author.Rules.{rules}
 use Rattle.planning.proofs.offer.offer.Goals as goal
 
 pub returns-then-lacks : goal.returns-then-lacks
-returns-then-lacks c = (λ s f b n. offer_lacks f c.args.number (omega arith) (sym c.lacks.ensures ∙ c.if-lacks.true) c.args.starts.now, refl)
+returns-then-lacks c = record { leaves = λ s f b n. offer_lacks f c.args.number (omega arith) (sym c.lacks.ensures ∙ c.if-lacks.true) c.args.starts.now; same_head = refl }
 
 pub returns-then-starts-count : goal.returns-then-starts-count
-returns-then-starts-count c = (λ s f b n. offer_refused f c.args.number n (sym c.lacks.ensures ∙ c.if-lacks.false) c.args.starts.now c.waiting_count-count.ensures.0 (omega arith) c.if-starts-count.true, refl)
+returns-then-starts-count c = record { leaves = λ s f b n. offer_refused f c.args.number n (sym c.lacks.ensures ∙ c.if-lacks.false) c.args.starts.now c.waiting_count-count.ensures.0 (omega arith) c.if-starts-count.true; same_head = refl }
 
 pub returns : goal.returns
-returns c = (λ s f b n. offer_tested f c.args.number n (sym c.lacks.ensures ∙ c.if-lacks.false) c.args.starts.now c.waiting_count-count.ensures.0 (omega arith) c.if-starts-count.false (c.tested.ensures.0 s f b), c.tested.ensures.1)
+returns c = record { leaves = λ s f b n. offer_tested f c.args.number n (sym c.lacks.ensures ∙ c.if-lacks.false) c.args.starts.now c.waiting_count-count.ensures.0 (omega arith) c.if-starts-count.false (c.tested.ensures.tests s f b); same_head = c.tested.ensures.same_head }

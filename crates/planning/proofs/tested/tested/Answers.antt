@@ -9,4 +9,4 @@ pub judged-judgement-requires : goal.judged-judgement-requires
 judged-judgement-requires c = (c.requires.0.others, c.requires.0.few, c.requires.0.ready.listed, c.requires.1, rw c.requires.0.clock c.requires.2)
 
 pub returns : goal.returns
-returns c = (λ s f b. judged_tests f _ b c.judged-judgement.ensures (omega arith) (omega arith) (search rules), refl)
+returns c = record { tests = λ s f b. judged_tests f _ b c.judged-judgement.ensures (omega arith) (omega arith) (search rules); same_head = refl }

@@ -1,11 +1,7 @@
-use mathlib.Core.Logic.{⊎_elim}
 use mathlib.Core.Path.{◌∙◌, sym}
-use Prim.Native.Nat.{◌-◌}
 use native.Mathlib.Omega.{arith}
-use borrow.Author.Rules.{rules}
-use borrow.Author.Tests.{ltb-true, ltb-false, not-true}
-use Rattle.priority.specs.Numbers.{numbers_in}
-use Rattle.priority.proofs.Choosing.{BestSoFar, can_weigh, none_fits, best_first, best_stop, best_stays, best_moves, best_done}
+use borrow.Author.Tests.{ltb-true, ltb-false}
+use Rattle.priority.proofs.Choosing.{can_weigh, none_fits, best_first, best_stop, best_stays, best_moves, best_done}
 use Rattle.priority.proofs.choice.choose.Goals.{then-heavier, else-heavier}
 use Rattle.priority.proofs.choice.choose.Goals as goal
 
@@ -13,7 +9,7 @@ pub fitting-best-requires : goal.fitting-best-requires
 fitting-best-requires c = (c.requires.range.can_fit, omega arith)
 
 pub returns-then-n-best : goal.returns-then-n-best
-returns-then-n-best c = none_fits (search c.fitting-best.ensures) c.if-n-best.true
+returns-then-n-best c = none_fits c.fitting-best.ensures c.if-n-best.true
 
 pub weigh-taken-requires : goal.weigh-taken-requires
 weigh-taken-requires c = (c.table-weights.ensures, can_weigh c.requires (omega (arith, c.if-n-best.false)))
@@ -33,7 +29,7 @@ weigh-next-requires c = (c.table-weights.ensures, can_weigh c.requires c.loop-j-
 pub returns-then-not-heavier : goal.returns-then-not-heavier
 returns-then-not-heavier c =
     best_stop c.loop-j.invariant c.requires c.loop-j-test.true c.weigh-next.ensures.time_is c.weigh-next.ensures.weight_is
-    (omega (arith, ltb-false, sym c.heavier.ensures ∙ not-true _ c.if-not-heavier.true))
+    (omega (arith, ltb-false, sym c.heavier.ensures ∙ c.if-not-heavier.true))
 
 pub overflow_add-j : goal.overflow_add-j
 overflow_add-j c = omega (arith, c.loop-j-test.true, c.requires.range.can_fit.few)

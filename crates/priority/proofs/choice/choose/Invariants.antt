@@ -1,12 +1,7 @@
 -- The invariant: the best of those looked at, and the next that fits.
-use mathlib.Core.Logic.{⊎_elim}
-use mathlib.Core.Path.{◌∙◌, sym}
 use Prim.Native.Nat.{◌-◌}
-use native.Mathlib.Omega.{arith}
-use borrow.Author.Rules.{rules}
-use borrow.Author.Tests.{ltb-true, ltb-false, not-true}
 use Rattle.priority.specs.Numbers.{numbers_in}
-use Rattle.priority.proofs.Choosing.{BestSoFar, can_weigh, none_fits, best_first, best_stop, best_stays, best_moves, best_done}
+use Rattle.priority.proofs.Choosing.{BestSoFar}
 use Rattle.priority.proofs.choice.choose.Given as goal
 
 abbrev pub invariant-loop-j : goal.invariant-loop-j

@@ -1,8 +1,5 @@
-use Prim.Native.Nat.{◌-◌}
 use native.Mathlib.Omega.{arith}
-use borrow.Author.Rules.{rules}
-use Rattle.priority.specs.Numbers.{numbers_in}
-use Rattle.priority.proofs.Passing.{NoneYet, none_more, fits_here, fits_nowhere}
+use Rattle.priority.proofs.Passing.{none_more, fits_here, fits_nowhere}
 use Rattle.priority.proofs.choice.fitting.Goals as goal
 
 pub loop-j-init : goal.loop-j-init

@@ -1,9 +1,5 @@
 use mathlib.Core.Path.{◌≡◌}
-use Prim.Native.Nat.{◌≤◌, ◌-◌}
 use native.Mathlib.Omega.{arith}
-use borrow.Author.Rules.{rules}
-use Rattle.priority.specs.Numbers.{numbers_in}
-use Rattle.priority.specs.Crowds.{CrowdOf}
 use Rattle.priority.proofs.Crowding.{crowd_none, crowd_fits, crowd_more}
 use Rattle.priority.proofs.crowd.crowd_of.Goals as goal
 

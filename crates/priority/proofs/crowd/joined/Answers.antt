@@ -1,5 +1,4 @@
 -- `priority::crowd::joined` meets its contract: one more charge, of rate 1 or of rate 2.
-use mathlib.Core.Logic.{⊎_elim}
 use mathlib.Core.Path.{refl}
 use native.Mathlib.Omega.{arith}
 use borrow.Author.Rules.{rules}
@@ -12,9 +11,9 @@ returns-then-rate-eq1 c =
       number = omega arith;
       total = omega arith;
       shortest = elim c.if-time-crowd.branch [
-      | then-time-crowd x ↦ omega (arith, x.if-time-crowd.true, x.1-is)
-      | else-time-crowd x ↦ omega (arith, x.if-time-crowd.false, x.1-is)
-    ];
+        | then-time-crowd x ↦ omega (arith, x.if-time-crowd.true, x.shortest-is)
+        | else-time-crowd x ↦ omega (arith, x.if-time-crowd.false, x.shortest-is)
+      ];
       one = λ e. (search rules, refl);
       two = λ ne. absurd (ne (omega arith));
     }
@@ -25,9 +24,9 @@ returns-else-rate-eq1 c =
       number = omega arith;
       total = omega arith;
       shortest = elim c.if-time-crowd.branch [
-      | then-time-crowd x ↦ omega (arith, x.if-time-crowd.true, x.1-is)
-      | else-time-crowd x ↦ omega (arith, x.if-time-crowd.false, x.1-is)
-    ];
+        | then-time-crowd x ↦ omega (arith, x.if-time-crowd.true, x.shortest-is)
+        | else-time-crowd x ↦ omega (arith, x.if-time-crowd.false, x.shortest-is)
+      ];
       one = λ e. absurd (omega arith);
       two = λ ne. (search rules, refl);
     }

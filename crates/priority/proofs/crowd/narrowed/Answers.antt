@@ -1,6 +1,5 @@
 -- `priority::crowd::narrowed` meets its contract: number and sum are kept, the times are those of `crowd_of` now.
 use native.Mathlib.Omega.{arith}
-use borrow.Author.Rules.{rules}
 use Rattle.priority.proofs.crowd.narrowed.Goals as goal
 
 pub returns : goal.returns

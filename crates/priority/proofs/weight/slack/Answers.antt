@@ -1,6 +1,5 @@
 -- `priority::weight::slack` meets its contract: the due minute less the end, 0 where the end is not before it.
 use native.Mathlib.Omega.{arith}
-use borrow.Author.Rules.{rules}
 use Rattle.priority.proofs.weight.slack.Goals as goal
 
 pub returns-then-end-due : goal.returns-then-end-due

@@ -1,6 +1,5 @@
 -- `priority::weight::weight` meets its contract: 0 behind the table, else its entry.
 use native.Mathlib.Omega.{arith}
-use borrow.Author.Rules.{rules}
 use Rattle.rules.proofs.Weights.{weight_beyond, weight_most}
 use Rattle.priority.proofs.Weighing.{table_at}
 use Rattle.priority.proofs.weight.weight.Goals as goal

@@ -1,6 +1,5 @@
-use Prim.Native.Nat.{◌-◌}
 use native.Mathlib.Omega.{arith}
-use Rattle.queues.proofs.Removing.{Removing, removing_none, removing_on, removing_done}
+use Rattle.queues.proofs.Removing.{removing_none, removing_on, removing_done}
 use Rattle.queues.proofs.line.remove.Goals as goal
 
 pub loop-k-init : goal.loop-k-init

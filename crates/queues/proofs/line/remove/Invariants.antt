@@ -1,7 +1,6 @@
 -- The invariant: those behind the j-th and before the k-th have moved up.
 use Prim.Native.Nat.{◌-◌}
-use native.Mathlib.Omega.{arith}
-use Rattle.queues.proofs.Removing.{Removing, removing_none, removing_on, removing_done}
+use Rattle.queues.proofs.Removing.{Removing}
 use Rattle.queues.proofs.line.remove.Given as goal
 
 abbrev pub invariant-loop-k : goal.invariant-loop-k

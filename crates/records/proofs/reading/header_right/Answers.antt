@@ -1,6 +1,5 @@
 -- Too many held, or the settings by their own test.
 use Rattle.records.proofs.Columning.{many_held, header_is}
-use borrow.Author.Rules.{rules}
 use Rattle.records.proofs.reading.header_right.Goals as goal
 
 pub returns-then-number_at-gt180 : goal.returns-then-number_at-gt180

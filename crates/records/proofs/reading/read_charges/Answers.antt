@@ -1,6 +1,5 @@
 -- Each column is read from its bytes.
 use Rattle.records.proofs.Columning.{holds_from}
-use borrow.Author.Rules.{rules}
 use Rattle.records.proofs.reading.read_charges.Goals as goal
 
 pub returns : goal.returns

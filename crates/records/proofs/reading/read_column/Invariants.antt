@@ -1,14 +1,9 @@
 -- The loop goes from the highest byte down.
-use mathlib.Core.Path.{refl}
-use Prim.Native.Nat.{ℕ, ◌+◌, ◌-◌, ◌≤◌, ◌<◌}
+use Prim.Native.Nat.{ℕ, ◌≤◌, ◌<◌}
 use lib.ListN.{get_or}
-use Rattle.rules.specs.Site.{places}
 use Rattle.charges.specs.Arrays.{Filled}
-use Rattle.charges.proofs.Storing.{zeros}
 use Rattle.records.specs.Contents.{record_in}
-use Rattle.records.proofs.Columning.{filled_by_none}
-use Rattle.records.proofs.Joining.{Joined, joined-none, joined-more, joined_fits, field_joined}
-use native.Mathlib.Omega.{arith}
+use Rattle.records.proofs.Joining.{Joined}
 use Rattle.records.proofs.reading.read_column.Given as goal
 
 abbrev pub invariant-loop-j : goal.invariant-loop-j

@@ -1,14 +1,8 @@
 -- The loop has added the tail to the times before it.
-use mathlib.Core.Path.{refl}
-use Prim.Native.Nat.{◌+◌, ◌≤◌, ◌-◌}
+use Prim.Native.Nat.{◌+◌, ◌≤◌}
 use lib.ListN.{get_or}
 use Rattle.records.specs.Columns.{ColumnTo}
-use Rattle.records.proofs.Columning.{column_none, column-more, column_all}
-use native.Mathlib.Omega.{arith}
 use Rattle.records.proofs.reading.with_tail.Given as goal
 
 abbrev pub invariant-loop-q : goal.invariant-loop-q
 invariant-loop-q l = (l.q ≤ l.held) × ColumnTo (λ p. get_or l.times p 0 + l.tail) l.q l.column
-
-abbrev pub decreases-loop-q : goal.decreases-loop-q
-decreases-loop-q l = l.held - l.q

@@ -1,10 +1,9 @@
 -- The loop has put the rows of the bytes before it.
 use mathlib.Core.Path.{◌≡◌}
-use Prim.Native.Nat.{ℕ, ◌+◌, ◌-◌, ◌≤◌, ◌<◌}
+use Prim.Native.Nat.{ℕ, ◌+◌, ◌≤◌, ◌<◌}
 use lib.ListN.{length}
 use Rattle.records.specs.Contents.{record_place}
 use Rattle.records.specs.Rows.{Begun, RowOf}
-use native.Mathlib.Omega.{arith}
 use Rattle.records.proofs.writing.put_column.Given as goal
 
 abbrev pub invariant-loop-byte : goal.invariant-loop-byte
@@ -14,6 +13,3 @@ invariant-loop-byte l = (l.byte ≤ 4)
     → ((k : ℕ) → k < 4 → RowOf f l.column l.held (l.from + k) k)
     → Begun f (record_place 0 l.from) l.initial.contents
     → Begun f (record_place 0 (l.from + l.byte)) l.contents)
-
-abbrev pub decreases-loop-byte : goal.decreases-loop-byte
-decreases-loop-byte l = 4 - l.byte

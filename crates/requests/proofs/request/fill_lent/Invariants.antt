@@ -1,10 +1,8 @@
 -- `requests::fill_lent` meets its contract, place by place.
-use mathlib.Core.Path.{◌≡◌, refl}
+use mathlib.Core.Path.{◌≡◌}
 use mathlib.Core.List.{◌++◌}
 use Prim.Native.Nat.{◌-◌, ◌≤◌}
-use native.Mathlib.Omega.{arith}
-use lib.ListN.{length, drop, replicate, length-set}
-use Rattle.requests.proofs.Lending.{filled_more}
+use lib.ListN.{length, drop, replicate}
 use Rattle.requests.proofs.request.fill_lent.Given as goal
 
 abbrev pub invariant-loop-i : goal.invariant-loop-i

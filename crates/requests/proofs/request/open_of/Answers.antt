@@ -3,7 +3,6 @@ use Prim.Native.Nat.{◌%◌}
 use native.Mathlib.Omega.{arith}
 use lib.ListN.{length}
 use borrow.Author.Tests.{eq-eqb, ne_eqb}
-use borrow.Author.Rules.{rules}
 use Rattle.requests.proofs.request.open_of.Goals as goal
 
 pub returns-then-numbers-ne2 : goal.returns-then-numbers-ne2

@@ -1,9 +1,6 @@
 use mathlib.Core.Path.{refl, sym, ◌∙◌}
-use Prim.Native.Nat.{◌-◌}
 use native.Mathlib.Omega.{arith}
-use borrow.Author.Rules.{rules}
-use lib.ListN.{length}
-use Rattle.requests.proofs.Reading.{Reads, reads_none, reads_missing, reads_all, reads_wrong, reads_more, reads_extra}
+use Rattle.requests.proofs.Reading.{reads_none, reads_missing, reads_all, reads_wrong, reads_more, reads_extra}
 use Rattle.text.specs.declared.number.Number.TheVariants as number
 use Rattle.requests.specs.declared.request.Reason.TheVariants as reason
 use Rattle.requests.proofs.request.read_numbers.Goals as goal
@@ -21,16 +18,16 @@ pub shape_of-numbers-in-NotANumber : goal.shape_of-numbers-in-NotANumber
 shape_of-numbers-in-NotANumber c = c.loop-at.invariant.long
 
 pub returns-in-NotANumber : goal.returns-in-NotANumber
-returns-in-NotANumber c = reads_wrong c.loop-at.invariant c.loop-at-test.true c.part_end-end.ensures (omega arith) (omega arith) number.NotANumber reason.NotANumber (λ rest. refl) (λ ns. refl) (sym c.read_number-number.ensures ∙ c.enum_told-1.is.1)
+returns-in-NotANumber c = reads_wrong c.loop-at.invariant c.loop-at-test.true c.part_end-end.ensures (omega arith) (omega arith) number.NotANumber reason.NotANumber (λ rest. refl) (λ ns. refl) (sym c.read_number-number.ensures ∙ c.in-NotANumber.is)
 
 pub shape_of-numbers-in-TooLarge : goal.shape_of-numbers-in-TooLarge
 shape_of-numbers-in-TooLarge c = c.loop-at.invariant.long
 
 pub returns-in-TooLarge : goal.returns-in-TooLarge
-returns-in-TooLarge c = reads_wrong c.loop-at.invariant c.loop-at-test.true c.part_end-end.ensures (omega arith) (omega arith) number.TooLarge reason.NumberTooLarge (λ rest. refl) (λ ns. refl) (sym c.read_number-number.ensures ∙ c.enum_told-in-TooLarge-1.is.1)
+returns-in-TooLarge c = reads_wrong c.loop-at.invariant c.loop-at-test.true c.part_end-end.ensures (omega arith) (omega arith) number.TooLarge reason.NumberTooLarge (λ rest. refl) (λ ns. refl) (sym c.read_number-number.ensures ∙ c.in-TooLarge.is)
 
 pub loop-at-preserved : goal.loop-at-preserved
-loop-at-preserved c = reads_more c.loop-at.invariant c.loop-at-test.true c.part_end-end.ensures (omega arith) (omega arith) c.number-1.is.0.0 (omega arith) (sym c.read_number-number.ensures ∙ c.number-1.is.1)
+loop-at-preserved c = reads_more c.loop-at.invariant c.loop-at-test.true c.part_end-end.ensures (omega arith) (omega arith) c.in-Value.value (omega arith) (sym c.read_number-number.ensures ∙ c.in-Value.is)
 
 pub shape_of-numbers-then-count-least : goal.shape_of-numbers-then-count-least
 shape_of-numbers-then-count-least c = c.loop-at.invariant.long

@@ -1,12 +1,7 @@
 -- `requests::read_numbers` meets its contract: the numbers in the list, and those that are left to read, are those of the request.
-use mathlib.Core.Path.{refl, sym, ◌∙◌}
 use Prim.Native.Nat.{◌-◌}
-use native.Mathlib.Omega.{arith}
-use borrow.Author.Rules.{rules}
 use lib.ListN.{length}
-use Rattle.requests.proofs.Reading.{Reads, reads_none, reads_missing, reads_all, reads_wrong, reads_more, reads_extra}
-use Rattle.text.specs.declared.number.Number.TheVariants as number
-use Rattle.requests.specs.declared.request.Reason.TheVariants as reason
+use Rattle.requests.proofs.Reading.{Reads}
 use Rattle.requests.proofs.request.read_numbers.Given as goal
 
 abbrev pub invariant-loop-at : goal.invariant-loop-at

@@ -3,7 +3,6 @@ use mathlib.Core.Path.{sym}
 use lib.Seq.{length-take-le}
 use Rattle.requests.proofs.Reading.{text_too_long, text_empty, text_comment, text_call}
 use native.Mathlib.Omega.{arith}
-use borrow.Author.Rules.{rules}
 use Rattle.requests.proofs.request.read_request.Goals as goal
 
 pub returns-then-text-gt4096 : goal.returns-then-text-gt4096
@@ -16,7 +15,7 @@ pub returns-then-text-eq35 : goal.returns-then-text-eq35
 returns-then-text-eq35 c = text_comment c.args.text.now c.args.numbers.now (omega (arith, c.if-text-gt4096.false)) c.if-text-eq0.false (omega (arith, c.if-text-eq35.true))
 
 pub slice_bounds-call_named-end : goal.slice_bounds-call_named-end
-slice_bounds-call_named-end c = sym (length-take-le _ _ c.?part-end.ensures.high)
+slice_bounds-call_named-end c = sym (length-take-le _ _ c.part_end-end.ensures.high)
 
 pub returns : goal.returns
-returns c = text_call c.args.text.now c.args.numbers.now (omega (arith, c.?if1.false)) c.?if2.false c.?part-end.result c.call_named-name.result (λ e. omega (arith, e, c.?if3.false)) c.?part-end.ensures c.call_named-name.ensures c.read_call.ensures
+returns c = text_call c.args.text.now c.args.numbers.now (omega (arith, c.if-text-gt4096.false)) c.if-text-eq0.false c.part_end-end.result c.call_named-name.result (λ e. omega (arith, e, c.if-text-eq35.false)) c.part_end-end.ensures c.call_named-name.ensures c.read_call.ensures

@@ -1,5 +1,4 @@
 -- `requests::settings_from` meets its contract.
-use borrow.Author.Rules.{rules}
 use Rattle.requests.proofs.request.settings_from.Goals as goal
 
 pub returns : goal.returns

@@ -1,6 +1,5 @@
 -- `requests::named_or` meets its contract.
 use mathlib.Core.Path.{sym, ◌∙◌}
-use borrow.Author.Rules.{rules}
 use Rattle.requests.proofs.word.named_or.Goals as goal
 
 pub returns-then-same_text : goal.returns-then-same_text

@@ -1,18 +1,9 @@
-use Prim.Native.Nat.{◌-◌}
 use native.Mathlib.Omega.{arith}
-use borrow.Author.Rules.{rules}
-use Rattle.profile.specs.Shows.{profile_of}
-use Rattle.search.proofs.Fittings.{Fitting, fitting_begin, fitting_test, fitting_done, fitting_below, fitting_order, fitting_on, fitting_ends}
+use Rattle.search.proofs.Fittings.{fitting_begin, fitting_test, fitting_done, fitting_below, fitting_order, fitting_on, fitting_ends}
 use Rattle.search.proofs.candidate.first_fitting.Goals as goal
-
-pub place-i-requires : goal.place-i-requires
-place-i-requires c = (c.requires.can.formed.some, c.requires.can.formed.fits, omega (arith, c.requires.can.formed.fits, c.requires.can.formed.at_size), c.requires.low, c.requires.can.formed.rises)
 
 pub loop-s-init : goal.loop-s-init
 loop-s-init c = fitting_begin _ _ _ c.place-i.ensures
-
-pub overflow_add-s : goal.overflow_add-s
-overflow_add-s c = omega (arith, c.loop-s.invariant.high, c.requires.can.ends_fit, c.requires.ends_fit)
 
 pub test_start-tested-requires : goal.test_start-tested-requires
 test_start-tested-requires c = fitting_test c.requires c.loop-s.invariant (omega (arith, c.loop-s-test.true))

@@ -1,9 +1,7 @@
 -- `search::candidate::first_fitting` meets its contract. The invariant: no start below s fits, and s lies in step i.
 use Prim.Native.Nat.{◌-◌}
-use native.Mathlib.Omega.{arith}
-use borrow.Author.Rules.{rules}
 use Rattle.profile.specs.Shows.{profile_of}
-use Rattle.search.proofs.Fittings.{Fitting, fitting_begin, fitting_test, fitting_done, fitting_below, fitting_order, fitting_on, fitting_ends}
+use Rattle.search.proofs.Fittings.{Fitting}
 use Rattle.search.proofs.candidate.first_fitting.Given as goal
 
 abbrev pub invariant-loop-s : goal.invariant-loop-s

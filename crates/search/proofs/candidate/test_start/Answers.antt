@@ -1,13 +1,7 @@
-use Prim.Native.Nat.{◌+◌, ◌-◌}
 use mathlib.Core.Path.{refl}
 use native.Mathlib.Omega.{arith}
-use borrow.Author.Tests.{not-true, not-false}
-use Rattle.profile.specs.Shows.{profile_of}
-use Rattle.search.proofs.Candidates.{Testing, test_begin, test_inside, test_moves, test_small, test_passes, test_stops, test_on}
+use Rattle.search.proofs.Candidates.{test_begin, test_inside, test_moves, test_small, test_passes, test_stops, test_on}
 use Rattle.search.proofs.candidate.test_start.Goals as goal
-
-pub overflow_add-until : goal.overflow_add-until
-overflow_add-until c = omega (arith, c.requires.ends_fit)
 
 pub loop-t-init : goal.loop-t-init
 loop-t-init c = test_begin _ c.requires (omega arith)
@@ -22,7 +16,7 @@ pub overflow_add-looked : goal.overflow_add-looked
 overflow_add-looked c = omega (arith, test_inside c.requires refl c.loop-t.invariant (omega (arith, c.loop-t-test.true)), c.requires.ends_fit)
 
 pub returns-then-not-sound_with : goal.returns-then-not-sound_with
-returns-then-not-sound_with c = test_stops c.requires refl c.loop-t.invariant (omega (arith, c.loop-t-test.true)) {r = c.?sound_with_lem.result} (search c.?sound_with_lem.ensures) (not-true _ c.if-not-sound_with.true) (search) (omega arith)
+returns-then-not-sound_with c = test_stops c.requires refl c.loop-t.invariant (omega (arith, c.loop-t-test.true)) {r = c.sound_with.result} c.sound_with.ensures c.if-not-sound_with.true refl (omega arith)
 
 pub end_of-t-requires : goal.end_of-t-requires
 end_of-t-requires c = let h = test_inside c.requires refl c.loop-t.invariant (omega (arith, c.loop-t-test.true)) in (h.0, h.1, h.2)
@@ -31,10 +25,10 @@ pub overflow_add-i : goal.overflow_add-i
 overflow_add-i c = omega (arith, test_inside c.requires refl c.loop-t.invariant (omega (arith, c.loop-t-test.true)))
 
 pub loop-t-smaller : goal.loop-t-smaller
-loop-t-smaller c = omega (arith, test_moves c.requires refl c.loop-t.invariant (omega (arith, c.loop-t-test.true)) c.?end_of_lem.ensures)
+loop-t-smaller c = omega (arith, test_moves c.requires refl c.loop-t.invariant (omega (arith, c.loop-t-test.true)) c.end_of-t.ensures)
 
 pub loop-t-preserved : goal.loop-t-preserved
-loop-t-preserved c = test_on c.requires refl c.loop-t.invariant (omega (arith, c.loop-t-test.true)) {r = c.?sound_with_lem.result} (search c.?sound_with_lem.ensures) (not-false _ c.if-not-sound_with.false) c.?end_of_lem.ensures (omega arith) (omega arith)
+loop-t-preserved c = test_on c.requires refl c.loop-t.invariant (omega (arith, c.loop-t-test.true)) {r = c.sound_with.result} c.sound_with.ensures c.if-not-sound_with.false c.end_of-t.ensures (omega arith) (omega arith)
 
 pub returns : goal.returns
 returns c = test_passes c.requires refl c.loop-t.invariant (omega (arith, c.loop-t-test.false)) (omega arith)

@@ -1,10 +1,7 @@
 -- `search::candidate::test_start` meets its contract. The invariant: every minute before t passes, and t lies in step i. The measure is what is left of the minutes.
 use Prim.Native.Nat.{◌+◌, ◌-◌}
-use mathlib.Core.Path.{refl}
-use native.Mathlib.Omega.{arith}
-use borrow.Author.Tests.{not-true, not-false}
 use Rattle.profile.specs.Shows.{profile_of}
-use Rattle.search.proofs.Candidates.{Testing, test_begin, test_inside, test_moves, test_small, test_passes, test_stops, test_on}
+use Rattle.search.proofs.Candidates.{Testing}
 use Rattle.search.proofs.candidate.test_start.Given as goal
 
 abbrev pub invariant-loop-t : goal.invariant-loop-t

@@ -1,9 +1,6 @@
-use Prim.Native.Nat.{◌-◌}
 use mathlib.Core.Path.{refl}
 use native.Mathlib.Omega.{arith}
-use borrow.Author.Rules.{rules}
-use Rattle.search.specs.Caps.{cap_places}
-use Rattle.search.proofs.Lowerings.{Lowering, lowering_none, lowering_more, lowering_done}
+use Rattle.search.proofs.Lowerings.{lowering_none, lowering_more, lowering_done}
 use Rattle.search.proofs.caps.lower.Goals as goal
 
 pub loop-k-init : goal.loop-k-init

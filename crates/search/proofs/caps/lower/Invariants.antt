@@ -1,10 +1,7 @@
 -- `search::caps::lower` meets its contract. The invariant: the places of the line from v up to k are lowered.
 use Prim.Native.Nat.{◌-◌}
-use mathlib.Core.Path.{refl}
-use native.Mathlib.Omega.{arith}
-use borrow.Author.Rules.{rules}
 use Rattle.search.specs.Caps.{cap_places}
-use Rattle.search.proofs.Lowerings.{Lowering, lowering_none, lowering_more, lowering_done}
+use Rattle.search.proofs.Lowerings.{Lowering}
 use Rattle.search.proofs.caps.lower.Given as goal
 
 abbrev pub invariant-loop-k : goal.invariant-loop-k

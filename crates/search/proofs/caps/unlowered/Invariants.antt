@@ -1,11 +1,7 @@
 -- `search::caps::unlowered` meets its contract. The invariant: the first k places are as they should be.
-use Prim.Native.Nat.{ℕ, ◌*◌, ◌-◌, ◌≤◌}
-use mathlib.Core.Path.{◌≡◌, refl, subst}
-use native.Mathlib.Omega.{arith}
-use lib.ListN.{get_or-replicate}
+use Prim.Native.Nat.{◌*◌, ◌-◌, ◌≤◌}
 use Rattle.profile.specs.Steps.{columns}
-use Rattle.search.specs.Caps.{cap_places, Unlowered}
-use Rattle.search.proofs.Lowerings.{unlowered_none, unlowered_more}
+use Rattle.search.specs.Caps.{Unlowered}
 use Rattle.search.proofs.caps.unlowered.Given as goal
 
 abbrev pub invariant-loop-k : goal.invariant-loop-k

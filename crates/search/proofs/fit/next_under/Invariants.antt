@@ -1,12 +1,8 @@
 -- `search::fit::next_under` meets its contract. The invariant: no start below s will do, and s lies in step i.
 use Prim.Native.Nat.{◌-◌}
-use native.Mathlib.Omega.{arith}
-use borrow.Author.Rules.{rules}
 use Rattle.profile.specs.Shows.{profile_of}
 use Rattle.search.specs.Caps.{caps_in, room_under}
-use Rattle.search.proofs.Rooms.{told_at, told_nothing, Seek, seek_start, seek_below, seek_order, seek_on, seek-done}
-use Rattle.search.proofs.Within.{first_last}
-use Rattle.search.proofs.Unders.{under_rests, under_run, under_earliest}
+use Rattle.search.proofs.Rooms.{Seek}
 use Rattle.search.proofs.fit.next_under.Given as goal
 
 abbrev pub invariant-loop-step : goal.invariant-loop-step

@@ -1,5 +1,4 @@
 -- `search::room::sound` meets its contract: by the largest and the smallest count of the lines, and by all together.
-use borrow.Author.Rules.{rules}
 use mathlib.Core.List.{[]}
 use native.Mathlib.Omega.{arith}
 use Rattle.search.specs.Numbers.{limits_beside}

@@ -1,5 +1,4 @@
 -- `search::room::sound_with` meets its contract.
-use borrow.Author.Rules.{rules}
 use mathlib.Core.List.{[]}
 use native.Mathlib.Omega.{arith}
 use Rattle.search.specs.Numbers.{limits_beside, with_draw}

@@ -1,5 +1,4 @@
 -- `search::room::under` meets its contract.
-use borrow.Author.Rules.{rules}
 use Prim.Native.Nat.{◌+◌}
 use mathlib.Core.Path.{sym, refl}
 use native.Mathlib.Omega.{arith}

@@ -1,5 +1,4 @@
 -- `search::room::whole_of` meets its contract.
-use borrow.Author.Rules.{rules}
 use native.Mathlib.Omega.{arith}
 use Rattle.search.proofs.room.whole_of.Goals as goal
 

@@ -1,12 +1,8 @@
 -- `search::start::earliest` meets its contract.
-use borrow.Author.Rules.{rules}
 use native.Mathlib.Omega.{arith}
 use Rattle.search.proofs.Within.{first_last}
 use Rattle.search.proofs.Starts.{start_covers, start_late}
 use Rattle.search.proofs.start.earliest.Goals as goal
-
-pub unsound_minutes-u-requires : goal.unsound_minutes-u-requires
-unsound_minutes-u-requires c = (c.requires.0.formed, c.requires.0.empty)
 
 pub fitting_from-s-requires : goal.fitting_from-s-requires
 fitting_from-s-requires c = (c.requires.0, c.requires.1, omega (arith, c.reaching-start.ensures), omega (arith, c.reaching-start.ensures, c.unsound_minutes-u.ensures.high, first_last c.requires.0))

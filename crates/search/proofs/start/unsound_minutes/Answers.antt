@@ -1,19 +1,11 @@
-use Prim.Native.Nat.{◌-◌}
-use mathlib.Core.Logic.{⊎_elim}
 use native.Mathlib.Omega.{arith}
-use borrow.Author.Rules.{rules}
-use borrow.Author.Tests.{not-true, not-false}
-use Rattle.profile.specs.Shows.{profile_of}
 use Rattle.profile.proofs.Balances.{in_columns}
-use Rattle.search.proofs.Unsounds.{Scanned, scanned_none, scanned_sound, scanned_unsound, scanned_done}
+use Rattle.search.proofs.Unsounds.{scanned_none, scanned_sound, scanned_unsound, scanned_done}
 use Rattle.search.proofs.start.unsound_minutes.Goals.{then-not-sound, else-not-sound}
 use Rattle.search.proofs.start.unsound_minutes.Goals as goal
 
 pub loop-i-init : goal.loop-i-init
 loop-i-init c = scanned_none _ _ c.requires.0
-
-pub overflow_add-i : goal.overflow_add-i
-overflow_add-i c = omega (arith, c.requires.0.fits, c.requires.0.at_size)
 
 pub count_of-a-requires : goal.count_of-a-requires
 count_of-a-requires c = in_columns c.requires.0 (omega arith) (record { low = omega arith; high = omega arith })
@@ -27,32 +19,11 @@ count_of-c-requires c = in_columns c.requires.0 (omega arith) (record { low = om
 pub count_of-d-requires : goal.count_of-d-requires
 count_of-d-requires c = in_columns c.requires.0 (omega arith) (record { low = omega arith; high = omega arith })
 
-pub offset_bounds-at-i : goal.offset_bounds-at-i
-offset_bounds-at-i c = omega (arith, c.requires.0.fits, c.requires.0.at_size)
-
-pub bounds-at-i : goal.bounds-at-i
-bounds-at-i c = omega (arith, c.requires.0.fits, c.requires.0.at_size)
-
-pub overflow_add-end : goal.overflow_add-end
-overflow_add-end c = omega (arith, c.requires.0.fits, c.requires.0.at_size)
-
-pub offset_bounds-at-i-then-not-sound : goal.offset_bounds-at-i-then-not-sound
-offset_bounds-at-i-then-not-sound c = omega (arith, c.requires.0.fits, c.requires.0.at_size)
-
-pub bounds-at-i-then-not-sound : goal.bounds-at-i-then-not-sound
-bounds-at-i-then-not-sound c = omega (arith, c.requires.0.fits, c.requires.0.at_size)
-
-pub overflow_add-i-in-loop-i : goal.overflow_add-i-in-loop-i
-overflow_add-i-in-loop-i c = omega (arith, c.requires.0.fits, c.requires.0.at_size)
-
-pub loop-i-smaller : goal.loop-i-smaller
-loop-i-smaller c = omega (arith, c.requires.0.fits, c.requires.0.at_size)
-
 pub loop-i-preserved : goal.loop-i-preserved
 loop-i-preserved c =
     elim c.if-not-sound.branch [
-      | then-not-sound w ↦ scanned_unsound c.requires.0 c.loop-i.invariant c.loop-i-test.true (omega (arith, c.count_of-a.ensures)) (omega (arith, c.count_of-b.ensures)) (omega (arith, c.count_of-c.ensures)) (omega (arith, c.count_of-d.ensures)) c.sound.ensures (not-true _ w.if-not-sound.true) (omega (arith, w.4-is, w.end-is.ensures)) w.5-is
-      | else-not-sound w ↦ scanned_sound c.requires.0 c.loop-i.invariant c.loop-i-test.true (omega (arith, c.count_of-a.ensures)) (omega (arith, c.count_of-b.ensures)) (omega (arith, c.count_of-c.ensures)) (omega (arith, c.count_of-d.ensures)) c.sound.ensures (not-false _ w.if-not-sound.false) w.first-is w.end-is
+      | then-not-sound w ↦ scanned_unsound c.requires.0 c.loop-i.invariant c.loop-i-test.true (omega (arith, c.count_of-a.ensures)) (omega (arith, c.count_of-b.ensures)) (omega (arith, c.count_of-c.ensures)) (omega (arith, c.count_of-d.ensures)) c.sound.ensures w.if-not-sound.true (omega (arith, w.first-is, w.smaller-first.ensures)) w.end-is
+      | else-not-sound w ↦ scanned_sound c.requires.0 c.loop-i.invariant c.loop-i-test.true (omega (arith, c.count_of-a.ensures)) (omega (arith, c.count_of-b.ensures)) (omega (arith, c.count_of-c.ensures)) (omega (arith, c.count_of-d.ensures)) c.sound.ensures w.if-not-sound.false w.first-is w.end-is
     ]
 
 pub returns : goal.returns

@@ -1,12 +1,7 @@
 -- `search::start::unsound_minutes` meets its contract. The invariant: so far as step i, the unsound minutes lie from `first` on and before `end`.
 use Prim.Native.Nat.{◌-◌}
-use mathlib.Core.Logic.{⊎_elim}
-use native.Mathlib.Omega.{arith}
-use borrow.Author.Rules.{rules}
-use borrow.Author.Tests.{not-true, not-false}
 use Rattle.profile.specs.Shows.{profile_of}
-use Rattle.profile.proofs.Balances.{in_columns}
-use Rattle.search.proofs.Unsounds.{Scanned, scanned_none, scanned_sound, scanned_unsound, scanned_done}
+use Rattle.search.proofs.Unsounds.{Scanned}
 use Rattle.search.proofs.start.unsound_minutes.Given as goal
 
 abbrev pub invariant-loop-i : goal.invariant-loop-i

@@ -1,5 +1,4 @@
 -- `search::walk::end_of` meets its contract.
-use borrow.Author.Rules.{rules}
 use native.Mathlib.Omega.{arith}
 use Rattle.search.proofs.walk.end_of.Goals as goal
 

@@ -1,14 +1,9 @@
-use Prim.Native.Nat.{◌-◌}
 use native.Mathlib.Omega.{arith}
-use borrow.Author.Rules.{rules}
 use Rattle.profile.specs.Shows.{profile_of}
-use Rattle.search.specs.Caps.{caps_in, room_under}
-use Rattle.search.proofs.Rooms.{Walk, walk_start, walk_fails, walk_on}
+use Rattle.search.specs.Caps.{caps_in}
+use Rattle.search.proofs.Rooms.{walk_start, walk_fails, walk_on}
 use Rattle.search.proofs.Unders.{step_room}
 use Rattle.search.proofs.walk.first_failing.Goals as goal
-
-pub overflow_add-until : goal.overflow_add-until
-overflow_add-until c = omega (arith, c.requires.0.ends_fit)
 
 pub loop-t-init : goal.loop-t-init
 loop-t-init c = walk_start _ c.requires.1
@@ -23,8 +18,8 @@ under_in-requires c =
 
 pub returns-then-minute-end : goal.returns-then-minute-end
 returns-then-minute-end c =
-    walk_fails c.under_in.result c.requires.0.formed.rises (step_room (profile_of c.args.n c.args.at.now c.args.counts.now) c.args.site (caps_in c.args.caps.now) c.args.draw.line c.args.draw.rate c.loop-t.i (search c.under_in.ensures))
-    c.loop-t.invariant c.loop-t-test.true c.?end_of_lem.ensures (omega (arith, c.larger-minute.ensures)) (omega (arith, c.requires.0.ends_fit)) (omega (arith, c.if-minute-end.true))
+    walk_fails c.under_in.result c.requires.0.formed.rises (step_room (profile_of c.args.n c.args.at.now c.args.counts.now) c.args.site (caps_in c.args.caps.now) c.args.draw.line c.args.draw.rate c.loop-t.i c.under_in.ensures)
+    c.loop-t.invariant c.loop-t-test.true c.end_of-end.ensures (omega (arith, c.larger-minute.ensures)) (omega (arith, c.requires.0.ends_fit)) (omega (arith, c.if-minute-end.true))
 
 pub overflow_add-i : goal.overflow_add-i
 overflow_add-i c = omega (arith, (c.loop-t.invariant.here c.loop-t-test.true).below, c.requires.0.formed.fits, c.requires.0.formed.at_size)
@@ -34,8 +29,8 @@ loop-t-smaller c = omega (arith, (c.loop-t.invariant.here c.loop-t-test.true).be
 
 pub loop-t-preserved : goal.loop-t-preserved
 loop-t-preserved c =
-    walk_on {m = c.larger-minute.result} c.under_in.result c.requires.0.formed.rises (step_room (profile_of c.args.n c.args.at.now c.args.counts.now) c.args.site (caps_in c.args.caps.now) c.args.draw.line c.args.draw.rate c.loop-t.i (search c.under_in.ensures))
-    c.loop-t.invariant c.loop-t-test.true c.?end_of_lem.ensures (omega (arith, c.larger-minute.ensures)) (omega (arith, c.if-minute-end.false)) (omega arith)
+    walk_on {m = c.larger-minute.result} c.under_in.result c.requires.0.formed.rises (step_room (profile_of c.args.n c.args.at.now c.args.counts.now) c.args.site (caps_in c.args.caps.now) c.args.draw.line c.args.draw.rate c.loop-t.i c.under_in.ensures)
+    c.loop-t.invariant c.loop-t-test.true c.end_of-end.ensures (omega (arith, c.larger-minute.ensures)) (omega (arith, c.if-minute-end.false)) (omega arith)
 
 pub returns : goal.returns
 returns c = λ v a b. c.loop-t.invariant.passed v a (omega arith)

@@ -1,11 +1,8 @@
 -- `search::walk::first_failing` meets its contract. The invariant: every minute before t has room, and t lies in step i.
 use Prim.Native.Nat.{◌-◌}
-use native.Mathlib.Omega.{arith}
-use borrow.Author.Rules.{rules}
 use Rattle.profile.specs.Shows.{profile_of}
 use Rattle.search.specs.Caps.{caps_in, room_under}
-use Rattle.search.proofs.Rooms.{Walk, walk_start, walk_fails, walk_on}
-use Rattle.search.proofs.Unders.{step_room}
+use Rattle.search.proofs.Rooms.{Walk}
 use Rattle.search.proofs.walk.first_failing.Given as goal
 
 abbrev pub invariant-loop-t : goal.invariant-loop-t

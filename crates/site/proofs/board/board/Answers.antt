@@ -5,7 +5,6 @@ use Rattle.rules.specs.Calls.{board}
 use Rattle.station.specs.View.{view}
 use Rattle.station.proofs.Refusing.{call_refused}
 use Rattle.site.proofs.OnTheBoard.{boardable, call_boarded}
-use borrow.Author.Rules.{rules}
 use Rattle.site.proofs.board.board.Goals as goal
 
 pub returns-then-refusal-gt0 : goal.returns-then-refusal-gt0

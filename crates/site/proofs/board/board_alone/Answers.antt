@@ -5,7 +5,6 @@ use Rattle.rules.specs.Calls.{board}
 use Rattle.station.specs.View.{view, station_of}
 use Rattle.station.proofs.Refusing.{call_refused}
 use Rattle.site.proofs.OnTheBoard.{boardable, room_left, alone_boardable, alone_boarded}
-use borrow.Author.Rules.{rules}
 use Rattle.site.proofs.board.board_alone.Goals as goal
 
 pub returns-then-number-gt0 : goal.returns-then-number-gt0

@@ -1,5 +1,5 @@
 use native.Mathlib.Omega.{arith}
-use Rattle.site.proofs.OnTheBoard.{BoardedFrom, room_left, boarded_first, boarded_last, feeder_boardable, board_few, boarded_on}
+use Rattle.site.proofs.OnTheBoard.{room_left, boarded_first, boarded_last, feeder_boardable, board_few, boarded_on}
 use borrow.Author.Rules.{rules}
 use Rattle.site.proofs.board.board_feeders.Goals as goal
 
@@ -13,14 +13,14 @@ pub bounds-station-i : goal.bounds-station-i
 bounds-station-i c = omega (arith, c.loop-i-test.true, c.loop-i.invariant.turns, c.requires.0.formed.few)
 
 pub board-here-requires : goal.board-here-requires
-board-here-requires c = feeder_boardable c.args.self c.requires.0 c.loop-i.invariant c.loop-i-test.true c.requires.1 (room_left c.args.asked.now c.args.answers.now c.none_held.ensures)
+board-here-requires c = feeder_boardable c.args.station c.requires.0 c.loop-i.invariant c.loop-i-test.true c.requires.1 (room_left c.args.asked.now c.args.answers.now c.none_held.ensures)
 
 pub overflow_add-looked : goal.overflow_add-looked
 overflow_add-looked c =
     omega (
       arith,
       c.requires.0.formed.few,
-      board_few c.args.self c.requires.0 c.loop-i.invariant c.loop-i-test.true c.board-here.ensures,
+      board_few c.args.station c.requires.0 c.loop-i.invariant c.loop-i-test.true c.board-here.ensures,
     )
 
 pub loop-i-smaller : goal.loop-i-smaller
@@ -28,7 +28,7 @@ loop-i-smaller c = omega (arith, c.loop-i-test.true)
 
 pub loop-i-preserved : goal.loop-i-preserved
 loop-i-preserved c =
-    boarded_on c.args.self c.requires.0 c.loop-i.invariant c.loop-i-test.true c.board-here.ensures
+    boarded_on c.args.station c.requires.0 c.loop-i.invariant c.loop-i-test.true c.board-here.ensures
     (search rules)
     (search)
     (search)

@@ -1,7 +1,7 @@
 use native.Mathlib.Omega.{arith}
 use Prim.Native.Nat.{◌-◌}
 use Rattle.station.specs.View.{feeder_at}
-use Rattle.site.proofs.FromTheLast.{DroppedFrom, dropped_none, dropped_on, dropped_all, meant_left}
+use Rattle.site.proofs.FromTheLast.{dropped_none, dropped_on, dropped_all, meant_left}
 use Rattle.site.proofs.clock.dropped_at.Goals as goal
 
 pub loop-k-init : goal.loop-k-init
@@ -17,7 +17,7 @@ pub meant-left-requires : goal.meant-left-requires
 meant-left-requires c = c.requires.columns (c.loop-k.k - 1) (omega (arith, c.loop-k-test.true, c.loop-k.invariant.turns))
 
 pub overflow_sub-dropped : goal.overflow_sub-dropped
-overflow_sub-dropped c = (meant_left (feeder_at c.args.self (c.loop-k.k - 1)).charges _ {p = c.meant-left.result} c.meant-left.ensures).1
+overflow_sub-dropped c = (meant_left (feeder_at c.args.station (c.loop-k.k - 1)).charges _ {p = c.meant-left.result} c.meant-left.ensures).1
 
 pub overflow_add-dropped : goal.overflow_add-dropped
 overflow_add-dropped c =
@@ -33,8 +33,8 @@ loop-k-smaller c = omega (arith, c.loop-k-test.true)
 
 pub loop-k-preserved : goal.loop-k-preserved
 loop-k-preserved c =
-    dropped_on c.args.self c.requires c.args.target c.loop-k.invariant c.loop-k-test.true
-    (meant_left (feeder_at c.args.self (c.loop-k.k - 1)).charges c.args.target {p = c.meant-left.result} (search c.meant-left.ensures))
+    dropped_on c.args.station c.requires c.args.target c.loop-k.invariant c.loop-k-test.true
+    (meant_left (feeder_at c.args.station (c.loop-k.k - 1)).charges c.args.target {p = c.meant-left.result} (search c.meant-left.ensures))
     (search)
     (search)
 

@@ -1,8 +1,5 @@
 -- So many charges of the feeders from k on are finished.
-use native.Mathlib.Omega.{arith}
-use Prim.Native.Nat.{◌-◌}
-use Rattle.station.specs.View.{feeder_at}
-use Rattle.site.proofs.FromTheLast.{DroppedFrom, dropped_none, dropped_on, dropped_all, meant_left}
+use Rattle.site.proofs.FromTheLast.{DroppedFrom}
 use Rattle.site.proofs.clock.dropped_at.Given as goal
 
 abbrev pub invariant-loop-k : goal.invariant-loop-k

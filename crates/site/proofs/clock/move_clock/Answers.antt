@@ -3,7 +3,6 @@ use native.Mathlib.Omega.{arith}
 use mathlib.Core.Path.{◌≡◌}
 use Rattle.station.proofs.Views.{view_length}
 use Rattle.site.proofs.Moved.{movable, call_moved, move_refused}
-use borrow.Author.Rules.{rules}
 use Rattle.site.proofs.clock.move_clock.Goals as goal
 
 pub returns-then-refusal-gt0 : goal.returns-then-refusal-gt0

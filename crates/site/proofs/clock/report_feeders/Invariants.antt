@@ -1,9 +1,5 @@
 -- The feeders from i on are reported, and each has room for all that it may hold.
-use native.Mathlib.Omega.{arith}
-use Prim.Native.Nat.{◌-◌}
-use Rattle.station.proofs.Held.{valid_listed}
-use Rattle.site.proofs.Reported.{ReportedFrom, reported_none, reported_all, report_few, feeder_can, reported_on}
-use borrow.Author.Rules.{rules}
+use Rattle.site.proofs.Reported.{ReportedFrom}
 use Rattle.site.proofs.clock.report_feeders.Given as goal
 
 abbrev pub invariant-loop-i : goal.invariant-loop-i

@@ -1,17 +1,6 @@
 -- The feeder is put in its place, and a clock that rises drops finished charges.
 use Rattle.station.proofs.Moves.{put_formed, after_moved, after_still}
-use native.Mathlib.Omega.{arith}
-use borrow.Author.Rules.{rules}
 use Rattle.station.proofs.Station.after.Goals as goal
-
-pub offset_bounds-self-place : goal.offset_bounds-self-place
-offset_bounds-self-place c = omega (arith, c.requires.0.few, c.requires.1.inside)
-
-pub bounds-self-place : goal.bounds-self-place
-bounds-self-place c = omega (arith, c.requires.0.few, c.requires.1.inside)
-
-pub moved-requires : goal.moved-requires
-moved-requires c = put_formed _ c.requires.0 _ c.requires.1
 
 pub returns-then-self-clock : goal.returns-then-self-clock
 returns-then-self-clock c = (c.moved.ensures.0, after_moved _ c.requires.0 _ c.requires.1 c.moved.result c.if-self-clock.true c.moved.ensures.1)

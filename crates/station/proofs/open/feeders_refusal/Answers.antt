@@ -1,27 +1,21 @@
-use mathlib.Core.Path.{◌≡◌, refl, ap, ◌∙◌}
-use Prim.Native.Nat.{◌-◌, ◌≤◌}
+use mathlib.Core.Path.{◌≡◌, ap, ◌∙◌}
 use native.Mathlib.Omega.{arith}
 use Rattle.rules.specs.Basics.{tabulate, first_of}
 use Rattle.station.specs.Opened.{settings_of, settings_at, feeder_refusals}
 use Rattle.station.proofs.FeederRefusals.{refusals_next}
-use borrow.Author.Rules.{rules}
 use Rattle.station.proofs.open.feeders_refusal.Goals as goal
 
-pub loop-i-init : goal.loop-i-init
-loop-i-init c = (omega arith, refl)
-
 pub loop-i-preserved : goal.loop-i-preserved
-loop-i-preserved c =
-    (
-      omega arith,
-      c.earlier-first.ensures
-          ∙ refusals_next (settings_at c.args.asked) c.loop-i.i c.loop-i.first
-          c.feeder_refusal-refusal.result
-          (settings_of c.settings_at-settings.result)
-          c.loop-i.invariant.1
-          c.settings_at-settings.ensures
-          c.feeder_refusal-refusal.ensures,
-    )
+loop-i-preserved c = (
+  omega arith,
+  c.earlier-first.ensures
+      ∙ refusals_next (settings_at c.args.asked) c.loop-i.i c.loop-i.first
+      c.feeder_refusal-refusal.result
+      (settings_of c.settings_at-settings.result)
+      c.loop-i.invariant.1
+      c.settings_at-settings.ensures
+      c.feeder_refusal-refusal.ensures,
+)
 
 pub returns : goal.returns
 returns c =

@@ -1,15 +1,9 @@
 -- The number of the feeders so far, and each turn takes one more.
-use mathlib.Core.Path.{◌≡◌, refl, ap, ◌∙◌}
-use Prim.Native.Nat.{◌-◌, ◌≤◌}
-use native.Mathlib.Omega.{arith}
+use mathlib.Core.Path.{◌≡◌}
+use Prim.Native.Nat.{◌≤◌}
 use Rattle.rules.specs.Basics.{tabulate, first_of}
-use Rattle.station.specs.Opened.{settings_of, settings_at, feeder_refusals}
-use Rattle.station.proofs.FeederRefusals.{refusals_next}
-use borrow.Author.Rules.{rules}
+use Rattle.station.specs.Opened.{settings_at, feeder_refusals}
 use Rattle.station.proofs.open.feeders_refusal.Given as goal
 
 abbrev pub invariant-loop-i : goal.invariant-loop-i
 invariant-loop-i l = (l.i ≤ l.i-end) × (l.first ≡ first_of (feeder_refusals (tabulate (settings_at l.asked) l.i 0)))
-
-abbrev pub decreases-loop-i : goal.decreases-loop-i
-decreases-loop-i l = l.i-end - l.i

@@ -1,7 +1,6 @@
 -- A feeder past the count is unused; one up to it is not refused, so that its product is at most 6,000.
 use native.Mathlib.Omega.{arith}
 use Rattle.station.proofs.FreshFeeders.{product_granted, feeder_used, feeder_unused}
-use borrow.Author.Rules.{rules}
 use Rattle.station.proofs.open.fresh_at.Goals as goal
 
 pub returns-then-asked-place : goal.returns-then-asked-place

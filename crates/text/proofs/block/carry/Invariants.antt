@@ -1,11 +1,9 @@
 -- `text::carry` meets its contract: byte by byte, the line stands at the front, and no byte is overwritten before it is moved.
-use mathlib.Core.Path.{◌≡◌, refl, ◌∙◌}
+use mathlib.Core.Path.{◌≡◌}
 use mathlib.Core.List.{◌++◌}
 use Prim.Native.Nat.{◌-◌, ◌≤◌}
-use native.Mathlib.Omega.{arith}
-use lib.ListN.{length, take, drop, length-set}
+use lib.ListN.{length, take, drop}
 use lib.Seq.{slice}
-use Rattle.text.proofs.Blocks.{carried_more, carried_all}
 use Rattle.text.proofs.block.carry.Given as goal
 
 abbrev pub invariant-loop-i : goal.invariant-loop-i

@@ -1,7 +1,6 @@
 -- `text::print_two` meets its contract: its parts are printed one after another.
 use Rattle.text.proofs.Printing.{printed_as, printed_then}
-use borrow.Author.Rules.{rules}
 use Rattle.text.proofs.fields.print_two.Goals as goal
 
 pub returns : goal.returns
-returns c = printed_as (printed_then c.print_field-a.ensures.0 c.print_one.ensures) (search)
+returns c = printed_as (printed_then c.print_field-a.ensures.printed c.print_one.ensures) (search)

@@ -1,9 +1,8 @@
-use mathlib.Core.Path.{◌≡◌, sym, ◌∙◌}
-use Prim.Native.Nat.{◌+◌, ◌-◌, ◌≤◌}
+use mathlib.Core.Path.{sym, ◌∙◌}
+use Prim.Native.Nat.{◌+◌, ◌-◌}
 use native.Mathlib.Omega.{arith}
 use lib.ListN.{get_or}
 use lib.Seq.{slice}
-use Rattle.text.specs.Numbers.{number_of, value_from}
 use Rattle.text.proofs.Values.{no_word, some_word, a_digit, below_digits, above_digits, digit_kept, value_left, too_large_left}
 use Rattle.text.proofs.number.read_number.Goals as goal
 

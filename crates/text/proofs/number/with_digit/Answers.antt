@@ -1,6 +1,5 @@
 -- `text::with_digit` meets its contract, by the test.
 use borrow.Author.Tests.{lt-ltb, le-ltb}
-use borrow.Author.Rules.{rules}
 use Rattle.text.proofs.number.with_digit.Goals as goal
 
 pub returns-then-value-lt4294967296 : goal.returns-then-value-lt4294967296

@@ -1,8 +1,5 @@
-use mathlib.Core.Path.{◌≡◌, refl, sym, ◌∙◌}
-use Prim.Native.Nat.{◌≤◌, ◌-◌}
+use mathlib.Core.Path.{refl, sym, ◌∙◌}
 use native.Mathlib.Omega.{arith}
-use lib.ListN.{length, drop}
-use Rattle.text.specs.Parts.{same_text}
 use Rattle.text.proofs.Splitting.{lengths_differ, byte_same, byte_differs, all_same}
 use Rattle.text.proofs.part.same_text.Goals as goal
 
@@ -16,11 +13,10 @@ pub returns-then-a-i : goal.returns-then-a-i
 returns-then-a-i c = sym (c.loop-i.invariant.1 ∙ byte_differs c.args.a.now c.args.b.now c.loop-i.i (omega arith) (omega arith) c.if-a-i.true)
 
 pub loop-i-preserved : goal.loop-i-preserved
-loop-i-preserved c =
-    (
-      omega arith,
-      c.loop-i.invariant.1 ∙ byte_same c.args.a.now c.args.b.now c.loop-i.i (omega arith) (omega arith) c.if-a-i.false,
-    )
+loop-i-preserved c = (
+  omega arith,
+  c.loop-i.invariant.1 ∙ byte_same c.args.a.now c.args.b.now c.loop-i.i (omega arith) (omega arith) c.if-a-i.false,
+)
 
 pub returns : goal.returns
 returns c = sym (c.loop-i.invariant.1 ∙ all_same c.args.a.now c.args.b.now c.loop-i.i (omega arith) (omega arith))

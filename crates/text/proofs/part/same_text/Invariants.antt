@@ -1,10 +1,8 @@
 -- `text::same_text` meets its contract. What is left to compare says whether the whole texts are the same.
-use mathlib.Core.Path.{◌≡◌, refl, sym, ◌∙◌}
+use mathlib.Core.Path.{◌≡◌}
 use Prim.Native.Nat.{◌≤◌, ◌-◌}
-use native.Mathlib.Omega.{arith}
 use lib.ListN.{length, drop}
 use Rattle.text.specs.Parts.{same_text}
-use Rattle.text.proofs.Splitting.{lengths_differ, byte_same, byte_differs, all_same}
 use Rattle.text.proofs.part.same_text.Given as goal
 
 abbrev pub invariant-loop-i : goal.invariant-loop-i

@@ -2,11 +2,13 @@
 use native.Mathlib.Omega.{arith}
 use Rattle.text.proofs.Values.{length_decimal}
 use Rattle.text.proofs.Printing.{printed_then}
-use borrow.Author.Rules.{rules}
 use Rattle.text.proofs.printer.print_field.Goals as goal
 
 pub print_decimal-requires : goal.print_decimal-requires
-print_decimal-requires c = omega (arith, length_decimal c.args.n, c.print_text-next.ensures.place, c.print_text-next.auto.1.0)
+print_decimal-requires c = omega (arith, length_decimal c.args.n, c.print_text-next.ensures.place, c.print_text-next.auto.buffer)
 
 pub returns : goal.returns
-returns c = (printed_then c.print_text-next.ensures c.print_decimal.ensures, omega (arith, length_decimal c.args.n, c.print_text-next.ensures.place, c.print_decimal.ensures.place))
+returns c = record {
+  printed = printed_then c.print_text-next.ensures c.print_decimal.ensures;
+  upper_bound = omega (arith, length_decimal c.args.n, c.print_text-next.ensures.place, c.print_decimal.ensures.place);
+}

@@ -1,10 +1,8 @@
 -- `text::print_text` meets its contract: byte by byte, the text so far is printed.
-use mathlib.Core.Path.{◌≡◌, refl}
+use mathlib.Core.Path.{◌≡◌}
 use Prim.Native.Nat.{◌+◌, ◌-◌, ◌≤◌}
-use native.Mathlib.Omega.{arith}
-use lib.ListN.{length, take, length-set}
+use lib.ListN.{length, take}
 use Rattle.text.specs.Printed.{Printed}
-use Rattle.text.proofs.Printing.{printed_more, printed_all}
 use Rattle.text.proofs.printer.print_text.Given as goal
 
 abbrev pub invariant-loop-i : goal.invariant-loop-i

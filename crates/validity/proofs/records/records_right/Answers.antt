@@ -1,7 +1,4 @@
 use mathlib.Core.Path.{◌≡◌, sym, ◌∙◌, ap}
-use mathlib.Core.Bool.{true}
-use Prim.Native.Nat.{◌≤◌, ◌-◌}
-use borrow.Author.Tests.{not-true, not-false}
 use Rattle.layout.specs.Lists.{every}
 use Rattle.layout.specs.Validity.{record_right}
 use Rattle.layout.proofs.Listing.{every_none, every_more, every_not}
@@ -14,38 +11,36 @@ pub loop-q-init : goal.loop-q-init
 loop-q-init c = (omega arith, every_none _)
 
 pub ticket_rises-requires : goal.ticket_rises-requires
-ticket_rises-requires c = (c.requires.columns.few, c.?loop-test.true)
+ticket_rises-requires c = (c.requires.columns.few, c.loop-q-test.true)
 
 pub returns-then-not-ticket_rises : goal.returns-then-not-ticket_rises
 returns-then-not-ticket_rises c =
     sym
-    (every_not (record_right (single c.args.one)) (held_by c.args.one).held c.?loop.q c.?loop-test.true
-    (ticket_fails c.args.one c.?loop.q _ c.?loop-test.true c.ticket_rises.ensures (not-true _ c.if-not-ticket_rises.true)))
+    (every_not (record_right (single c.args.one)) (held_by c.args.one).held c.loop-q.q c.loop-q-test.true
+    (ticket_fails c.args.one c.loop-q.q _ c.loop-q-test.true c.ticket_rises.ensures c.if-not-ticket_rises.true))
 
 pub charge_valid-requires : goal.charge_valid-requires
-charge_valid-requires c =
-    (
-      (settled_ranged c.args.one c.requires).next_low,
-      c.requires.active c.?loop.q c.?loop-test.true,
-    )
+charge_valid-requires c = (
+  (settled_ranged c.args.one c.requires).next_low,
+  c.requires.active c.loop-q.q c.loop-q-test.true,
+)
 
 pub returns-then-not-charge_valid : goal.returns-then-not-charge_valid
 returns-then-not-charge_valid c =
     sym
-    (every_not (record_right (single c.args.one)) (held_by c.args.one).held c.?loop.q c.?loop-test.true
-    (record_is c.args.one c.?loop.q _ c.?charge_valid_lem.result c.?loop-test.true c.ticket_rises.ensures
-    (not-false _ c.if-not-ticket_rises.false) (search c.?charge_valid_lem.ensures)
-    ∙ not-true _ c.if-not-charge_valid.true))
+    (every_not (record_right (single c.args.one)) (held_by c.args.one).held c.loop-q.q c.loop-q-test.true
+    (record_is c.args.one c.loop-q.q _ c.charge_valid.result c.loop-q-test.true c.ticket_rises.ensures
+    c.if-not-ticket_rises.false c.charge_valid.ensures
+    ∙ c.if-not-charge_valid.true))
 
 pub loop-q-preserved : goal.loop-q-preserved
-loop-q-preserved c =
-    (
-      omega arith,
-      every_more (record_right (single c.args.one)) c.?loop.q c.?loop.invariant.1
-          (record_is c.args.one c.?loop.q _ c.?charge_valid_lem.result c.?loop-test.true c.ticket_rises.ensures
-          (not-false _ c.if-not-ticket_rises.false) (search c.?charge_valid_lem.ensures)
-          ∙ not-false _ c.if-not-charge_valid.false),
-    )
+loop-q-preserved c = (
+  omega arith,
+  every_more (record_right (single c.args.one)) c.loop-q.q c.loop-q.invariant.1
+      (record_is c.args.one c.loop-q.q _ c.charge_valid.result c.loop-q-test.true c.ticket_rises.ensures
+      c.if-not-ticket_rises.false c.charge_valid.ensures
+      ∙ c.if-not-charge_valid.false),
+)
 
 pub returns : goal.returns
 returns c =

@@ -1,14 +1,10 @@
 -- The loop has found every record before it right.
-use mathlib.Core.Path.{◌≡◌, sym, ◌∙◌, ap}
+use mathlib.Core.Path.{◌≡◌}
 use mathlib.Core.Bool.{true}
 use Prim.Native.Nat.{◌≤◌, ◌-◌}
-use borrow.Author.Tests.{not-true, not-false}
 use Rattle.layout.specs.Lists.{every}
 use Rattle.layout.specs.Validity.{record_right}
-use Rattle.layout.proofs.Listing.{every_none, every_more, every_not}
-use Rattle.validity.specs.Settled.{held_by, single}
-use Rattle.validity.proofs.Settling.{ticket_fails, record_is, settled_ranged}
-use native.Mathlib.Omega.{arith}
+use Rattle.validity.specs.Settled.{single}
 use Rattle.validity.proofs.records.records_right.Given as goal
 
 abbrev pub invariant-loop-q : goal.invariant-loop-q

@@ -1,6 +1,5 @@
 -- Behind the last charge stands the next ticket.
 use borrow.Author.Tests.{lt-ltb, le-ltb}
-use borrow.Author.Rules.{rules}
 use Rattle.validity.proofs.records.ticket_or_next.Goals as goal
 
 pub returns-then-q-held : goal.returns-then-q-held

@@ -1,5 +1,6 @@
 -- The order's feeder is taken out at the place of its number, and put back with the new charge.
-use mathlib.Core.Path.{ap}
+use mathlib.Core.Path.{refl, ap}
+use Rattle.station.specs.View.{Names}
 use native.Mathlib.Omega.{arith}
 use Rattle.rules.specs.Calls.{Result}
 use Rattle.ordering.specs.Ordered.{commit_of}
@@ -9,18 +10,18 @@ use borrow.Author.Rules.{rules}
 use Rattle.calls.proofs.yard.Yard.commit.Goals as goal
 
 pub commit-done-requires : goal.commit-done-requires
-commit-done-requires c =
-    (
-      c.args.self.station,
-      (
-        one_of c.requires c.place_of-place.ensures.inside c.one-one.ensures,
-        place_names c.args.self.station c.one-one.ensures c.place_of-place.ensures (omega arith) (omega arith),
-        ap (λ (r : Result). r.answer) c.preview-found.ensures.result,
-      ),
-    )
+commit-done-requires c = (
+  c.args.self.station,
+  (
+    one_of c.requires c.place_of-place.ensures.inside c.one-one.ensures,
+    place_names c.args.self.station c.one-one.ensures c.place_of-place.ensures (omega arith) (omega arith),
+    ap (λ (r : Result). r.answer) c.preview-found.ensures.result,
+  ),
+)
 
 pub returns : goal.returns
-unfolding commit-requires
 returns c =
-    let h = commit-requires c tt in
-    put_gives (commit_of c.args.order c.args.shown) c.requires c.one-one.ensures (c.commit-done.ensures.0 h.0 h.1.0 h.1.1 h.1.2) c.commit-done.ensures.1 (search rules)
+    let named : Names c.one-one.result c.args.order.feeder = place_names c.args.self.station c.one-one.ensures c.place_of-place.ensures refl refl in
+    put_gives (commit_of c.args.order c.args.shown) c.requires c.one-one.ensures
+    (c.commit-done.ensures.leaves c.args.self.station (one_of c.requires c.place_of-place.ensures.inside c.one-one.ensures) named (ap (λ (r : Result). r.answer) c.preview-found.ensures.result))
+    c.commit-done.ensures.same_head (search rules)

@@ -10,13 +10,7 @@ use Rattle.calls.proofs.yard.Yard.replan_lines.Goals as goal
 pub replan_lines-done-requires : goal.replan_lines-done-requires
 replan_lines-done-requires c = can_plan (parts_of c.requires c.place_of-place.ensures.inside c.taken_out-parts.ensures) (parts_around c.requires c.place_of-place.ensures.inside c.taken_out-parts.ensures (rw (held_is c.taken_out-parts.ensures.beside)))
 
-pub offset_bounds-station-place : goal.offset_bounds-station-place
-offset_bounds-station-place c = omega (arith, c.place_of-place.ensures.inside, c.requires.formed.few)
-
-pub bounds-station-place : goal.bounds-station-place
-bounds-station-place c = omega (arith, c.place_of-place.ensures.inside, c.requires.formed.few)
-
 pub returns : goal.returns
 returns c =
-    put_gives (replan_lines c.args.feeder c.args.allowance) c.requires c.taken_out-parts.ensures.true (c.replan_lines-done.ensures.0 _ (parts_of c.requires c.place_of-place.ensures.inside c.taken_out-parts.ensures) (parts_around c.requires c.place_of-place.ensures.inside c.taken_out-parts.ensures (rw (held_is c.taken_out-parts.ensures.beside)))
-    (place_names c.args.self.station c.taken_out-parts.ensures.true c.place_of-place.ensures (omega arith) (omega arith))) c.replan_lines-done.ensures.1 (search rules)
+    put_gives (replan_lines c.args.feeder c.args.allowance) c.requires c.taken_out-parts.ensures.taken (c.replan_lines-done.ensures.leaves _ (parts_of c.requires c.place_of-place.ensures.inside c.taken_out-parts.ensures) (parts_around c.requires c.place_of-place.ensures.inside c.taken_out-parts.ensures (rw (held_is c.taken_out-parts.ensures.beside)))
+    (place_names c.args.self.station c.taken_out-parts.ensures.taken c.place_of-place.ensures (omega arith) (omega arith))) c.replan_lines-done.ensures.same_head (search rules)

@@ -9,13 +9,7 @@ use Rattle.calls.proofs.yard.Yard.withdraw.Goals as goal
 pub withdraw-done-requires : goal.withdraw-done-requires
 withdraw-done-requires c = can_withdraw (parts_of c.requires c.holding-place.ensures.inside c.taken_out-parts.ensures) (parts_around c.requires c.holding-place.ensures.inside c.taken_out-parts.ensures (rw (held_is c.taken_out-parts.ensures.beside)))
 
-pub offset_bounds-station-place : goal.offset_bounds-station-place
-offset_bounds-station-place c = omega (arith, c.holding-place.ensures.inside, c.requires.formed.few)
-
-pub bounds-station-place : goal.bounds-station-place
-bounds-station-place c = omega (arith, c.holding-place.ensures.inside, c.requires.formed.few)
-
 pub returns : goal.returns
 returns c =
-    put_gives (withdraw c.args.ticket) c.requires c.taken_out-parts.ensures.true (c.withdraw-done.ensures.0 _ (parts_of c.requires c.holding-place.ensures.inside c.taken_out-parts.ensures) (parts_around c.requires c.holding-place.ensures.inside c.taken_out-parts.ensures (rw (held_is c.taken_out-parts.ensures.beside)))
-    (place_holds c.taken_out-parts.ensures.true c.holding-place.ensures (omega arith) (omega arith))) c.withdraw-done.ensures.1 (search rules)
+    put_gives (withdraw c.args.ticket) c.requires c.taken_out-parts.ensures.taken (c.withdraw-done.ensures.leaves _ (parts_of c.requires c.holding-place.ensures.inside c.taken_out-parts.ensures) (parts_around c.requires c.holding-place.ensures.inside c.taken_out-parts.ensures (rw (held_is c.taken_out-parts.ensures.beside)))
+    (place_holds c.taken_out-parts.ensures.taken c.holding-place.ensures (omega arith) (omega arith))) c.withdraw-done.ensures.same_head (search rules)

@@ -1,5 +1,4 @@
 -- `search::caps::LineCaps::lower` meets its contract.
-use borrow.Author.Rules.{rules}
 use native.Mathlib.Omega.{arith}
 use Rattle.search.proofs.Lowerings.{caps_other, caps_lowered}
 use Rattle.search.proofs.caps.LineCaps.lower.Goals as goal

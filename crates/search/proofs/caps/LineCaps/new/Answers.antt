@@ -1,6 +1,5 @@
 -- `search::caps::LineCaps::new` meets its contract.
 use native.Mathlib.Omega.{arith}
-use borrow.Author.Rules.{rules}
 use Rattle.search.proofs.Lowerings.{unlowered_shown}
 use Rattle.search.proofs.caps.LineCaps.new.Goals as goal
 

@@ -1,9 +1,0 @@
--- Within the list, and behind it.
-use mathlib.Core.Path.{sym}
-use native.Mathlib.Omega.{arith}
-use lib.ListN.{get_or-eq_default}
-use borrow.Author.Rules.{rules}
-use Rattle.bus.proofs.given.number_at.Goals as goal
-
-pub returns-else-i-numbers : goal.returns-else-i-numbers
-returns-else-i-numbers c = sym (get_or-eq_default c.args.numbers.now 0 (omega arith))
