@@ -8,14 +8,8 @@ use Rattle.page.proofs.Aligning.{printed_as}
 use Rattle.page.proofs.Paging.{texts_none, page_more, whole_pages}
 use Rattle.page.proofs.pages.print_pages.Goals as goal
 
-pub page_count-count-requires : goal.page_count-count-requires
-page_count-count-requires c = c.requires.0.few
-
 pub loop-k-init : goal.loop-k-init
 loop-k-init c = (omega arith, refl, omega arith, printed_as (printed_none c.args.buffer.now 0 (omega arith)) (sym (texts_none (page c.args.clock (charges_of c.args.charges)))))
-
-pub print_page-next-requires : goal.print_page-next-requires
-print_page-next-requires c = (c.requires.0, c.requires.1, omega (arith, c.page_count-count.ensures.1), omega (arith, c.page_count-count.ensures.1, c.loop-k.invariant.1, c.loop-k.invariant.2, c.requires.2))
 
 pub loop-k-preserved : goal.loop-k-preserved
 loop-k-preserved c = (
@@ -24,9 +18,6 @@ loop-k-preserved c = (
   omega (arith, c.print_page-next.ensures.value, c.loop-k.invariant.2),
   printed_as (printed_then c.loop-k.invariant.3 c.print_page-next.ensures.printed) (page_more c.args.clock (charges_of c.args.charges) _ c.loop-k.k (search)),
 )
-
-pub shape_of-buffer : goal.shape_of-buffer
-shape_of-buffer c = c.loop-k.invariant.1
 
 pub returns : goal.returns
 returns c =

@@ -9,9 +9,6 @@ use Rattle.page.proofs.pages.print_rows.Goals as goal
 pub loop-i-init : goal.loop-i-init
 loop-i-init c = (omega arith, refl, omega arith, printed_as (printed_none c.args.buffer.now c.args.at (omega (arith, c.requires.3))) (no_row c.args.clock (charges_of c.args.charges) c.args.k))
 
-pub print_place-next-requires : goal.print_place-next-requires
-print_place-next-requires c = (c.requires.0, c.requires.1, omega (arith, c.loop-i.invariant.0, c.loop-i.invariant.1, c.loop-i.invariant.2, c.requires.3))
-
 pub loop-i-preserved : goal.loop-i-preserved
 loop-i-preserved c = (
   omega arith,
@@ -19,9 +16,6 @@ loop-i-preserved c = (
   omega (arith, c.print_place-next.ensures.value, c.loop-i.invariant.2),
   printed_as (printed_then c.loop-i.invariant.3 c.print_place-next.ensures.printed) (row_more c.args.clock (charges_of c.args.charges) c.args.k _ c.loop-i.i (search)),
 )
-
-pub shape_of-buffer : goal.shape_of-buffer
-shape_of-buffer c = c.loop-i.invariant.1
 
 pub returns : goal.returns
 returns c = record {

@@ -1,11 +1,7 @@
-use mathlib.Core.Path.{◌≡◌, refl}
 use native.Mathlib.Omega.{arith}
 use lib.ListN.{length-set}
 use Rattle.page.proofs.Aligning.{printed_space}
 use Rattle.page.proofs.row.print_spaces.Goals as goal
-
-pub loop-i-init : goal.loop-i-init
-loop-i-init c = (omega arith, refl, record { bytes = refl; place = refl; within = omega arith })
 
 pub loop-i-preserved : goal.loop-i-preserved
 loop-i-preserved c = (
@@ -13,8 +9,3 @@ loop-i-preserved c = (
   simp length-set c.loop-i.invariant.1,
   printed_space c.args.buffer.now c.args.at c.loop-i.i c.loop-i.buffer (search) (omega arith) c.loop-i.invariant.2,
 )
-
-pub returns : goal.returns
-returns c =
-    let e : c.args.count ≡ c.loop-i.i = omega arith in
-    rw e c.loop-i.invariant.2

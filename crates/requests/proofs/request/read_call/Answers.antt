@@ -3,7 +3,6 @@ use mathlib.Core.Path.{◌≡◌, sym, ◌∙◌}
 use Prim.Native.Nat.{ℕ, ◌≤◌}
 use native.Mathlib.Omega.{arith}
 use lib.ListN.{length}
-use lib.Seq.{length-take-le}
 use Rattle.text.specs.Parts.{parts_after}
 use Rattle.requests.specs.Requests.{AtMost, Within}
 use Rattle.requests.specs.declared.request.Takes.{Takes}
@@ -22,17 +21,6 @@ count_few most count e few = rw e at few
 
 pub returns-in_default : goal.returns-in_default
 returns-in_default c = call_unknown _ _ c.args.numbers.now (sym c.taken-takes.ensures.0 ∙ c.in_default.is)
-
-pub read_numbers-read-requires : goal.read_numbers-read-requires
-read_numbers-read-requires c =
-    (c.requires.0, omega (arith, most_few c.in-Between.least c.in-Between.most c.in-Between.is c.taken-takes.ensures.1, c.requires.1))
-
-pub slice_bounds-call_of-end : goal.slice_bounds-call_of-end
-slice_bounds-call_of-end c =
-    omega (arith, count_few c.in-Between.most c.in-Count.count c.in-Count.is c.read_numbers-read.ensures.few, most_few c.in-Between.least c.in-Between.most c.in-Between.is c.taken-takes.ensures.1, c.read_numbers-read.auto.numbers, c.requires.1)
-
-pub slice_bounds-call_of-end-in-Count : goal.slice_bounds-call_of-end-in-Count
-slice_bounds-call_of-end-in-Count c = sym (length-take-le _ _ (slice_bounds-call_of-end c))
 
 pub returns-in-Wrong : goal.returns-in-Wrong
 returns-in-Wrong c =

@@ -1,6 +1,4 @@
 -- `requests::read_request` meets its contract: the tests in their order, and then the call.
-use mathlib.Core.Path.{sym}
-use lib.Seq.{length-take-le}
 use Rattle.requests.proofs.Reading.{text_too_long, text_empty, text_comment, text_call}
 use native.Mathlib.Omega.{arith}
 use Rattle.requests.proofs.request.read_request.Goals as goal
@@ -13,9 +11,6 @@ returns-then-text-eq0 c = text_empty c.args.text.now c.args.numbers.now (omega (
 
 pub returns-then-text-eq35 : goal.returns-then-text-eq35
 returns-then-text-eq35 c = text_comment c.args.text.now c.args.numbers.now (omega (arith, c.if-text-gt4096.false)) c.if-text-eq0.false (omega (arith, c.if-text-eq35.true))
-
-pub slice_bounds-call_named-end : goal.slice_bounds-call_named-end
-slice_bounds-call_named-end c = sym (length-take-le _ _ c.part_end-end.ensures.high)
 
 pub returns : goal.returns
 returns c = text_call c.args.text.now c.args.numbers.now (omega (arith, c.if-text-gt4096.false)) c.if-text-eq0.false c.part_end-end.result c.call_named-name.result (λ e. omega (arith, e, c.if-text-eq35.false)) c.part_end-end.ensures c.call_named-name.ensures c.read_call.ensures

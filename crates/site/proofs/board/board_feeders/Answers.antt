@@ -1,16 +1,10 @@
 use native.Mathlib.Omega.{arith}
-use Rattle.site.proofs.OnTheBoard.{room_left, boarded_first, boarded_last, feeder_boardable, board_few, boarded_on}
+use Rattle.site.proofs.OnTheBoard.{room_left, boarded_first, feeder_boardable, board_few, boarded_on}
 use borrow.Author.Rules.{rules}
 use Rattle.site.proofs.board.board_feeders.Goals as goal
 
 pub loop-i-init : goal.loop-i-init
 loop-i-init c = boarded_first _ _ _ (omega arith) (omega arith)
-
-pub offset_bounds-station-i : goal.offset_bounds-station-i
-offset_bounds-station-i c = omega (arith, c.loop-i-test.true, c.loop-i.invariant.turns, c.requires.0.formed.few)
-
-pub bounds-station-i : goal.bounds-station-i
-bounds-station-i c = omega (arith, c.loop-i-test.true, c.loop-i.invariant.turns, c.requires.0.formed.few)
 
 pub board-here-requires : goal.board-here-requires
 board-here-requires c = feeder_boardable c.args.station c.requires.0 c.loop-i.invariant c.loop-i-test.true c.requires.1 (room_left c.args.asked.now c.args.answers.now c.none_held.ensures)
@@ -23,15 +17,9 @@ overflow_add-looked c =
       board_few c.args.station c.requires.0 c.loop-i.invariant c.loop-i-test.true c.board-here.ensures,
     )
 
-pub loop-i-smaller : goal.loop-i-smaller
-loop-i-smaller c = omega (arith, c.loop-i-test.true)
-
 pub loop-i-preserved : goal.loop-i-preserved
 loop-i-preserved c =
     boarded_on c.args.station c.requires.0 c.loop-i.invariant c.loop-i-test.true c.board-here.ensures
     (search rules)
     (search)
     (search)
-
-pub returns : goal.returns
-returns c = boarded_last c.args.answers.now c.loop-i.invariant (omega (arith, c.loop-i-test.false)) c.none_held.ensures

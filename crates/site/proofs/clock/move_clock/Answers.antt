@@ -1,8 +1,7 @@
 -- With no refusal the pairs of all passed charges fit in the list; what is left is the first feeder, with the clock moved.
 use native.Mathlib.Omega.{arith}
 use mathlib.Core.Path.{◌≡◌}
-use Rattle.station.proofs.Views.{view_length}
-use Rattle.site.proofs.Moved.{movable, call_moved, move_refused}
+use Rattle.site.proofs.Moved.{call_moved, move_refused}
 use Rattle.site.proofs.clock.move_clock.Goals as goal
 
 pub returns-then-refusal-gt0 : goal.returns-then-refusal-gt0
@@ -12,12 +11,6 @@ returns-then-refusal-gt0 c =
     (search)
     (search)
     c.one-left.ensures
-
-pub report_feeders-reported-requires : goal.report_feeders-reported-requires
-report_feeders-reported-requires c =
-    let z : c.move_refusal-refusal.result ≡ 0 = omega (arith, c.if-refusal-gt0.false) in
-    let m = movable c.args.station c.args.target c.args.report.now (search c.move_refusal-refusal.ensures) z in
-    (c.requires, omega (arith, m.list_long, view_length c.args.station))
 
 pub returns : goal.returns
 returns c =

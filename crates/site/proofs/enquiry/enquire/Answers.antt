@@ -9,12 +9,6 @@ use Rattle.site.proofs.enquiry.enquire.Goals as goal
 pub returns-in_default : goal.returns-in_default
 returns-in_default c = enquired_nobody c.args.station c.args.ticket (subst (HolderOf c.args.station c.args.ticket) c.in_default.is c.holder.ensures)
 
-pub offset_bounds-station-k : goal.offset_bounds-station-k
-offset_bounds-station-k c = omega (arith, (subst (HolderOf c.args.station c.args.ticket) c.in-At.is c.holder.ensures).inside, c.requires.formed.few)
-
-pub bounds-station-k : goal.bounds-station-k
-bounds-station-k c = omega (arith, (subst (HolderOf c.args.station c.args.ticket) c.in-At.is c.holder.ensures).inside, c.requires.formed.few)
-
 pub told-requires : goal.told-requires
 told-requires c = valid_listed c.args.station c.requires _ (omega (arith, (subst (HolderOf c.args.station c.args.ticket) c.in-At.is c.holder.ensures).inside))
 

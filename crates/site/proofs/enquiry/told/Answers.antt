@@ -5,9 +5,6 @@ use Rattle.charges.specs.Arrays.{charge_at, found_at}
 use Rattle.site.proofs.Telling.{found_held, found_inside, told_none, told_found, told_charging, told_waiting}
 use Rattle.site.proofs.enquiry.told.Goals as goal
 
-pub find-requires : goal.find-requires
-find-requires c = omega (arith, c.requires.columns.few)
-
 pub returns-in_default : goal.returns-in_default
 returns-in_default c =
     told_none c.args.held c.args.ticket c.args.clock

@@ -1,19 +1,13 @@
 -- No other charge has the ticket found: its start decides what the rules ask of all charges, and its feeder what has to be sound.
-use mathlib.Core.Path.{refl, ap, ◌∙◌}
+use mathlib.Core.Path.{ap, ◌∙◌}
 use native.Mathlib.Omega.{arith}
 use Rattle.charges.specs.Arrays.{found_at}
 use Rattle.site.proofs.Telling.{found_inside}
 use Rattle.site.proofs.Withdrawn.{left_profiled, withdraw_nobody, withdraw_begun, withdraw_unsound, withdraw_taken}
-use borrow.Author.Rules.{rules}
 use Rattle.site.proofs.withdraw.withdraw.Goals as goal
 
-pub find-requires : goal.find-requires
-find-requires c = omega (arith, c.requires.0.columns.few)
-
-pub returns-in_default : goal.returns-in_default
-returns-in_default c =
-    let none = c.find.ensures ∙ ap found_at c.in_default.is in
-    record { leaves = λ x o b h. withdraw_nobody x c.args.one c.args.ticket o h none (search); same_head = refl }
+pub returns-in_default-clause-leaves : goal.returns-in_default-clause-leaves
+returns-in_default-clause-leaves c = λ x o b h. withdraw_nobody x c.args.one c.args.ticket o h (c.find.ensures ∙ ap found_at c.in_default.is) (search)
 
 pub offset_bounds-held-i : goal.offset_bounds-held-i
 offset_bounds-held-i c = omega (arith, found_inside c.args.one.feeder.charges c.args.ticket c.requires.0.columns (c.find.ensures ∙ ap found_at c.in-At.is))
@@ -21,29 +15,22 @@ offset_bounds-held-i c = omega (arith, found_inside c.args.one.feeder.charges c.
 pub bounds-held-i : goal.bounds-held-i
 bounds-held-i c = omega (arith, found_inside c.args.one.feeder.charges c.args.ticket c.requires.0.columns (c.find.ensures ∙ ap found_at c.in-At.is))
 
-pub returns-then-start-one : goal.returns-then-start-one
-returns-then-start-one c = record { leaves = λ x o b h. withdraw_begun x c.args.one c.args.ticket o h (c.find.ensures ∙ ap found_at c.in-At.is) (omega (arith, c.if-start-one.true)) (search); same_head = refl }
+pub returns-then-start-one-clause-leaves : goal.returns-then-start-one-clause-leaves
+returns-then-start-one-clause-leaves c =
+    λ x o b h. withdraw_begun x c.args.one c.args.ticket o h (c.find.ensures ∙ ap found_at c.in-At.is) (omega (arith, c.if-start-one.true)) (search)
 
-pub without-kept-requires : goal.without-kept-requires
-without-kept-requires c = c.requires.0.columns
-
+-- what the others draw goes in by its parts, which say nothing of the limits
 pub plan_sound-requires : goal.plan_sound-requires
 plan_sound-requires c = (record { columns = c.requires.1.columns; plannable = c.requires.1.plannable; end_most = c.requires.1.end_most }, c.requires.2, left_profiled c.args.one.feeder.charges _ c.requires.0 c.without-kept.ensures)
 
-pub returns-then-not-plan_sound : goal.returns-then-not-plan_sound
-returns-then-not-plan_sound c =
-    record {
-      leaves = λ x o b h.
-          withdraw_unsound x c.args.one c.args.ticket o h (c.find.ensures ∙ ap found_at c.in-At.is) {kept = c.without-kept.result} c.without-kept.ensures (omega (arith, c.if-start-one.false)) b
-          {test = c.plan_sound.result} c.plan_sound.ensures c.if-not-plan_sound.true (search);
-      same_head = refl;
-    }
+pub returns-then-not-plan_sound-clause-leaves : goal.returns-then-not-plan_sound-clause-leaves
+returns-then-not-plan_sound-clause-leaves c =
+    λ x o b h.
+    withdraw_unsound x c.args.one c.args.ticket o h (c.find.ensures ∙ ap found_at c.in-At.is) {kept = c.without-kept.result} c.without-kept.ensures (omega (arith, c.if-start-one.false)) b
+    {test = c.plan_sound.result} c.plan_sound.ensures c.if-not-plan_sound.true (search)
 
-pub returns : goal.returns
-returns c =
-    record {
-      leaves = λ x o b h.
-          withdraw_taken x c.args.one c.args.ticket o h (c.find.ensures ∙ ap found_at c.in-At.is) {kept = c.without-kept.result} c.without-kept.ensures (omega (arith, c.if-start-one.false)) b
-          {test = c.plan_sound.result} c.plan_sound.ensures c.if-not-plan_sound.false (search);
-      same_head = search rules;
-    }
+pub returns-clause-leaves : goal.returns-clause-leaves
+returns-clause-leaves c =
+    λ x o b h.
+    withdraw_taken x c.args.one c.args.ticket o h (c.find.ensures ∙ ap found_at c.in-At.is) {kept = c.without-kept.result} c.without-kept.ensures (omega (arith, c.if-start-one.false)) b
+    {test = c.plan_sound.result} c.plan_sound.ensures c.if-not-plan_sound.false (search)

@@ -1,8 +1,7 @@
-use mathlib.Core.Path.{ap}
-use Prim.Native.Nat.{ℕ, ◌<◌, ◌/◌, ◌≤◌, ◌+◌, ◌^◌}
-use native.Mathlib.Omega.{arith}
-use mathlib.Core.Path.{◌≡◌}
+use mathlib.Core.Path.{◌≡◌, ap}
 use mathlib.Core.List.{List}
+use Prim.Native.Nat.{ℕ, ◌+◌, ◌/◌, ◌^◌, ◌≤◌, ◌<◌}
+use native.Mathlib.Omega.{arith}
 use lib.ListN.{length}
 use Rattle.text.specs.Numbers.{decimal}
 use Rattle.text.proofs.Values.{decimal_small, decimal_longer}
@@ -32,5 +31,5 @@ bounds-buffer-last t c =
 pub returns : goal.returns
 returns t c =
     printed_digits c.args.n c.args.buffer.now c.args.at c.print_decimal-last.new.buffer c.print_decimal-last.result c.if-n-lt10.false c.ranges.n.fits
-    (last_within c.args.n c.args.at c.print_decimal-last.result c.args.buffer.now c.print_decimal-last.new.buffer c.if-n-lt10.false c.ranges.n.fits (omega arith) c.print_decimal-last.auto.buffer c.print_decimal-last.ensures.place)
+    (bounds-buffer-last t c)
     c.print_decimal-last.ensures (omega arith)

@@ -1,10 +1,7 @@
-use mathlib.Core.Path.{◌≡◌, refl, sym, ◌∙◌}
+use mathlib.Core.Path.{sym, ◌∙◌}
 use native.Mathlib.Omega.{arith}
-use Rattle.text.proofs.Printing.{printed_none, printed_as, printed_then, listed_more}
+use Rattle.text.proofs.Printing.{printed_as, printed_then, listed_more}
 use Rattle.text.proofs.printer.print_list.Goals as goal
-
-pub loop-i-init : goal.loop-i-init
-loop-i-init c = (omega arith, refl, omega arith, printed_none c.args.buffer.now c.args.at (omega arith))
 
 pub loop-i-preserved : goal.loop-i-preserved
 loop-i-preserved c = (
@@ -13,8 +10,3 @@ loop-i-preserved c = (
   omega (arith, c.print_field-next.ensures.upper_bound, c.loop-i.invariant.2),
   printed_as (printed_then c.loop-i.invariant.3 c.print_field-next.ensures.printed) (search (sym (listed_more c.args.list.now c.loop-i.i (omega arith)))),
 )
-
-pub returns : goal.returns
-returns c =
-    let e : c.loop-i.i ≡ c.args.count = omega arith in
-    record { printed = rw (← e) c.loop-i.invariant.3; upper_bound = omega arith }
