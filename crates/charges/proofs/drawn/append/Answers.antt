@@ -1,6 +1,6 @@
 use native.Mathlib.Omega.{arith}
 use borrow.Author.Rules.{rules}
-use Rattle.charges.proofs.Joining.{appending_none, appending_next, appending_end}
+use Rattle.charges.proofs.Joining.{appending_none, appending_next}
 use Rattle.charges.proofs.drawn.append.Goals as goal
 
 pub loop-i-init : goal.loop-i-init
@@ -8,6 +8,3 @@ loop-i-init c = appending_none _ _ _ _ c.requires.0
 
 pub loop-i-preserved : goal.loop-i-preserved
 loop-i-preserved c = appending_next c.loop-i.invariant (omega arith) (search rules)
-
-pub returns : goal.returns
-returns c = appending_end c.loop-i.invariant (omega arith)

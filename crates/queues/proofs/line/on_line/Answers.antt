@@ -1,4 +1,3 @@
-use mathlib.Core.Path.{◌≡◌, refl}
 use lib.ListN.{get_or}
 use Rattle.charges.specs.Places.{place_at}
 use Rattle.queues.specs.Queues.{is_on_line}
@@ -7,12 +6,6 @@ use native.Mathlib.Omega.{arith}
 use borrow.Author.Tests.{eq-eqb, ne_eqb}
 use Rattle.queues.proofs.line.on_line.Goals.{then-lines-i, else-lines-i}
 use Rattle.queues.proofs.line.on_line.Goals as goal
-
-pub loop-j-init : goal.loop-j-init
-loop-j-init c = (omega arith, omega arith, record { listed = refl; few = omega arith; full = refl })
-
-pub bounds-queue-j : goal.bounds-queue-j
-bounds-queue-j c = omega (arith, c.requires.few)
 
 pub offset_bounds-lines-i : goal.offset_bounds-lines-i
 offset_bounds-lines-i c = omega (arith, inside_at c.requires _ c.loop-j-test.true)
@@ -36,8 +29,3 @@ loop-j-preserved c =
         lists_miss f (place_at c.args.queue) c.loop-j.j c.loop-j.count c.loop-j.places c.loop-j.invariant.2 (ne_eqb value c.args.line (λ e. omega (arith, e, w.if-lines-i.false))) w.places-is w.count-is,
       )
     ]
-
-pub returns : goal.returns
-returns c =
-    let e : c.loop-j.j ≡ c.args.queue.count = omega arith in
-    rw (← e) c.loop-j.invariant.2
