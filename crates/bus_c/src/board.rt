@@ -1,0 +1,17 @@
+// The board: the starts of the tickets asked for, written to a lent list.
+ghost use Rattle.std.specs.Prelude.{[], ◌∷◌};
+ghost use Rattle.rules.specs.Calls.{board as boardCall};
+ghost use Rattle.service.specs.Left.{Leaves};
+
+#[unsafe(no_mangle)]
+pub extern "C" fn togbeyis_board(
+    image: &mut [u8],
+    asked: &[u32],
+    answers: &mut [u32],
+    looked: &mut usize,
+    blocks: &mut u32,
+) -> u32
+    ensures { Leaves (blocks.old ∷ looked.old ∷ []) image.old (boardCall asked.now answers.old) result (blocks.new ∷ looked.new ∷ []) image.new answers.new }
+{
+    bus::board::togbeyis_board(image, asked, answers, looked, blocks)
+}

@@ -1,0 +1,40 @@
+// An order, previewed and committed.
+ghost use Rattle.std.specs.Prelude.{[], ◌∷◌};
+ghost use Rattle.rules.specs.Calls.{preview as previewCall, commit as commitCall};
+ghost use Rattle.service.specs.Left.{Leaves};
+
+#[unsafe(no_mangle)]
+pub extern "C" fn togbeyis_preview(
+    image: &mut [u8],
+    feeder: u32,
+    line: u32,
+    time: u32,
+    due: u32,
+    rate: u32,
+    start: &mut u32,
+    blocks: &mut u32,
+) -> u32
+    ensures { Leaves (blocks.old ∷ start.old ∷ []) image.old (previewCall feeder line time due rate) result (blocks.new ∷ start.new ∷ []) image.new [] }
+{
+    bus::order::togbeyis_preview(image, feeder, line, time, due, rate, start, blocks)
+}
+
+#[unsafe(no_mangle)]
+pub extern "C" fn togbeyis_commit(
+    image: &mut [u8],
+    feeder: u32,
+    line: u32,
+    time: u32,
+    due: u32,
+    rate: u32,
+    shown: u32,
+    ticket: &mut u32,
+    start: &mut u32,
+    blocks: &mut u32,
+) -> u32
+    ensures { Leaves (blocks.old ∷ ticket.old ∷ start.old ∷ []) image.old (commitCall feeder line time due rate shown) result (blocks.new ∷ ticket.new ∷ start.new ∷ []) image.new [] }
+{
+    bus::order::togbeyis_commit(
+        image, feeder, line, time, due, rate, shown, ticket, start, blocks,
+    )
+}
