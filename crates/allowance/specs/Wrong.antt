@@ -1,11 +1,11 @@
 -- Wrong rules for replan by lines, each with one thing changed.
-use Rattle.std.specs.Prelude.{ℕ, ◌+◌, cond, List, [], ◌∷◌, ◌++◌, leb, replicate}
+use Rattle.std.specs.Prelude.{ℕ, cond, List, [], ◌∷◌, ◌++◌, leb, replicate}
 use Rattle.rules.specs.Basics.{Found, at, nothing, keep}
 use Rattle.rules.specs.Load.{Load, counts, draw}
 use Rattle.rules.specs.Charge.{Charge, loads_of, waiting_charges}
 use Rattle.rules.specs.Search.{Caps, fits_under, first_unbalanced}
 use Rattle.rules.specs.Priority.{Fitting, fits_at}
-use Rattle.rules.specs.Replan.{none, Placed, all, stuck, standing, place_lines, largest_line, smallest_line, placed_active, Outcome, ends, lowers, lowered, after_round, Replanned, by_lines}
+use Rattle.rules.specs.Replan.{none, Placed, all, stuck, standing, place_lines, largest_line, placed_active, Outcome, ends, lowers, lowered, after_round, Replanned, by_lines}
 use Rattle.rules.specs.Site.{State, feeder_of, charges_on, limits_of}
 use Rattle.rules.specs.Calls.{settings, commit, move, opening, kept, tested, step}
 use Rattle.rules.specs.Entry.{one_feeder}

@@ -6,7 +6,6 @@ use native.Mathlib.Omega.{arith}
 use lib.ListN.{length}
 use Rattle.rules.specs.Basics.{Each, first_of}
 use Rattle.rules.specs.Charge.{Charge, load_of, loads_of, unfinished_charges}
-use Rattle.rules.specs.Replan.{none}
 use Rattle.rules.specs.Site.{Feeder, State, feeder_of, charges_on, joined, site_charges, others_of, with_charges}
 use Rattle.rules.specs.Calls.{answering, Call, preview, commit, move, offer, replan_latest, replan_lines, enquire, board, withdraw, refusals, moved, reported, pairs, written, draw_for, start_for, moved_to, previewing, committing, moving, step}
 use Rattle.rules.proofs.Lists.{each_right}

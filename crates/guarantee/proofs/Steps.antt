@@ -2,7 +2,6 @@
 use mathlib.Core.Path.{◌≡◌, refl, ap}
 use Prim.Native.Nat.{ℕ, zero, suc, ◌+◌, ◌≤◌}
 use mathlib.Core.List.{List, [], ◌∷◌, ◌++◌, append-nil}
-use native.Mathlib.Omega.{arith}
 use Rattle.rules.specs.Basics.{Found, at, nothing, first_of}
 use Rattle.rules.specs.Load.{Limits}
 use Rattle.rules.specs.Charge.{Charge, seen, without_ticket}

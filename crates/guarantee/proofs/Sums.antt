@@ -1,18 +1,17 @@
 -- What is drawn of W in a minute is the sum of the counts of all lines of all feeders.
 use mathlib.Core.Logic.{◌⊎◌, inl, inr}
-use mathlib.Core.Path.{◌≡◌, refl, sym, subst, ◌∙◌}
+use mathlib.Core.Path.{◌≡◌, refl, sym}
 use Prim.Native.Nat.{ℕ, zero, suc, ◌+◌, ◌≤◌, ◌<◌}
-use mathlib.Core.Bool.{Bool, true, false, cond}
+use mathlib.Core.Bool.{cond}
 use mathlib.Core.List.{List, [], ◌∷◌, map}
 use native.Mathlib.Omega.{arith}
-use lib.Dec.{eqb}
 use lib.ListN.{length}
 use borrow.Author.Tests.{eq-eqb, ne_eqb}
-use Rattle.rules.specs.Basics.{Each, keep}
+use Rattle.rules.specs.Basics.{Each}
 use Rattle.rules.specs.Load.{Load, active, draws, count, drawn, IsLine}
 use Rattle.rules.specs.Site.{State}
 use Rattle.rules.specs.Calls.{Call, step}
-use Rattle.rules.specs.Valid.{IsFeeder, ValidState}
+use Rattle.rules.specs.Valid.{ValidState}
 use Rattle.rules.proofs.Ranges.{either_way, below_or_not}
 use Rattle.rules.proofs.Sites.{whole_beside}
 use Rattle.guarantee.proofs.Assured.{orders_placed}

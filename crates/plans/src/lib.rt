@@ -1,6 +1,7 @@
 // Plans of a feeder, with the lists that their profiles take: for the steps of one feeder where the others draw nothing, and for those of
 // the site else. A list is cleared when it is made, which costs more than a plan of few charges.
 #![tactic(auto)]
+
 ghost use Rattle.std.specs.Prelude.{◌≡◌, ◌≤◌, length, take};
 ghost use Rattle.rules.specs.Load.{sound};
 ghost use Rattle.rules.specs.Charge.{seen};

@@ -1,15 +1,13 @@
 -- Numbers of one list copied to the front of another: one more, and what a copied profile shows.
 use Prim.Native.Nat.{ℕ, suc, zero, ◌+◌, ◌-◌, ◌*◌, ◌≤◌, ◌<◌}
 use mathlib.Core.Path.{◌≡◌, refl, sym, ◌∙◌, ap}
-use mathlib.Core.Bool.{cond}
 use mathlib.Core.List.{List, []}
 use mathlib.Core.Logic.{⊎_elim}
 use native.Mathlib.Omega.{arith}
-use lib.Dec.{leb}
 use lib.ListN.{length, get_or, set, replicate, length-set}
 use lib.Seq.{get_or-set_same, get_or-set_other}
-use Rattle.rules.specs.Load.{Load, IsColumn}
-use Rattle.profile.specs.Steps.{most_steps, columns, level_at, line_in, Copied}
+use Rattle.rules.specs.Load.{Load}
+use Rattle.profile.specs.Steps.{columns, level_at, line_in, Copied}
 use Rattle.profile.specs.Shows.{profile_of, Roomy, ShowsIn}
 use Rattle.profile.proofs.Lines.{each_column}
 use Rattle.profile.proofs.Levels.{same_or_not}

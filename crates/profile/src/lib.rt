@@ -1,5 +1,6 @@
 // How many points draw on each line, minute by minute: the changes in rising order, one more load, and what is read off them.
 #![tactic(auto)]
+
 pub mod balance;
 pub mod counts;
 pub mod loads;

@@ -1,7 +1,7 @@
 -- Demand 3 across restarts. A controller keeps nothing over a restart but images: a save keeps the image of its station, a restore
 -- gives the station that it reads in an image. After any events its station is the one that the list of calls in force leaves
 -- (Events.antt), and that list has what demand 3 asks.
-use Rattle.std.specs.Prelude.{◌≡◌, ℕ, ◌≤◌, ◌<◌, Bool, cond, List, [], ◌∷◌, ◌++◌, map, ltb, length, get_or}
+use Rattle.std.specs.Prelude.{◌≡◌, ℕ, ◌<◌, Bool, cond, List, [], ◌∷◌, ◌++◌, map, ltb, length, get_or}
 use Rattle.rules.specs.Basics.{Each}
 use Rattle.rules.specs.Charge.{Charge, begun_charges}
 use Rattle.rules.specs.Site.{State, charges_on, site_charges}

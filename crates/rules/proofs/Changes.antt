@@ -2,15 +2,15 @@
 use mathlib.Core.Path.{◌≡◌, refl, sym, subst}
 use Prim.Native.Nat.{ℕ, suc, ◌+◌, ◌-◌, ◌*◌, max, ◌≤◌, ◌<◌}
 use mathlib.Core.Bool.{Bool, true, not}
-use mathlib.Core.List.{List, [], ◌∷◌, ◌++◌, map, append_assoc}
+use mathlib.Core.List.{List, [], ◌∷◌, ◌++◌, append_assoc}
 use native.Mathlib.Omega.{arith}
-use lib.ListN.{length, length-append, get_or-map}
+use lib.ListN.{length-append, get_or-map}
 use borrow.Author.Tests.{leb-false, not-true}
 use Rattle.rules.specs.Basics.{Each, at}
 use Rattle.rules.specs.Load.{Limits, last_until, IsLine}
 use Rattle.rules.specs.Charge.{Charge, active_until, draw_of, load_of, loads_of, seen, is_finished, unfinished_charges, has_ticket, without_ticket}
 use Rattle.rules.specs.Search.{added}
-use Rattle.rules.specs.Site.{Feeder, State, no_feeder, feeder_of, charges_on, joined, site_charges, limits_of, with_charges, holding}
+use Rattle.rules.specs.Site.{Feeder, State, no_feeder, feeder_of, charges_on, limits_of, with_charges, holding}
 use Rattle.rules.specs.Calls.{new_charge, draw_for, start_for, taking, feeder_with, moved_to}
 use Rattle.rules.specs.Valid.{ValidCharge, Apart, ValidSettings, ValidPlan, IsFeeder, longest_tail, ValidState}
 use Rattle.rules.proofs.Lists.{map-append, each_map, each_append, each_keep, keep_each, length_keep}

@@ -5,7 +5,7 @@ use mathlib.Core.Bool.{Bool, true, false}
 use mathlib.Core.List.{List, [], ◌∷◌}
 use native.Mathlib.Omega.{arith}
 use lib.Dec.{eqb}
-use lib.ListN.{length, get_or, set, length-set}
+use lib.ListN.{get_or, set, length-set}
 use borrow.Author.Tests.{eqb-true, eqb-false}
 use Rattle.rules.specs.Basics.{Each}
 use Rattle.rules.specs.Load.{drawn, last_until, IsLine, sound}
@@ -14,7 +14,7 @@ use Rattle.rules.specs.Site.{Feeder, State, no_feeder, feeder_of, charges_on, si
 use Rattle.rules.specs.Valid.{ValidCharge, Apart, ValidSettings, ValidPlan, IsFeeder, longest_tail, ValidState}
 use Rattle.rules.proofs.Lists.{each_map}
 use Rattle.rules.proofs.Counts.{sound_from_lem, sound_true}
-use Rattle.rules.proofs.Sites.{Own, seen_own, own_seen, last_seen, drawn_joins, until_joins, others_own, put_is, is_put, put_same, put_other, put_site}
+use Rattle.rules.proofs.Sites.{Own, seen_own, own_seen, last_seen, drawn_joins, until_joins, others_own, is_put, put_same, put_other, put_site}
 use Rattle.rules.proofs.Apart.{apart_turn}
 
 -- Charges that are held later

@@ -1,5 +1,6 @@
 // The calls of which the theorem in specs/Theorem.antt speaks: the checker holds it here to the contracts of `open` and `apply`.
 #![tactic(auto)]
+
 ghost use Rattle.station.specs.View.{Valid};
 ghost use Rattle.station.specs.Opened.{asked_of};
 ghost use Rattle.theorem.specs.Theorem.{MeetsOpen, MeetsApply, made};

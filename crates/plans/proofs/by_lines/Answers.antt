@@ -2,7 +2,6 @@
 use native.Mathlib.Omega.{arith}
 use mathlib.Core.Path.{refl}
 use Rattle.plans.proofs.Rooms.{spacious}
-use borrow.Author.Rules.{rules}
 use Rattle.plans.proofs.by_lines.Goals as goal
 
 pub by_lines-requires : goal.by_lines-requires

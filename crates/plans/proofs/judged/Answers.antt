@@ -2,7 +2,6 @@
 use native.Mathlib.Omega.{arith}
 use mathlib.Core.Path.{refl}
 use Rattle.plans.proofs.Rooms.{spacious}
-use borrow.Author.Rules.{rules}
 use Rattle.plans.proofs.judged.Goals as goal
 
 pub judged-requires : goal.judged-requires

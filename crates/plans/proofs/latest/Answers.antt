@@ -2,7 +2,6 @@
 use native.Mathlib.Omega.{arith}
 use mathlib.Core.Path.{refl}
 use Rattle.plans.proofs.Rooms.{spacious}
-use borrow.Author.Rules.{rules}
 use Rattle.plans.proofs.latest.Goals as goal
 
 pub latest-requires : goal.latest-requires

@@ -2,7 +2,6 @@
 use native.Mathlib.Omega.{arith}
 use mathlib.Core.Path.{refl}
 use Rattle.plans.proofs.Rooms.{spacious}
-use borrow.Author.Rules.{rules}
 use Rattle.plans.proofs.plan_sound.Goals as goal
 
 pub plan_sound-requires : goal.plan_sound-requires

@@ -1,5 +1,4 @@
 -- `theorem::open` meets its contract: what is asked for is what was passed in.
-use borrow.Author.Rules.{rules}
 use Rattle.theorem.proofs.Chains.{opened_with}
 use Rattle.theorem.proofs.open.Goals as goal
 

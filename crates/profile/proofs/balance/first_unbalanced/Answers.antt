@@ -1,10 +1,6 @@
-use Prim.Native.Nat.{◌-◌, ◌<◌}
 use native.Mathlib.Omega.{arith}
-use borrow.Author.Rules.{rules}
-use Rattle.rules.specs.Load.{balanced}
-use Rattle.profile.specs.Shows.{profile_of}
 use Rattle.profile.proofs.Lines.{balanced_tests}
-use Rattle.profile.proofs.Balances.{Walked, walked_none, walked_more, walked_fails, walked_done, Compared, compared_none, compared_more, compared_off, compared_all}
+use Rattle.profile.proofs.Balances.{walked_none, walked_more, walked_fails, walked_done, compared_none, compared_more, compared_off, compared_all}
 use Rattle.profile.proofs.balance.first_unbalanced.Goals as goal
 
 pub minutes-init : goal.minutes-init

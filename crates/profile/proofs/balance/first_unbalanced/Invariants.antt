@@ -1,11 +1,8 @@
 -- `profile::balance::first_unbalanced` meets its contract. The outer loop's invariant: every minute before step i is in balance. The inner loop's: in step i each line before `line` is near the next one.
 use Prim.Native.Nat.{◌-◌, ◌<◌}
-use native.Mathlib.Omega.{arith}
-use borrow.Author.Rules.{rules}
 use Rattle.rules.specs.Load.{balanced}
 use Rattle.profile.specs.Shows.{profile_of}
-use Rattle.profile.proofs.Lines.{balanced_tests}
-use Rattle.profile.proofs.Balances.{Walked, walked_none, walked_more, walked_fails, walked_done, Compared, compared_none, compared_more, compared_off, compared_all}
+use Rattle.profile.proofs.Balances.{Walked, Compared}
 use Rattle.profile.proofs.balance.first_unbalanced.Given as goal
 
 abbrev pub invariant-loop-line : goal.invariant-loop-line

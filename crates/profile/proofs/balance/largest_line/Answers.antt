@@ -1,5 +1,4 @@
 -- `profile::balance::largest_line` meets its contract.
-use borrow.Author.Rules.{rules}
 use native.Mathlib.Omega.{arith}
 use Rattle.profile.proofs.Picks.{largest_pick}
 use Rattle.profile.proofs.balance.largest_line.Goals as goal

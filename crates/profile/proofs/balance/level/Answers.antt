@@ -1,5 +1,4 @@
 -- `profile::balance::level` meets its contract.
-use borrow.Author.Rules.{rules}
 use native.Mathlib.Omega.{arith}
 use Rattle.profile.specs.Shows.{profile_of, line_of}
 use Rattle.profile.proofs.Levels.{level_in}

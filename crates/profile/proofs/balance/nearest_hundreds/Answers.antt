@@ -1,7 +1,6 @@
 -- The answer's hundreds are within 50 of the product, and it is even where they are 50 away: no other number is like that.
 use native.Mathlib.Omega.{arith}
 use Rattle.rules.proofs.Rounding.{nearest_only}
-use borrow.Author.Rules.{rules}
 use Rattle.profile.proofs.balance.nearest_hundreds.Goals as goal
 
 pub returns-then-rest-gt50 : goal.returns-then-rest-gt50

@@ -1,5 +1,4 @@
 -- `profile::balance::smallest_line` meets its contract.
-use borrow.Author.Rules.{rules}
 use native.Mathlib.Omega.{arith}
 use Rattle.profile.proofs.Picks.{smallest_pick}
 use Rattle.profile.proofs.balance.smallest_line.Goals as goal

@@ -1,12 +1,7 @@
-use Prim.Native.Nat.{ℕ, ◌-◌, ◌≤◌}
-use mathlib.Core.Bool.{◌&&◌}
 use native.Mathlib.Omega.{arith}
-use borrow.Author.Rules.{rules}
-use Rattle.rules.specs.Load.{IsColumn, limited, within_site}
-use Rattle.profile.specs.Shows.{profile_of, line_of, most_drawn}
 use Rattle.profile.proofs.Lines.{limits_tests}
 use Rattle.profile.proofs.Adds.{small_step}
-use Rattle.profile.proofs.Balances.{Walked, walked_none, walked_more, walked_fails, walked_done, first_some, in_columns, limits_kept, limit_passed, site_passed}
+use Rattle.profile.proofs.Balances.{walked_none, walked_more, walked_fails, walked_done, first_some, in_columns, limits_kept, limit_passed, site_passed}
 use Rattle.profile.proofs.balance.within_limits.Goals as goal
 
 pub loop-i-init : goal.loop-i-init

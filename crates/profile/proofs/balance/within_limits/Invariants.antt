@@ -1,13 +1,9 @@
 -- `profile::balance::within_limits` meets its contract. The invariant: every minute before step i is within both limits.
-use Prim.Native.Nat.{ℕ, ◌-◌, ◌≤◌}
+use Prim.Native.Nat.{◌-◌}
 use mathlib.Core.Bool.{◌&&◌}
-use native.Mathlib.Omega.{arith}
-use borrow.Author.Rules.{rules}
-use Rattle.rules.specs.Load.{IsColumn, limited, within_site}
-use Rattle.profile.specs.Shows.{profile_of, line_of, most_drawn}
-use Rattle.profile.proofs.Lines.{limits_tests}
-use Rattle.profile.proofs.Adds.{small_step}
-use Rattle.profile.proofs.Balances.{Walked, walked_none, walked_more, walked_fails, walked_done, first_some, in_columns, limits_kept, limit_passed, site_passed}
+use Rattle.rules.specs.Load.{limited, within_site}
+use Rattle.profile.specs.Shows.{profile_of}
+use Rattle.profile.proofs.Balances.{Walked}
 use Rattle.profile.proofs.balance.within_limits.Given as goal
 
 abbrev pub invariant-loop-i : goal.invariant-loop-i

@@ -1,9 +1,7 @@
 -- `profile::loads::add` meets its contract.
-use borrow.Author.Rules.{rules}
 use mathlib.Core.Path.{refl}
 use native.Mathlib.Omega.{arith}
 use Rattle.profile.proofs.Adds.{add_none, add_other, raise_can, add_done}
-use borrow.Author.Rules.{rules}
 use Rattle.profile.proofs.loads.add.Goals as goal
 
 pub returns-then-until-from : goal.returns-then-until-from

@@ -1,7 +1,5 @@
 -- One step is left, in which nothing is drawn.
-use borrow.Author.Rules.{rules}
 use Rattle.profile.proofs.Copies.{begun_shows}
-use Rattle.profile.proofs.steps.copy.Reads as copy-reads
 use Rattle.profile.proofs.loads.begin.Goals as goal
 
 pub returns : goal.returns

@@ -1,5 +1,4 @@
 -- `profile::loads::split` meets its contract.
-use borrow.Author.Rules.{rules}
 use mathlib.Core.Path.{refl}
 use native.Mathlib.Omega.{arith}
 use Rattle.profile.proofs.Shifts.{shifted_insert, shifted_double}

@@ -1,10 +1,6 @@
 -- The invariant: the first i numbers are copied.
 use Prim.Native.Nat.{◌≤◌, ◌-◌}
-use mathlib.Core.Path.{◌≡◌}
-use native.Mathlib.Omega.{arith}
-use borrow.Author.Rules.{rules}
 use Rattle.profile.specs.Steps.{Copied}
-use Rattle.profile.proofs.Copies.{copied_none, copied_on}
 use Rattle.profile.proofs.steps.copy.Given as goal
 
 abbrev pub invariant-loop-i : goal.invariant-loop-i

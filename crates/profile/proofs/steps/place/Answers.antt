@@ -1,6 +1,4 @@
-use Prim.Native.Nat.{ℕ, ◌≤◌, ◌<◌, ◌-◌}
 use native.Mathlib.Omega.{arith}
-use lib.ListN.{get_or}
 use Rattle.profile.proofs.Levels.{all_later}
 use Rattle.profile.proofs.steps.place.Goals as goal
 

@@ -1,8 +1,6 @@
 -- `profile::steps::place` meets its contract. The invariant: step `low` has begun by t, and no step from `high` on has.
 use Prim.Native.Nat.{ℕ, ◌≤◌, ◌<◌, ◌-◌}
-use native.Mathlib.Omega.{arith}
 use lib.ListN.{get_or}
-use Rattle.profile.proofs.Levels.{all_later}
 use Rattle.profile.proofs.steps.place.Given as goal
 
 abbrev pub invariant-loop-high : goal.invariant-loop-high

@@ -1,8 +1,6 @@
-use Prim.Native.Nat.{◌≤◌, ◌-◌}
 use mathlib.Core.Path.{◌≡◌, refl}
 use native.Mathlib.Omega.{arith}
 use borrow.Author.Rules.{rules}
-use Rattle.profile.specs.Steps.{RaisedIn}
 use Rattle.profile.proofs.Shifts.{raised_none, raised_on}
 use Rattle.profile.proofs.steps.raise.Goals as goal
 

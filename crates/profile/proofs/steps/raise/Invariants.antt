@@ -1,10 +1,6 @@
 -- `profile::steps::raise` meets its contract. The invariant: the line has the rate more in the steps from i up to k.
 use Prim.Native.Nat.{◌≤◌, ◌-◌}
-use mathlib.Core.Path.{◌≡◌, refl}
-use native.Mathlib.Omega.{arith}
-use borrow.Author.Rules.{rules}
 use Rattle.profile.specs.Steps.{RaisedIn}
-use Rattle.profile.proofs.Shifts.{raised_none, raised_on}
 use Rattle.profile.proofs.steps.raise.Given as goal
 
 abbrev pub invariant-loop-k : goal.invariant-loop-k

@@ -1,7 +1,6 @@
-use Prim.Native.Nat.{◌-◌}
 use mathlib.Core.Path.{refl}
 use native.Mathlib.Omega.{arith}
-use Rattle.profile.proofs.Shifts.{Shifting, shifting_on, shifting_done}
+use Rattle.profile.proofs.Shifts.{shifting_on, shifting_done}
 use Rattle.profile.proofs.steps.shift.Goals as goal
 
 pub loop-j-init : goal.loop-j-init

@@ -1,8 +1,5 @@
 -- `profile::steps::shift` meets its contract. The invariant: what stood from j on stands w places later, and nothing else has moved.
-use Prim.Native.Nat.{◌-◌}
-use mathlib.Core.Path.{refl}
-use native.Mathlib.Omega.{arith}
-use Rattle.profile.proofs.Shifts.{Shifting, shifting_on, shifting_done}
+use Rattle.profile.proofs.Shifts.{Shifting}
 use Rattle.profile.proofs.steps.shift.Given as goal
 
 abbrev pub invariant-loop-j : goal.invariant-loop-j
