@@ -1,7 +1,7 @@
 // The answers as text, each with its line feed. A buffer has room for an answer where 96 bytes are left, and 21 more for each number
 // of the lent list that is printed with it.
 ghost use Rattle.std.specs.Prelude.{◌≡◌, ℕ, ◌+◌, ◌*◌, ◌≤◌, min, [], length, take};
-ghost use Rattle.rules.specs.Calls.{refused, opened, moved as movedAnswer, looked as lookedAnswer};
+ghost use Rattle.rules.specs.Calls.{refused, opened, moved as moved_answer, looked as looked_answer};
 ghost use Rattle.station.specs.Opened.{open_answer};
 ghost use Rattle.orders.specs.Shown.{preview_answer};
 ghost use Rattle.ordering.specs.Answers.{commit_answer};
@@ -59,7 +59,7 @@ fn print_commit(answer: CommitAnswer, buffer: &mut [u8], at: usize) -> usize
 // The reported pairs stand at the front of the list that was lent to the move.
 fn print_moved(reported: usize, dropped: usize, list: &[u32], buffer: &mut [u8], at: usize) -> usize
     requires { (2 * reported ≤ length list.now) × (at + (96 + 21 * (2 * reported)) ≤ length buffer.old) }
-    ensures { (asked : ℕ) → Printed (answer_text (movedAnswer reported dropped) asked list.now) buffer.old at buffer.new result }
+    ensures { (asked : ℕ) → Printed (answer_text (moved_answer reported dropped) asked list.now) buffer.old at buffer.new result }
 {
     let a = print_field(b"moved ", reported as u64, buffer, at);
     let b = print_field(b" dropped ", dropped as u64, buffer, a);
@@ -124,7 +124,7 @@ fn print_enquiry(answer: EnquiryAnswer, buffer: &mut [u8], at: usize) -> usize
 // The answers of the tickets asked for stand at the front of the list that was lent to the board.
 fn print_looked(looked: usize, asked: usize, list: &[u32], buffer: &mut [u8], at: usize) -> usize
     requires { (asked ≤ length list.now) × (at + (96 + 21 * asked) ≤ length buffer.old) }
-    ensures { Printed (answer_text (lookedAnswer looked) asked list.now) buffer.old at buffer.new result }
+    ensures { Printed (answer_text (looked_answer looked) asked list.now) buffer.old at buffer.new result }
 {
     let a = print_field(b"board ", looked as u64, buffer, at);
     let b = print_list(list, asked, buffer, a);

@@ -4,7 +4,7 @@
 ghost use Rattle.std.specs.Prelude.{◌≡◌, cond, ◌&&◌, ◌≤◌, leb, ltb, eqb, length, get_or, replicate};
 ghost use Rattle.rules.specs.Basics.{first_of};
 ghost use Rattle.rules.specs.Site.{places, State};
-ghost use Rattle.rules.specs.Calls.{refusals, board as boardCall, rises_from, not_held, written};
+ghost use Rattle.rules.specs.Calls.{refusals, board as board_call, rises_from, not_held, written};
 ghost use Rattle.charges.specs.Arrays.{charges_of};
 ghost use Rattle.boards.specs.Board.{CanBoard, Boarded};
 
@@ -28,7 +28,7 @@ fn rises(list: &[u32]) -> bool
 
 // The number of the first refusal of a board, 0 where none applies, whatever the station holds.
 pub fn board_refusal(asked: &[u32], answers: &[u32]) -> u32
-    ensures { (s : State) → result ≡ first_of (refusals s (boardCall asked.now answers.now)) }
+    ensures { (s : State) → result ≡ first_of (refusals s (board_call asked.now answers.now)) }
 {
     if !rises(asked) {
         return 23;

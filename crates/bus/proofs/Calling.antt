@@ -18,7 +18,7 @@ use Rattle.service.specs.declared.numbers.Numbers.{Numbers}
 use Rattle.service.specs.Left.{Told, counted, Leaves}
 use Rattle.service.specs.Named.{numbers_of, told_of, Serves}
 use Rattle.service.proofs.Telling.{told_refused, told_granted}
-use Rattle.service.proofs.Serving.{refusal_is, state-is}
+use Rattle.service.proofs.Serving.{refusal_is, state_is}
 use Rattle.bus.specs.Images.{copying, copied_or, copied, Copies}
 use Rattle.bus.specs.Plans.{TellsPlan}
 
@@ -124,7 +124,7 @@ module _ {image : List ℕ} {restored : Restored} (r : Restores image restored) 
     is_copied : (blocks : ℕ) → copied_or blocks list 0 (copying saved.answer saved.blocks after) ≡ copied blocks image list
     unfolding copied
     is_copied blocks =
-        ap (copied_or blocks list 0) (w.result ∙ ap (λ (x : State). saving x list list) (e ∙ state-is r))
+        ap (copied_or blocks list 0) (w.result ∙ ap (λ (x : State). saving x list list) (e ∙ state_is r))
         ∙ ap (λ (k : ℕ). copied_or blocks list k (saving (restoring image).state list list)) (sym accepted ∙ refusal_is r)
 
     pub copy_unsized :

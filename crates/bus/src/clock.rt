@@ -1,6 +1,6 @@
 // A clock move, with the list lent for its report.
 ghost use Rattle.std.specs.Prelude.{[], ◌∷◌};
-ghost use Rattle.rules.specs.Calls.{move as moveCall};
+ghost use Rattle.rules.specs.Calls.{move as move_call};
 ghost use Rattle.service.specs.Left.{Leaves};
 
 use calls::Call;
@@ -15,7 +15,7 @@ pub extern "C" fn togbeyis_move(
     dropped: &mut usize,
     blocks: &mut u32,
 ) -> u32
-    ensures { Leaves (blocks.old ∷ reported.old ∷ dropped.old ∷ []) image.old (moveCall target report.old) result (blocks.new ∷ reported.new ∷ dropped.new ∷ []) image.new report.new }
+    ensures { Leaves (blocks.old ∷ reported.old ∷ dropped.old ∷ []) image.old (move_call target report.old) result (blocks.new ∷ reported.new ∷ dropped.new ∷ []) image.new report.new }
 {
     let call = Call::Move { target };
     let told = serve(image, call, &[], report);

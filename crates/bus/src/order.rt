@@ -1,6 +1,6 @@
 // An order, previewed and committed.
 ghost use Rattle.std.specs.Prelude.{[], ◌∷◌};
-ghost use Rattle.rules.specs.Calls.{preview as previewCall, commit as commitCall};
+ghost use Rattle.rules.specs.Calls.{preview as preview_call, commit as commit_call};
 ghost use Rattle.service.specs.Left.{Leaves};
 
 use calls::Call;
@@ -18,7 +18,7 @@ pub extern "C" fn togbeyis_preview(
     start: &mut u32,
     blocks: &mut u32,
 ) -> u32
-    ensures { Leaves (blocks.old ∷ start.old ∷ []) image.old (previewCall feeder line time due rate) result (blocks.new ∷ start.new ∷ []) image.new [] }
+    ensures { Leaves (blocks.old ∷ start.old ∷ []) image.old (preview_call feeder line time due rate) result (blocks.new ∷ start.new ∷ []) image.new [] }
 {
     let order = Order {
         feeder,
@@ -50,7 +50,7 @@ pub extern "C" fn togbeyis_commit(
     start: &mut u32,
     blocks: &mut u32,
 ) -> u32
-    ensures { Leaves (blocks.old ∷ ticket.old ∷ start.old ∷ []) image.old (commitCall feeder line time due rate shown) result (blocks.new ∷ ticket.new ∷ start.new ∷ []) image.new [] }
+    ensures { Leaves (blocks.old ∷ ticket.old ∷ start.old ∷ []) image.old (commit_call feeder line time due rate shown) result (blocks.new ∷ ticket.new ∷ start.new ∷ []) image.new [] }
 {
     let order = Order {
         feeder,

@@ -1,6 +1,6 @@
 // The board: the starts of the tickets asked for, written to a lent list.
 ghost use Rattle.std.specs.Prelude.{[], ◌∷◌};
-ghost use Rattle.rules.specs.Calls.{board as boardCall};
+ghost use Rattle.rules.specs.Calls.{board as board_call};
 ghost use Rattle.service.specs.Left.{Leaves};
 
 #[unsafe(no_mangle)]
@@ -11,7 +11,7 @@ pub extern "C" fn togbeyis_board(
     looked: &mut usize,
     blocks: &mut u32,
 ) -> u32
-    ensures { Leaves (blocks.old ∷ looked.old ∷ []) image.old (boardCall asked.now answers.old) result (blocks.new ∷ looked.new ∷ []) image.new answers.new }
+    ensures { Leaves (blocks.old ∷ looked.old ∷ []) image.old (board_call asked.now answers.old) result (blocks.new ∷ looked.new ∷ []) image.new answers.new }
 {
     bus::board::togbeyis_board(image, asked, answers, looked, blocks)
 }

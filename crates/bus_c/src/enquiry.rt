@@ -1,6 +1,6 @@
 // An enquiry. Of a waiting charge no end is told, so that `end` stays.
 ghost use Rattle.std.specs.Prelude.{[], ◌∷◌};
-ghost use Rattle.rules.specs.Calls.{enquire as enquireCall};
+ghost use Rattle.rules.specs.Calls.{enquire as enquire_call};
 ghost use Rattle.service.specs.Left.{Leaves};
 
 #[unsafe(no_mangle)]
@@ -13,7 +13,7 @@ pub extern "C" fn togbeyis_enquire(
     end: &mut u32,
     blocks: &mut u32,
 ) -> u32
-    ensures { Leaves (blocks.old ∷ charging.old ∷ start.old ∷ rate.old ∷ end.old ∷ []) image.old (enquireCall ticket) result (blocks.new ∷ charging.new ∷ start.new ∷ rate.new ∷ end.new ∷ []) image.new [] }
+    ensures { Leaves (blocks.old ∷ charging.old ∷ start.old ∷ rate.old ∷ end.old ∷ []) image.old (enquire_call ticket) result (blocks.new ∷ charging.new ∷ start.new ∷ rate.new ∷ end.new ∷ []) image.new [] }
 {
     bus::enquiry::togbeyis_enquire(image, ticket, charging, start, rate, end, blocks)
 }

@@ -1,6 +1,6 @@
 // Offers and both replans, which end in the same way.
 ghost use Rattle.std.specs.Prelude.{[], ◌∷◌};
-ghost use Rattle.rules.specs.Calls.{offer as offerCall, replan_latest, replan_lines};
+ghost use Rattle.rules.specs.Calls.{offer as offer_call, replan_latest, replan_lines};
 ghost use Rattle.service.specs.Left.{Leaves};
 ghost use Rattle.bus.specs.Plans.{TellsPlan};
 
@@ -15,7 +15,7 @@ pub extern "C" fn togbeyis_offer(
     rounds: &mut u32,
     blocks: &mut u32,
 ) -> u32
-    ensures { Leaves (blocks.old ∷ cause.old ∷ before.old ∷ after.old ∷ rounds.old ∷ []) image.old (offerCall feeder starts.now) result (blocks.new ∷ cause.new ∷ before.new ∷ after.new ∷ rounds.new ∷ []) image.new starts.now }
+    ensures { Leaves (blocks.old ∷ cause.old ∷ before.old ∷ after.old ∷ rounds.old ∷ []) image.old (offer_call feeder starts.now) result (blocks.new ∷ cause.new ∷ before.new ∷ after.new ∷ rounds.new ∷ []) image.new starts.now }
 {
     bus::plan::togbeyis_offer(image, feeder, starts, cause, before, after, rounds, blocks)
 }

@@ -1,7 +1,7 @@
 // Offers and both replans of the feeder that is named, beside what the others draw. Each gathers and puts back by itself: a function that all
 // three went through would be one more frame with stations on the stack.
 ghost use Rattle.std.specs.Prelude.{[]};
-ghost use Rattle.rules.specs.Calls.{step, offer as offerCall, replan_latest, replan_lines};
+ghost use Rattle.rules.specs.Calls.{step, offer as offer_call, replan_latest, replan_lines};
 ghost use Rattle.planning.specs.Answers.{plan_answer};
 ghost use Rattle.station.specs.View.{view, Valid};
 ghost use Rattle.station.specs.Given.{Gives};
@@ -20,7 +20,7 @@ pub struct Planning {
 impl Yard {
     pub fn offer(self, feeder: u32, starts: &[u32]) -> Planning
         requires { Valid self.station }
-        ensures { Gives (step (view self.station) (offerCall feeder starts.now)) (plan_answer result.answer) result.yard.station starts.now }
+        ensures { Gives (step (view self.station) (offer_call feeder starts.now)) (plan_answer result.answer) result.yard.station starts.now }
     {
         let mut station = self.station;
         let place = place_of(station.count, feeder);

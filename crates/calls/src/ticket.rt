@@ -1,6 +1,6 @@
 // Calls that go by tickets, on whichever feeder holds them: an enquiry, a board and a withdrawal.
 ghost use Rattle.std.specs.Prelude.{[]};
-ghost use Rattle.rules.specs.Calls.{step, enquire as enquireCall, board as boardCall, withdraw as withdrawCall};
+ghost use Rattle.rules.specs.Calls.{step, enquire as enquire_call, board as board_call, withdraw as withdraw_call};
 ghost use Rattle.station.specs.View.{view, Valid};
 ghost use Rattle.station.specs.Given.{Gives};
 ghost use Rattle.site.specs.Answers.{enquiry_answer, board_answer, withdrawal_answer};
@@ -31,7 +31,7 @@ pub struct Withdrawing {
 impl Yard {
     pub fn enquire(self, ticket: u32) -> Enquiring
         requires { Valid self.station }
-        ensures { Gives (step (view self.station) (enquireCall ticket)) (enquiry_answer result.answer) result.yard.station [] }
+        ensures { Gives (step (view self.station) (enquire_call ticket)) (enquiry_answer result.answer) result.yard.station [] }
     {
         let answer = enquire(self.station, ticket);
         Enquiring { answer, yard: self }
@@ -40,7 +40,7 @@ impl Yard {
     // Writes the start of each ticket that is asked for to the front of the answers.
     pub fn board(self, asked: &[u32], answers: &mut [u32]) -> Boarding
         requires { Valid self.station }
-        ensures { Gives (step (view self.station) (boardCall asked.now answers.old)) (board_answer result.answer) result.yard.station answers.new }
+        ensures { Gives (step (view self.station) (board_call asked.now answers.old)) (board_answer result.answer) result.yard.station answers.new }
     {
         let answer = board(self.station, asked, answers);
         Boarding { answer, yard: self }
@@ -49,7 +49,7 @@ impl Yard {
     // The feeder that holds the ticket is taken out, and put back without its charge where the rest of its plan is sound.
     pub fn withdraw(self, ticket: u32) -> Withdrawing
         requires { Valid self.station }
-        ensures { Gives (step (view self.station) (withdrawCall ticket)) (withdrawal_answer result.answer) result.yard.station [] }
+        ensures { Gives (step (view self.station) (withdraw_call ticket)) (withdrawal_answer result.answer) result.yard.station [] }
     {
         let mut station = self.station;
         let place = holding(station, ticket);

@@ -1,7 +1,7 @@
 // The ends of the held charges: the minute from which on they draw nothing, and how late they are.
 ghost use Rattle.std.specs.Prelude.{◌≡◌, List, ℕ, ◌≤◌, ◌+◌, ◌-◌, ◌<◌, max, length};
 ghost use Rattle.rules.specs.Load.{last_until};
-ghost use Rattle.rules.specs.Charge.{lateness as latenessOf};
+ghost use Rattle.rules.specs.Charge.{lateness as lateness_of};
 ghost use Rattle.charges.specs.Arrays.{charges_of, Columns};
 ghost use Rattle.charges.specs.Drawn.{loads_in};
 
@@ -43,7 +43,7 @@ pub fn last_until<'a>(active_times: &'a [u32], starts: &'a [u32], held: usize) -
 impl Charges {
     pub fn lateness(self) -> u64
         requires { Columns self }
-        ensures { result ≡ latenessOf (charges_of self) }
+        ensures { result ≡ lateness_of (charges_of self) }
     {
         let n = self.held;
         let mut sum = 0;

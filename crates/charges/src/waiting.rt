@@ -2,7 +2,7 @@
 ghost use Rattle.std.specs.Prelude.{◌≡◌, ◌≤◌, ltb, length, take};
 ghost use Rattle.rules.specs.Basics.{some};
 ghost use Rattle.rules.specs.Charge.{waiting_charges};
-ghost use Rattle.rules.specs.Judgement.{restarted as restartedOf};
+ghost use Rattle.rules.specs.Judgement.{restarted as restarted_of};
 ghost use Rattle.charges.specs.Arrays.{charges_of, Columns, Holds};
 
 use crate::Charges;
@@ -39,7 +39,7 @@ impl Charges {
     // The waiting charges get the first `count` of these starts, in ticket order.
     pub fn restarted(self, clock: u32, starts: &[u32], count: usize) -> Charges
         requires { Columns self × (count ≤ length starts.now) × (count ≡ length (waiting_charges clock (charges_of self))) }
-        ensures { Holds (restartedOf clock (charges_of self) (take count starts.now)) result }
+        ensures { Holds (restarted_of clock (charges_of self) (take count starts.now)) result }
     {
         let n = self.held;
         let mut next = self;

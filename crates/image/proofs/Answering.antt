@@ -122,8 +122,8 @@ module _ (xs : List ℕ) where
             };
       }
     where
-      state-is : view (station_of o) ≡ state_in xs
-      state-is = p.state ∙ ap state_from c ∙ state_taken xs l
+      state_is : view (station_of o) ≡ state_in xs
+      state_is = p.state ∙ ap state_from c ∙ state_taken xs l
 
       whole : restored (record { answer = 0; one = o }) ≡ restoring xs
-      whole = rw (e, state-is)
+      whole = rw (e, state_is)

@@ -1,6 +1,6 @@
 // Replan by lines: rounds under ever lower caps.
 ghost use Rattle.std.specs.Prelude.{◌≡◌, length};
-ghost use Rattle.rules.specs.Replan.{by_lines, standing as standingOf};
+ghost use Rattle.rules.specs.Replan.{by_lines, standing as standing_of};
 ghost use Rattle.charges.specs.Arrays.{charges_of};
 ghost use Rattle.profile.specs.Shows.{profile_of, Roomy, ShowsIn};
 ghost use Rattle.planner.specs.Ready.{around_of, terms_of, Spacious, Others, Ready};
@@ -79,7 +79,7 @@ fn play<'a, 'b>(
     rest: Rest<'a>,
     caps: LineCaps,
 ) -> Round
-    requires { CanPlace (length at.old) (around_of task.beside rest) task.charges task.queue caps × Roomy at.old counts.old × ShowsIn (length base_at.now) (profile_of n base_at.now base_counts.now) task.beside.clock (standingOf (terms_of (around_of task.beside rest)) task.beside.clock (charges_of task.charges)) }
+    requires { CanPlace (length at.old) (around_of task.beside rest) task.charges task.queue caps × Roomy at.old counts.old × ShowsIn (length base_at.now) (profile_of n base_at.now base_counts.now) task.beside.clock (standing_of (terms_of (around_of task.beside rest)) task.beside.clock (charges_of task.charges)) }
     ensures { Plays (around_of task.beside rest.entry) task.charges caps result }
 {
     copy(base_at, at, n);

@@ -3,7 +3,7 @@ ghost use Rattle.std.specs.Prelude.{◌≡◌, List};
 ghost use Rattle.rules.specs.Load.{Load};
 ghost use Rattle.charges.specs.Drawn.{loads_in};
 ghost use Rattle.orders.specs.Asked.{start_sought};
-ghost use Rattle.orders.specs.Shown.{preview_answer, shown as shownAs, CanSeek};
+ghost use Rattle.orders.specs.Shown.{preview_answer, shown as shown_as, CanSeek};
 
 use crate::start::earliest_start;
 use search::limits::Limits;
@@ -40,7 +40,7 @@ pub fn start_for<'a>(
     rates: &'a [u32],
 ) -> PreviewAnswer
     requires { CanSeek sought at.old counts.old lines.now active_times.now starts.now rates.now }
-    ensures { (others : List Load) → preview_answer result ≡ shownAs sought.refusal (start_sought sought others (loads_in sought.held lines.now active_times.now starts.now rates.now)) }
+    ensures { (others : List Load) → preview_answer result ≡ shown_as sought.refusal (start_sought sought others (loads_in sought.held lines.now active_times.now starts.now rates.now)) }
 {
     if 0 < sought.refusal {
         return PreviewAnswer::Refused(sought.refusal);

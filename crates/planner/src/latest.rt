@@ -1,5 +1,5 @@
 // Replan by latest start.
-ghost use Rattle.rules.specs.Replan.{latest as latestOf};
+ghost use Rattle.rules.specs.Replan.{latest as latest_of};
 ghost use Rattle.charges.specs.Arrays.{charges_of};
 ghost use Rattle.planner.specs.Ready.{around_of, terms_of, Spacious, Others, Ready};
 ghost use Rattle.planner.specs.Answers.{Proposes};
@@ -24,7 +24,7 @@ pub fn latest<'a>(
     charges: Charges,
 ) -> Proposed
     requires { Spacious (around_of beside rest) at.old counts.old × Others (around_of beside rest) × Ready (around_of beside rest) charges }
-    ensures { Proposes beside.clock charges (latestOf (terms_of (around_of beside rest.entry)) beside.clock (charges_of charges)) result }
+    ensures { Proposes beside.clock charges (latest_of (terms_of (around_of beside rest.entry)) beside.clock (charges_of charges)) result }
 {
     let queue = by_latest_start(charges, beside.clock);
     let n = queue.count;

@@ -1,5 +1,5 @@
 // An offer: starts for the waiting charges of a feeder.
-ghost use Rattle.rules.specs.Calls.{offer as offerCall, step};
+ghost use Rattle.rules.specs.Calls.{offer as offer_call, step};
 ghost use Rattle.planner.specs.Ready.{around_of};
 ghost use Rattle.station.specs.declared.Station.{Station};
 ghost use Rattle.station.specs.View.{view, Of, Names, SameHead};
@@ -16,7 +16,7 @@ use station::One;
 // The feeder is that of the number, if there is one. What the others draw is lent.
 pub fn offer<'a>(one: One, beside: Beside, rest: Rest<'a>, number: u32, starts: &[u32]) -> Planning
     requires { CanPlan one (around_of beside rest) }
-    ensures leaves { (s : Station) → Of s one → BesideOf s one.place (around_of beside rest.entry) → Names one number → Leaves (step (view s) (offerCall number starts.now)) s (plan_answer result.answer) result.left starts.now }
+    ensures leaves { (s : Station) → Of s one → BesideOf s one.place (around_of beside rest.entry) → Names one number → Leaves (step (view s) (offer_call number starts.now)) s (plan_answer result.answer) result.left starts.now }
     ensures same_head { SameHead one result.left }
 {
     if one.lacks(number) {

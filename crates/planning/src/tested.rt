@@ -1,7 +1,7 @@
 // The test that an offer and both replans end with.
 ghost use Rattle.std.specs.Prelude.{◌≡◌, ◌+◌, ◌≤◌, length, take};
 ghost use Rattle.rules.specs.Site.{places};
-ghost use Rattle.rules.specs.Replan.{starts as startsOf};
+ghost use Rattle.rules.specs.Replan.{starts as starts_of};
 ghost use Rattle.planner.specs.Ready.{around_of};
 ghost use Rattle.planner.specs.Starts.{waiting_count};
 ghost use Rattle.planner.specs.Answers.{proposal_of};
@@ -26,7 +26,7 @@ pub fn tested<'a>(
     rounds: u32,
 ) -> Planning
     requires { CanPlan one (around_of beside rest) × (count ≤ length starts.now) × (count ≡ waiting_count one.clock one.feeder.charges) }
-    ensures tests { (s : Station) → Of s one → BesideOf s one.place (around_of beside rest.entry) → Tests s (one.place + 1) rounds (startsOf (take count starts.now)) (plan_answer result.answer) result.left }
+    ensures tests { (s : Station) → Of s one → BesideOf s one.place (around_of beside rest.entry) → Tests s (one.place + 1) rounds (starts_of (take count starts.now)) (plan_answer result.answer) result.left }
     ensures same_head { SameHead one result.left }
 {
     let mut feeder = one.feeder;

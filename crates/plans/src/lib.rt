@@ -5,7 +5,7 @@
 ghost use Rattle.std.specs.Prelude.{◌≡◌, ◌≤◌, length, take};
 ghost use Rattle.rules.specs.Load.{sound};
 ghost use Rattle.rules.specs.Charge.{seen};
-ghost use Rattle.rules.specs.Replan.{latest as latestOf, by_lines};
+ghost use Rattle.rules.specs.Replan.{latest as latest_of, by_lines};
 ghost use Rattle.charges.specs.Arrays.{charges_of};
 ghost use Rattle.charges.specs.Held.{Listed};
 ghost use Rattle.planner.specs.Ready.{around_of, terms_of, Others, Profiled, Ready};
@@ -24,7 +24,7 @@ use profile::{COLUMNS, FEEDER_STEPS, STEPS};
 // Replan by latest start.
 pub fn latest<'a>(beside: Beside, rest: Rest<'a>, charges: Charges) -> Proposed
     requires { Others (around_of beside rest) × (beside.held ≤ 540) × Ready (around_of beside rest) charges }
-    ensures { Proposes beside.clock charges (latestOf (terms_of (around_of beside rest.entry)) beside.clock (charges_of charges)) result }
+    ensures { Proposes beside.clock charges (latest_of (terms_of (around_of beside rest.entry)) beside.clock (charges_of charges)) result }
 {
     if beside.held == 0 {
         let mut at = [0; FEEDER_STEPS];

@@ -1,6 +1,6 @@
 // The charges left on a line, in the order of d − p, then ticket: those that fit at a start, and the one that is taken.
 ghost use Rattle.std.specs.Prelude.{◌≡◌, ◌*◌, ◌≤◌, ltb};
-ghost use Rattle.rules.specs.Priority.{weights as weightsOf};
+ghost use Rattle.rules.specs.Priority.{weights as weights_of};
 ghost use Rattle.priority.specs.Numbers.{numbers_in, CanFit};
 ghost use Rattle.priority.specs.Chosen.{run_for, FirstFitting, CanWeigh, WeighedAt, CanChoose, Choice};
 
@@ -56,7 +56,7 @@ fn weigh<'a, 'b>(
     start: u32,
     j: usize,
 ) -> Weighed
-    requires { (weights.now ≡ weightsOf) × CanWeigh (numbers_in columns) left.now crowd j }
+    requires { (weights.now ≡ weights_of) × CanWeigh (numbers_in columns) left.now crowd j }
     ensures { WeighedAt (numbers_in columns.entry) left.now crowd start j result }
 {
     let times = columns[TIMES];

@@ -1,10 +1,10 @@
 // The table of the weights.
 ghost use Rattle.std.specs.Prelude.{◌≡◌};
-ghost use Rattle.rules.specs.Priority.{weights as weightsOf};
+ghost use Rattle.rules.specs.Priority.{weights as weights_of};
 
 // The table, to be lent: a constant array is copied wherever it is read.
 pub fn table() -> [u32; 512]
-    ensures { result ≡ weightsOf }
+    ensures { result ≡ weights_of }
 {
     WEIGHTS
 }

@@ -1,11 +1,11 @@
 // What a charge weighs at a start.
 ghost use Rattle.std.specs.Prelude.{◌≡◌, ◌+◌, ◌-◌, ◌*◌, ◌/◌, ◌≤◌};
 ghost use Rattle.rules.specs.Site.{places};
-ghost use Rattle.rules.specs.Priority.{weights as weightsOf, weight_of};
+ghost use Rattle.rules.specs.Priority.{weights as weights_of, weight_of};
 
 // "and the weight is 0 beyond"
 pub fn weight<'a>(weights: &'a [u32; 512], k: u64) -> u32
-    requires { weights.now ≡ weightsOf }
+    requires { weights.now ≡ weights_of }
     ensures { (result ≡ weight_of k) × (result ≤ 1073741824) }
 {
     if 511 < k {
@@ -32,7 +32,7 @@ pub fn urgency<'a>(
     number: u32,
     total: u32,
 ) -> u32
-    requires { (weights.now ≡ weightsOf) × (due ≤ 2000000) × (number ≤ places) × (1 ≤ total) }
+    requires { (weights.now ≡ weights_of) × (due ≤ 2000000) × (number ≤ places) × (1 ≤ total) }
     ensures { (result ≡ weight_of (256 * (due - (start + time)) * number / total)) × (result ≤ 1073741824) }
 {
     let m = slack(due, start, time);

@@ -52,7 +52,7 @@ module _ {s : Station} (c : Call) {ss list after : List ℕ} {a : code.Answer} {
       → Says (called (view s) (call_of c ss list)) (record { station = next; said = said.Call a asked lent }) whole
   call_says n places asked lent whole e h same front room fill =
       record {
-        state-is = ap (λ (x : Result). x.state) p.gives.result;
+        state_is = ap (λ (x : Result). x.state) p.gives.result;
         valid = p.gives.valid;
         text_is =
             rw (front, same, numbers_read_lem c ss list n places e h)
@@ -157,7 +157,7 @@ pub replied :
 unfolding answered
 replied s text {values} {numbers} {after} {x} {r} {list} {before} {at} {out} {next} a h p =
     record {
-      state-is = h.state-is ∙ ap (λ (y : Asked). (reply s y).state) a.request_is;
+      state_is = h.state_is ∙ ap (λ (y : Asked). (reply s y).state) a.request_is;
       valid = h.valid;
       printed = printed_as p (h.text_is ∙ ap (λ (y : Asked). (reply s y).text) a.request_is);
     }

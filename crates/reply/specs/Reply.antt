@@ -97,13 +97,13 @@ SaidFits (said.Error reason) places = Unit {0}
 
 -- This is said to a request, printed with this list, and the station beside it is valid.
 pub record Says (t : Told) (r : code.Reply) (list : List ℕ) : Type 0 where
-  pub state-is : view r.station ≡ t.state
+  pub state_is : view r.station ≡ t.state
   pub valid : Valid r.station
   pub text_is : said_text r.said list ≡ t.text
   pub fits : SaidFits r.said (length list)
 
 -- A request was answered so: this station, which is valid, and this text at its place.
 pub record Replied (t : Told) (station : Station) (before : List ℕ) (at : ℕ) (after : List ℕ) (next : ℕ) : Type 0 where
-  pub state-is : view station ≡ t.state
+  pub state_is : view station ≡ t.state
   pub valid : Valid station
   pub printed : Printed t.text before at after next

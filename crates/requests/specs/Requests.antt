@@ -19,7 +19,7 @@ use Rattle.requests.specs.declared.request.Request as declared
 use Rattle.requests.specs.declared.request.Request.TheVariants as request
 use Rattle.requests.specs.declared.request.Takes.{Takes}
 use Rattle.requests.specs.declared.request.Takes.TheVariants.{Between, NoCall}
-use Rattle.requests.specs.declared.request.Numbers as declared-numbers
+use Rattle.requests.specs.declared.request.Numbers as declared_numbers
 use Rattle.requests.specs.declared.request.Numbers.TheVariants as count
 
 -- What is asked for: nothing, an opening, a call of the station that stands; or why none of these.
@@ -153,12 +153,12 @@ unfoldable pub request_values : List ℕ → List ℕ
 request_values bytes = by_kind [] [] call_values bytes
 
 -- what the code's answers mean, with the list that was lent for the numbers
-abbrev pub numbers_read : declared-numbers.Numbers → List ℕ → Numbers
+abbrev pub numbers_read : declared_numbers.Numbers → List ℕ → Numbers
 numbers_read (count.Count k) list = numbers (take k list)
 numbers_read (count.Wrong reason) list = wrong reason
 
 -- no more numbers were read than a call takes
-abbrev pub Within : ℕ → declared-numbers.Numbers → Type 0
+abbrev pub Within : ℕ → declared_numbers.Numbers → Type 0
 Within most (count.Count k) = k ≤ most
 Within most (count.Wrong reason) = Unit {0}
 
@@ -188,7 +188,7 @@ pub record Calls (name : CallName) (ns : List ℕ) (r : declared.Request) : Type
   pub call_fits : Fits (length ns) r
 
 -- Numbers were read so: what they are, that they are not too many, and the whole of the list lent for them.
-pub record TakesNumbers (least most : ℕ) (words : List (List ℕ)) (list after : List ℕ) (r : declared-numbers.Numbers) : Type 0 where
+pub record TakesNumbers (least most : ℕ) (words : List (List ℕ)) (list after : List ℕ) (r : declared_numbers.Numbers) : Type 0 where
   pub numbers_are : numbers_read r after ≡ read_numbers least most words
   pub few : Within most r
   pub list_is : after ≡ sets list 0 (values_read most words)

@@ -83,8 +83,8 @@ module _ {image : List ℕ} {restored : Restored} (r : Restores image restored) 
   pub refusal_is : restored.answer ≡ (restoring image).refusal
   refusal_is = ap (λ (x : RestoreResult). x.refusal) r.result
 
-  pub state-is : view (station_of restored.one) ≡ (restoring image).state
-  state-is = ap (λ (x : RestoreResult). x.state) r.result
+  pub state_is : view (station_of restored.one) ≡ (restoring image).state
+  state_is = ap (λ (x : RestoreResult). x.state) r.result
 
   pub whole : restored.answer ≡ 0 → Whole image
   whole h = (accepted image (sym refusal_is ∙ h)).size
@@ -119,7 +119,7 @@ module _ {image : List ℕ} {restored : Restored} (r : Restores image restored) 
     called_is : (numbers : List ℕ) → left numbers image (record { answer = a; state = view next; list = list }) ≡ called numbers image c
     unfolding called
     called_is numbers =
-        ap (left numbers image) (g.result ∙ ap (λ (x : State). step x c) state-is)
+        ap (left numbers image) (g.result ∙ ap (λ (x : State). step x c) state_is)
         ∙ ap (restored_to numbers c) (sym z ∙ refusal_is)
 
     told_is : told a ≡ told_of c n

@@ -125,7 +125,7 @@ every_chain read written s block c =
 -- no turn yet: the session begins with the least station
 pub reached_first :
     {s : Session} {block : List ℕ} {q : Station} → FreshLeast q → s.station ≡ q → s.held ≡ 0 → s.wants ≡ Bytes → Reached s block
-reached_first f same h w = record { read = []; written = []; chain = opened (ap view same ∙ f.state-is) h w }
+reached_first f same h w = record { read = []; written = []; chain = opened (ap view same ∙ f.state_is) h w }
 
 -- one turn more
 pub reached_on :

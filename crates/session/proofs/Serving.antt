@@ -75,7 +75,7 @@ module _ {s : State} {block : List ℕ} {l : Replies} {out : List ℕ} {end : �
             ∙ ap (first (take l.at out)) (served_request (view p) request (requests_after block (end + 1)) (split_some 10 (after block (end + 1))))
             ∙ first-first (take l.at out) (answered (view p) request).text (served (answered (view p) request).state (requests_after block (end + 1)))
             ∙ ap (λ (x : List ℕ). first x (served (answered (view p) request).state (requests_after block (end + 1)))) (sym (printed_front r.printed))
-            ∙ ap (λ (x : State). first (take at' out') (served x (requests_after block (end + 1)))) (sym r.state-is);
+            ∙ ap (λ (x : State). first (take at' out') (served x (requests_after block (end + 1)))) (sym r.state_is);
         valid = r.valid;
         within = omega arith;
         text_fits =

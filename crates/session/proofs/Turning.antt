@@ -34,8 +34,8 @@ pub last_request :
 last_request {s} {block} {before} {q} {out} {at} r =
     let t : Told = answered (view s.station) (held_of s block) in
     record {
-      last-is =
-          ap (λ (x : State). record { state = x; text = t.text }) (sym r.state-is)
+      last_is =
+          ap (λ (x : State). record { state = x; text = t.text }) (sym r.state_is)
           ∙ ap (λ (x : List ℕ). record { state = view q; text = x }) (sym (printed_front r.printed));
       none_held = refl;
       is_over = refl;
@@ -49,7 +49,7 @@ pub turned_last :
 turned_last {s} {count} {block} {r} {out} e l =
     record {
       goes_on = λ f. not_both e f;
-      has_ended = λ _. l.last-is;
+      has_ended = λ _. l.last_is;
       over_so = rw l.is_over (sym e);
       standing = rw l.is_over l.none_held;
       valid = l.valid;

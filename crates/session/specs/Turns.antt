@@ -80,7 +80,7 @@ Standing Nothing kept held there = held ≡ 0
 
 -- what is held is answered as a last request
 pub record LastTurn (s : Session) (block : List ℕ) (r : Session) (out : List ℕ) : Type 0 where
-  pub last-is : answered (view s.station) (held_of s block) ≡ record { state = view r.station; text = take r.at out }
+  pub last_is : answered (view s.station) (held_of s block) ≡ record { state = view r.station; text = take r.at out }
   pub none_held : r.held ≡ 0
   pub is_over : r.wants ≡ Nothing
   pub valid : Valid r.station

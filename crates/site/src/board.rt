@@ -1,7 +1,7 @@
 // A board: the starts of the tickets that are asked for.
 ghost use Rattle.std.specs.Prelude.{◌≡◌, true, ◌≤◌, length, replicate};
 ghost use Rattle.rules.specs.Site.{site_charges};
-ghost use Rattle.rules.specs.Calls.{rises_from, not_held, written, board as boardCall, step};
+ghost use Rattle.rules.specs.Calls.{rises_from, not_held, written, board as board_call, step};
 ghost use Rattle.boards.specs.Board.{Boarded};
 ghost use Rattle.station.specs.View.{view, Valid, station_of, Alone};
 ghost use Rattle.station.specs.Given.{Keeps};
@@ -37,7 +37,7 @@ fn board_feeders(station: Station, asked: &[u32], answers: &mut [u32]) -> usize
 // Of the only feeder.
 pub fn board_alone(one: One, asked: &[u32], answers: &mut [u32]) -> BoardAnswer
     requires { Alone one }
-    ensures { Keeps (step (view (station_of one)) (boardCall asked.now answers.old)) (station_of one) (board_answer result) answers.new }
+    ensures { Keeps (step (view (station_of one)) (board_call asked.now answers.old)) (station_of one) (board_answer result) answers.new }
 {
     let number = board_refusal(asked, &*answers);
     if 0 < number {
@@ -53,7 +53,7 @@ pub fn board_alone(one: One, asked: &[u32], answers: &mut [u32]) -> BoardAnswer
 // Writes the start of each ticket asked for, or 4,294,967,295, to the front of a lent list.
 pub fn board(station: Station, asked: &[u32], answers: &mut [u32]) -> BoardAnswer
     requires { Valid station }
-    ensures { Keeps (step (view station) (boardCall asked.now answers.old)) station (board_answer result) answers.new }
+    ensures { Keeps (step (view station) (board_call asked.now answers.old)) station (board_answer result) answers.new }
 {
     let refusal = board_refusal(asked, &*answers);
     if 0 < refusal {

@@ -2,7 +2,7 @@
 ghost use Rattle.std.specs.Prelude.{◌≡◌, ◌-◌, ◌*◌, ◌≤◌, length};
 ghost use Rattle.rules.specs.Basics.{first_of};
 ghost use Rattle.rules.specs.Site.{site_charges};
-ghost use Rattle.rules.specs.Calls.{reported as reportedBy, pairs, written, moved_to, move as moveCall, step};
+ghost use Rattle.rules.specs.Calls.{reported as reported_by, pairs, written, moved_to, move as move_call, step};
 ghost use Rattle.station.specs.View.{view, Formed, Valid, station_of, Alone};
 ghost use Rattle.station.specs.Given.{Leaves, LeavesAlone};
 ghost use Rattle.site.specs.Answers.{move_rows, move_answer};
@@ -49,7 +49,7 @@ fn move_refusal(count: usize, clock: u32, target: u32, list: &[u32]) -> u32
 // The report of all feeders, from the last one to the first. The answer: how many charges were reported.
 fn report_feeders(station: Station, target: u32, list: &mut [u32]) -> usize
     requires { Valid station × (360 * station.count ≤ length list.old) }
-    ensures { (result ≡ length (reportedBy station.clock target (site_charges (view station)))) × (list.new ≡ written (pairs (reportedBy station.clock target (site_charges (view station)))) list.old) }
+    ensures { (result ≡ length (reported_by station.clock target (site_charges (view station)))) × (list.new ≡ written (pairs (reported_by station.clock target (site_charges (view station)))) list.old) }
 {
     let mut reported = 0;
     let mut i = station.count;
@@ -84,7 +84,7 @@ fn dropped_at(station: Station, target: u32) -> usize
 // Of the only feeder.
 pub fn move_alone(one: One, target: u32, list: &mut [u32]) -> Moving
     requires { Alone one }
-    ensures { LeavesAlone (step (view (station_of one)) (moveCall target list.old)) (move_answer result.answer) result.left list.new }
+    ensures { LeavesAlone (step (view (station_of one)) (move_call target list.old)) (move_answer result.answer) result.left list.new }
 {
     let number = move_refusal(1, one.clock, target, &*list);
     if 0 < number {
@@ -113,7 +113,7 @@ pub fn move_alone(one: One, target: u32, list: &mut [u32]) -> Moving
 // Of all feeders: what is left has the next clock, and the finished charges are dropped when it is put back.
 pub fn move_clock(station: Station, target: u32, report: &mut [u32]) -> Moving
     requires { Valid station }
-    ensures { Leaves (step (view station) (moveCall target report.old)) station (move_answer result.answer) result.left report.new }
+    ensures { Leaves (step (view station) (move_call target report.old)) station (move_answer result.answer) result.left report.new }
 {
     let refusal = move_refusal(station.count, station.clock, target, &*report);
     if 0 < refusal {

@@ -1,6 +1,6 @@
 // An enquiry, whose answer has to be taken apart before a start can be read.
 ghost use Rattle.std.specs.Prelude.{◌≡◌, []};
-ghost use Rattle.rules.specs.Calls.{told as told_of, enquire as enquireCall, step};
+ghost use Rattle.rules.specs.Calls.{told as told_of, enquire as enquire_call, step};
 ghost use Rattle.charges.specs.Arrays.{charges_of};
 ghost use Rattle.charges.specs.Held.{Listed};
 ghost use Rattle.station.specs.View.{view, Valid, station_of, Alone};
@@ -40,7 +40,7 @@ pub fn told(held: Charges, clock: u32, ticket: u32) -> EnquiryAnswer
 // Of the only feeder.
 pub fn enquire_alone(one: One, ticket: u32) -> EnquiryAnswer
     requires { Alone one }
-    ensures { Keeps (step (view (station_of one)) (enquireCall ticket)) (station_of one) (enquiry_answer result) [] }
+    ensures { Keeps (step (view (station_of one)) (enquire_call ticket)) (station_of one) (enquiry_answer result) [] }
 {
     let feeder = one.feeder;
     let held = feeder.charges;
@@ -50,7 +50,7 @@ pub fn enquire_alone(one: One, ticket: u32) -> EnquiryAnswer
 // Of the feeder that holds the ticket.
 pub fn enquire(station: Station, ticket: u32) -> EnquiryAnswer
     requires { Valid station }
-    ensures { Keeps (step (view station) (enquireCall ticket)) station (enquiry_answer result) [] }
+    ensures { Keeps (step (view station) (enquire_call ticket)) station (enquiry_answer result) [] }
 {
     let Holder::At {
         feeder: k,

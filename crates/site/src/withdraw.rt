@@ -1,6 +1,6 @@
 // Withdrawing an order: a waiting charge is removed where the rest of its feeder's plan is sound.
 ghost use Rattle.std.specs.Prelude.{[], ◌≤◌};
-ghost use Rattle.rules.specs.Calls.{withdraw as withdrawCall, step};
+ghost use Rattle.rules.specs.Calls.{withdraw as withdraw_call, step};
 ghost use Rattle.charges.specs.Held.{Listed};
 ghost use Rattle.planner.specs.Ready.{around_of, Others};
 ghost use Rattle.station.specs.declared.Station.{Station};
@@ -32,7 +32,7 @@ pub struct Withdrawing {
 // ticket is not given again.
 pub fn withdraw<'a>(one: One, beside: Beside, rest: Rest<'a>, ticket: u32) -> Withdrawing
     requires { Listed one.feeder.charges × Others (around_of beside rest) × (beside.held ≤ 540) }
-    ensures leaves { (s : Station) → Of s one → BesideOf s one.place (around_of beside rest.entry) → Holding s ticket one.place → Leaves (step (view s) (withdrawCall ticket)) s (withdrawal_answer result.answer) result.left [] }
+    ensures leaves { (s : Station) → Of s one → BesideOf s one.place (around_of beside rest.entry) → Holding s ticket one.place → Leaves (step (view s) (withdraw_call ticket)) s (withdrawal_answer result.answer) result.left [] }
     ensures same_head { SameHead one result.left }
 {
     let n = one.feeder.charges.held;

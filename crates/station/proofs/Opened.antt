@@ -46,7 +46,7 @@ unfolding opening
 least_fresh e same =
     let f = same ∙ e in
     record {
-      state-is = ap view f;
+      state_is = ap view f;
       valid =
           record {
             formed = subst Formed (sym f) (formed_fresh least_asked (omega arith) (omega arith));
@@ -59,7 +59,7 @@ pub least_only :
     {asked : Asked} {g : Feeder} {count site next : ℕ} → asked ≡ least_asked → g ≡ fresh_at asked 0 → count ≡ asked.count → site ≡ asked.site
     → next ≡ 1 → OnlyLeast (record { count = count; site = site; clock = 0; next = next; place = 0; feeder = g })
 least_only {asked} {g} e f k s n =
-    rw (k, s, n, e) (record { state-is = least.state-is; alone = record { valid = least.valid; single = refl; first = refl } })
+    rw (k, s, n, e) (record { state_is = least.state_is; alone = record { valid = least.valid; single = refl; first = refl } })
   where
     least : FreshLeast (station_of (record { count = 1; site = 720; clock = 0; next = 1; place = 0; feeder = g }))
     least = least_fresh refl (ap (λ (x : Feeder). station_of (record { count = 1; site = 720; clock = 0; next = 1; place = 0; feeder = x })) (f ∙ ap (λ (a : Asked). fresh_at a 0) e))
@@ -76,7 +76,7 @@ open_refused a k e h l same =
     rw same
     (record {
       result =
-          rw (l.state-is, ← e)
+          rw (l.state_is, ← e)
           (sym (answering_refused k (fresh least) [] (result_of (opened (map (λ g. g.bound) (fresh a).feeders)) (fresh a)) h));
       valid = l.valid;
     })

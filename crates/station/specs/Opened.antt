@@ -83,12 +83,12 @@ open_answer (Refused number) = refused number
 
 -- a station that is the fresh one of the least settings
 pub record FreshLeast (s : Station) : Type 0 where
-  pub state-is : view s ≡ rules.fresh rules.least
+  pub state_is : view s ≡ rules.fresh rules.least
   pub valid : Valid s
 
 -- the only feeder of such a station
 pub record OnlyLeast (o : One) : Type 0 where
-  pub state-is : view (station_of o) ≡ rules.fresh rules.least
+  pub state_is : view (station_of o) ≡ rules.fresh rules.least
   pub alone : Alone o
 
 -- An opening gives exactly this result, and a station that is valid.

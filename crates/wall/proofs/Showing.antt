@@ -20,8 +20,8 @@ module _ {image : List ℕ} {r : Restored} (h : Restores image r) where
   refusal_is : r.answer ≡ restore_refusal image
   refusal_is = ap (λ (x : RestoreResult). x.refusal) h.result
 
-  state-is : view (station_of r.one) ≡ (restoring image).state
-  state-is = ap (λ (x : RestoreResult). x.state) h.result
+  state_is : view (station_of r.one) ≡ (restoring image).state
+  state_is = ap (λ (x : RestoreResult). x.state) h.result
 
   abbrev held : Charges
   held = r.one.feeder.charges
@@ -36,7 +36,7 @@ module _ {image : List ℕ} {r : Restored} (h : Restores image r) where
       (text : List ℕ) → r.answer ≡ 0 → text ≡ pages r.one.clock (charges_of held) → text ≡ wall image
   accepted_shown text e t =
       t
-      ∙ ap (λ (s : State). pages_of s) state-is
+      ∙ ap (λ (s : State). pages_of s) state_is
       ∙ sym (wall_accepted image (sym refusal_is ∙ e))
 
   pub restored_fits : Each ChargeFits (charges_of held)
