@@ -27,6 +27,8 @@ pub struct Committing {
 
 // A commit on the feeder that its order names, given what a preview of the order is shown. No other start moves. The new charge is put
 // behind the others of its feeder.
+// Not inlined, so that its copies of the feeder are on the stack only while it runs.
+#[inline(never)]
 pub fn commit(one: One, order: Order, shown: u32, found: PreviewAnswer) -> Committing
     requires { (s : Station) × (Of s one × Names one order.feeder × (preview_answer found ≡ (step (view s) (preview_of order)).answer)) }
     ensures leaves { (s : Station) → Of s one → Names one order.feeder → preview_answer found ≡ (step (view s) (preview_of order)).answer → Leaves (step (view s) (commit_of order shown)) s (commit_answer result.answer) result.left [] }

@@ -14,6 +14,8 @@ use planner::Beside;
 use station::One;
 
 // The feeder is that of the number, if there is one. What the others draw is lent.
+// Not inlined, so that its copies of the feeder are on the stack only while it runs.
+#[inline(never)]
 pub fn offer<'a>(one: One, beside: Beside, rest: Rest<'a>, number: u32, starts: &[u32]) -> Planning
     requires { CanPlan one (around_of beside rest) }
     ensures leaves { (s : Station) → Of s one → BesideOf s one.place (around_of beside rest.entry) → Names one number → Leaves (step (view s) (offer_call number starts.now)) s (plan_answer result.answer) result.left starts.now }

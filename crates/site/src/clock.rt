@@ -82,6 +82,8 @@ fn dropped_at(station: Station, target: u32) -> usize
 }
 
 // Of the only feeder.
+// Not inlined, so that its copies of the feeder are on the stack only while it runs.
+#[inline(never)]
 pub fn move_alone(one: One, target: u32, list: &mut [u32]) -> Moving
     requires { Alone one }
     ensures { LeavesAlone (step (view (station_of one)) (move_call target list.old)) (move_answer result.answer) result.left list.new }

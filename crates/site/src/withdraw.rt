@@ -30,6 +30,8 @@ pub struct Withdrawing {
 
 // From the feeder that holds the ticket, or any where none does. A start equal to the clock still waits. No other start moves, and the
 // ticket is not given again.
+// Not inlined, so that its copies of the feeder are on the stack only while it runs.
+#[inline(never)]
 pub fn withdraw<'a>(one: One, beside: Beside, rest: Rest<'a>, ticket: u32) -> Withdrawing
     requires { Listed one.feeder.charges × Others (around_of beside rest) × (beside.held ≤ 540) }
     ensures leaves { (s : Station) → Of s one → BesideOf s one.place (around_of beside rest.entry) → Holding s ticket one.place → Leaves (step (view s) (withdraw_call ticket)) s (withdrawal_answer result.answer) result.left [] }
