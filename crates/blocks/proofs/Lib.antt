@@ -1,5 +1,5 @@
 pub mod Filling
-pub mod Numbers
+pub mod Checking
 pub mod Taking
 pub mod Putting
-pub mod Counting
+pub mod Chunks

@@ -1,9 +1,8 @@
 -- The contents of the nine blocks one after another, 508 bytes of each: an image without its checks.
-use Rattle.std.specs.Prelude.{ℕ, ◌+◌, ◌*◌, ◌/◌, ◌%◌, ◌≡◌, Bool, List, length, get_or}
+use Rattle.std.specs.Prelude.{ℕ, ◌+◌, ◌*◌, ◌/◌, ◌%◌, ◌≡◌, Bool, List, get_or}
 use Rattle.layout.specs.Lists.{listed, every}
-use Rattle.layout.specs.Image.{check_of, block_byte}
+use Rattle.layout.specs.Image.{block_byte}
 use Rattle.layout.specs.Reading.{in_block, checked, same_place}
-use Rattle.blocks.specs.Places.{Filling}
 
 -- byte m of the contents of an image
 abbrev pub taken_at : List ℕ → ℕ → ℕ
@@ -27,20 +26,7 @@ laid_out contents = listed (laid_at contents) 4608
 unfoldable pub same_part : List ℕ → List ℕ → ℕ → ℕ → Bool
 same_part xs ys from count = every (λ i. same_place xs ys (from + i)) count
 
--- What the functions give
-
--- the contents of block b behind those of the blocks before it, and what they count to
-pub record BlockTaken (image : List ℕ) (b : ℕ) (before after : List ℕ) (sum : ℕ) : Type 0 where
-  pub counted : sum ≡ check_of (in_block image b)
-  pub long : length after ≡ 4572
-  pub taken : Filling (taken_at image) 4572 (508 * b) before → Filling (taken_at image) 4572 (508 * (b + 1)) after
-
 -- all contents, and whether the checks are right
 pub record BlocksTaken (image after : List ℕ) (right : Bool) : Type 0 where
   pub all_checked : right ≡ every (checked image) 9
   pub taken : after ≡ contents_in image
-
--- block b behind those before it
-pub record BlockPut (contents : List ℕ) (b : ℕ) (before after : List ℕ) : Type 0 where
-  pub long : length after ≡ 4608
-  pub put : Filling (laid_at contents) 4608 (512 * b) before → Filling (laid_at contents) 4608 (512 * (b + 1)) after

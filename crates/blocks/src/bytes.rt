@@ -9,32 +9,23 @@ pub fn byte_of(x: u32, j: usize) -> u8
     requires { j < 4 }
     ensures { result ≡ byte_of j x }
 {
-    ((x >> (8 * j)) % 256) as u8
-}
-
-pub fn wide(byte: u8) -> u32
-    ensures { (result ≡ byte) × (result < 256) }
-{
-    byte as u32
+    x.to_le_bytes()[j]
 }
 
 // The 32-bit number that begins at a place of the image.
+#[tactic(auto, unfolding(layout::specs::Reading::header_at))]
 pub fn number_at(image: &[u8], at: usize) -> u32
-    requires at_in_bounds { at + 4 ≤ length image.now }
-    requires at_bound { at < 100000 }
+    requires { at + 4 ≤ length image.now }
     ensures { result ≡ header_at image.now at }
 {
-    let low = wide(image[at]) + 256 * wide(image[at + 1]);
-    low + 65536 * wide(image[at + 2]) + 16777216 * wide(image[at + 3])
+    u32::from_le_bytes([image[at], image[at + 1], image[at + 2], image[at + 3]])
 }
 
 // Its four bytes, written there.
+#[tactic(auto, using(crate::proofs::Filling::put_four))]
 pub fn put_number(image: &mut [u8], at: usize, x: u32)
-    requires { (at + 4 ≤ length image.old) × (at < 100000) }
+    requires { at + 4 ≤ length image.old }
     ensures { Put image.old image.new at x }
 {
-    image[at] = byte_of(x, 0);
-    image[at + 1] = byte_of(x, 1);
-    image[at + 2] = byte_of(x, 2);
-    image[at + 3] = byte_of(x, 3);
+    image[at..at + 4].copy_from_slice(&x.to_le_bytes());
 }

@@ -1,67 +1,59 @@
 // The contents of the nine blocks, 508 bytes of each, one after another: taken from an image, and put into one with their checks.
-ghost use Rattle.std.specs.Prelude.{◌≡◌, ◌*◌, ◌<◌, ◌≤◌, length};
-ghost use Rattle.blocks.specs.Contents.{laid_out, BlockTaken, BlocksTaken, BlockPut};
+ghost use Rattle.std.specs.Prelude.{◌≡◌, ◌≤◌, length, get_or};
+ghost use Rattle.layout.specs.Image.{weighed};
+ghost use Rattle.blocks.specs.Contents.{laid_out, BlocksTaken};
 
-use crate::bytes::{number_at, put_number, wide};
+use crate::bytes::{number_at, put_number};
 
-pub const CONTENTS: usize = 4572;
+// "nine blocks of 512 bytes: 508 bytes, then a 32-bit check"; the 508 bytes are those of the contents.
+pub const BLOCKS: usize = 9;
 
-// What a byte of a block counts for: the factor is its place + 1.
-fn weight(factor: u32, byte: u8) -> u32
-    requires { factor ≤ 508 }
-    ensures { (result ≡ factor * byte) × (result ≤ 129540) }
+pub const BLOCK: usize = 512;
+
+pub const PER_BLOCK: usize = 508;
+
+pub const IMAGE: usize = BLOCKS * BLOCK;
+
+pub const CONTENTS: usize = BLOCKS * PER_BLOCK;
+
+// "the sum of (place + 1) × byte, places from 0"
+#[tactic(auto, using(layout::proofs::Checks::weighed_none, layout::proofs::Checks::weighed_more, crate::proofs::Checking::weight_small))]
+fn check_of(bytes: &[u8]) -> u32
+    requires { length bytes.now ≤ 508 }
+    ensures { result ≡ weighed (λ i. get_or bytes.now i 0) (length bytes.now) }
 {
-    factor * wide(byte)
-}
-
-// The contents of a block, and what they count to.
-fn take_block(image: &[u8], block: usize, contents: &mut [u8]) -> u32
-    requires { (block < 9) × (length image.now ≡ 4608) × (length contents.old ≡ 4572) }
-    ensures { BlockTaken image.now block contents.old contents.new result }
-{
-    let mut sum: u32 = 0;
-    for i in 0..508 {
-        contents[508 * block + i] = image[512 * block + i];
-        sum += weight(i as u32 + 1, image[512 * block + i]);
+    let mut sum = 0;
+    for (place, byte) in bytes.iter().enumerate() {
+        sum += (place as u32 + 1) * u32::from(*byte);
     }
     sum
 }
 
-// The contents of all blocks, and whether each block's check is right.
+// The contents of all blocks, and whether each block's check is right. They are taken also where one is wrong, so they are lent and no
+// `Option`. Blocks go by their numbers, since of what is written through `chunks_mut` a proof knows the length alone.
 pub fn take_blocks(image: &[u8], contents: &mut [u8]) -> bool
     requires { (length image.now ≡ 4608) × (length contents.old ≡ 4572) }
     ensures { BlocksTaken image.now contents.new result }
 {
     let mut right = true;
-    for block in 0..9 {
-        let sum = take_block(image, block, contents);
-        if sum != number_at(image, 512 * block + 508) {
-            right = false;
-        }
+    for block in 0..BLOCKS {
+        let start = BLOCK * block;
+        let bytes = &image[start..start + PER_BLOCK];
+        contents[PER_BLOCK * block..PER_BLOCK * (block + 1)].copy_from_slice(bytes);
+        right &= check_of(bytes) == number_at(image, start + PER_BLOCK);
     }
     right
 }
 
-// The contents of a block, then its check.
-fn put_block(contents: &[u8], block: usize, image: &mut [u8])
-    requires { (block < 9) × (length contents.now ≡ 4572) × (length image.old ≡ 4608) }
-    ensures { BlockPut contents.now block image.old image.new }
-{
-    let mut sum: u32 = 0;
-    for place in 0..508 {
-        let byte = contents[508 * block + place];
-        image[512 * block + place] = byte;
-        sum += weight(place as u32 + 1, byte);
-    }
-    put_number(image, 512 * block + 508, sum);
-}
-
-// The image that has these contents.
+// The image that has these contents, block by block in the same way.
 pub fn put_blocks(contents: &[u8], image: &mut [u8])
     requires { (length contents.now ≡ 4572) × (length image.old ≡ 4608) }
     ensures { image.new ≡ laid_out contents.now }
 {
-    for block in 0..9 {
-        put_block(contents, block, image);
+    for block in 0..BLOCKS {
+        let start = BLOCK * block;
+        let bytes = &contents[PER_BLOCK * block..PER_BLOCK * (block + 1)];
+        image[start..start + PER_BLOCK].copy_from_slice(bytes);
+        put_number(image, start + PER_BLOCK, check_of(bytes));
     }
 }

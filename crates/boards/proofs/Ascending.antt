@@ -1,33 +1,15 @@
 -- Numbers that rise along a list, place by place.
-use mathlib.Core.Path.{◌≡◌, refl}
+use mathlib.Core.Path.{◌≡◌, refl, sym}
 use Prim.Native.Nat.{ℕ, zero, suc, ◌+◌, ◌≤◌, ◌<◌}
-use mathlib.Core.Bool.{true, false}
+use mathlib.Core.Bool.{Bool, true, false}
 use mathlib.Core.List.{List, [], ◌∷◌}
 use native.Mathlib.Omega.{arith}
-use native.Mathlib.Numerals.{add-one}
-use lib.Dec.{leb}
-use lib.ListN.{length, get_or, drop, drop_of_length-le}
-use lib.Seq.{drop-cons}
-use borrow.Author.Tests.{leb-true, le-leb, lt-leb}
+use lib.Dec.{leb, ltb}
+use Rattle.std.specs.List.{IsAllAdjacentAnswer}
+use lib.ListN.{length, get_or}
+use borrow.Author.Tests.{leb-true, le-leb, ltb-true, ltb-false}
 use Rattle.rules.specs.Calls.{rises_from}
 use Rattle.rules.proofs.Ranges.{and_left, and_right}
-
--- The numbers behind the first i
-
--- 0 is below none
-pub rises_first : (xs : List ℕ) → rises_from 0 xs ≡ rises_from (get_or xs 0 0 + 1) (drop 1 xs)
-rises_first [] = refl
-rises_first (x ∷ xs) = rw (le-leb 0 x (omega arith), add-one x)
-
-module _ (xs : List ℕ) (low i : ℕ) where
-  pub rises_on : i < length xs → low ≤ get_or xs i 0 → rises_from low (drop i xs) ≡ rises_from (get_or xs i 0 + 1) (drop (i + 1) xs)
-  rises_on h l = rw (drop-cons xs i 0 h, le-leb low (get_or xs i 0) l, add-one i, add-one (get_or xs i 0))
-
-  pub rises_not : i < length xs → get_or xs i 0 < low → rises_from low (drop i xs) ≡ false
-  rises_not h l = rw (drop-cons xs i 0 h, lt-leb low (get_or xs i 0) l)
-
-  pub rises_end : length xs ≤ i → rises_from low (drop i xs) ≡ true
-  rises_end h = rw (drop_of_length-le xs h)
 
 -- Each number is above those before it
 
@@ -48,3 +30,25 @@ rises_apart a (x ∷ xs) e i zero h l = absurd (omega arith)
 rises_apart a (x ∷ xs) e zero (suc j) h l = rises_low (suc x) xs (and_right (leb a x) (rises_from (suc x) xs) e) j (omega arith)
 rises_apart a (x ∷ xs) e (suc i) (suc j) h l =
     rises_apart (suc x) xs (and_right (leb a x) (rises_from (suc x) xs) e) i j (omega arith) (omega arith)
+
+-- Each is above the one before it
+
+rises_above :
+    (a : ℕ) (xs : List ℕ)
+    → (0 < length xs → a ≤ get_or xs 0 0)
+    → ((k : ℕ) → k + 1 < length xs → get_or xs k 0 < get_or xs (k + 1) 0)
+    → rises_from a xs ≡ true
+rises_above a [] low h = refl
+rises_above a (x ∷ xs) low h =
+    rw (le-leb a x (low (omega arith)))
+    (rises_above (suc x) xs (λ l. h 0 (omega arith)) (λ k l. let e : suc k + 1 ≡ suc (k + 1) = omega arith in rw e at (h (suc k) (omega arith))))
+
+-- what the library says of neighbours that were compared
+pub rises_answer : (xs : List ℕ) (r : Bool) → IsAllAdjacentAnswer (λ x y b. b ≡ ltb x y) xs r → r ≡ rises_from 0 xs
+rises_answer xs true h = sym (rises_above 0 xs (λ l. omega arith) (λ k l. ltb-true (get_or xs k 0) (get_or xs (k + 1) 0) (sym (h k 0 l))))
+rises_answer xs false h = go (rises_from 0 xs) refl
+  where
+    go : (b : Bool) → rises_from 0 xs ≡ b → false ≡ b
+    go false e = refl
+    go true e =
+        absurd (omega (arith, ltb-false (get_or xs h.0 0) (get_or xs (h.0 + 1) 0) (sym (h.2 0)), rises_apart 0 xs e h.0 (h.0 + 1) (omega arith) h.1))

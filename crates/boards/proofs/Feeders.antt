@@ -1,10 +1,8 @@
 -- A board over several feeders, from the last one to the first: the answers are those of the rules.
-use mathlib.Core.Path.{◌≡◌, refl, sym, ap, ◌∙◌}
-use Prim.Native.Nat.{ℕ, zero, suc, ◌+◌, ◌<◌}
-use mathlib.Core.List.{List, [], ◌∷◌, ◌++◌}
-use native.Mathlib.Omega.{arith}
-use native.Mathlib.Numerals.{add-one}
-use lib.ListN.{length, set, drop, replicate, length-append, length-set, length-map, length-replicate}
+use mathlib.Core.Path.{◌≡◌, refl, sym, ◌∙◌}
+use Prim.Native.Nat.{ℕ, ◌+◌}
+use mathlib.Core.List.{List, [], ◌++◌}
+use lib.ListN.{length, drop, replicate, length-append, length-map, length-replicate}
 use Rattle.rules.specs.Basics.{keep}
 use Rattle.rules.specs.Charge.{Charge}
 use Rattle.rules.specs.Site.{State, site_charges}
@@ -12,36 +10,6 @@ use Rattle.rules.specs.Calls.{looked, is_looked_at, not_held, start_or_not_held,
 use Rattle.rules.proofs.Lists.{keep_append}
 use Rattle.boards.specs.Board.{Boarded}
 use Rattle.boards.proofs.Showing.{answered_append, answered_none, answered_all}
-
--- The same number at the first places
-
-fill_next : (x : ℕ) (list : List ℕ) (i : ℕ) → i < length list → set (replicate i x ++ drop i list) i x ≡ replicate (suc i) x ++ drop (suc i) list
-fill_next x [] i h = absurd (omega arith)
-fill_next x (y ∷ list) zero h = refl
-fill_next x (y ∷ list) (suc i) h = ap (λ l. x ∷ l) (fill_next x list i (omega arith))
-
--- at the first i places, and behind them the list is as it was lent
-pub record Fills (x : ℕ) (entry : List ℕ) (i : ℕ) (list : List ℕ) : Type 0 where
-  pub same_length : length list ≡ length entry
-  pub sum : list ≡ replicate i x ++ drop i entry
-
-pub fills_none : (x : ℕ) (entry : List ℕ) {i : ℕ} → i ≡ 0 → Fills x entry i entry
-fills_none x entry e = rw e (record { same_length = refl; sum = refl })
-
-pub fills_next :
-    {x i : ℕ} {entry list list' : List ℕ}
-    → Fills x entry i list
-    → i < length entry
-    → list' ≡ set list i x
-    → Fills x entry (i + 1) list'
-fills_next {x} {i} {entry} {list} v h s =
-    record {
-      same_length = ap length s ∙ length-set list i x ∙ v.same_length;
-      sum = s ∙ rw (v.sum, add-one i) (fill_next x entry i h);
-    }
-
-pub fills_end : {x i : ℕ} {entry list : List ℕ} (n : ℕ) → Fills x entry i list → i ≡ n → list ≡ written (replicate n x) entry
-fills_end {x} {i} {entry} n v e = v.sum ∙ rw (e, length-replicate {A = ℕ} n x)
 
 -- Feeder by feeder
 

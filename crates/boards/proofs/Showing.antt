@@ -1,12 +1,13 @@
 -- What charges show of a ticket, and the answers that some charges give.
-use mathlib.Core.Path.{◌≡◌, refl, ap, ◌∙◌}
+use mathlib.Core.Path.{◌≡◌, refl, ap, sym, ◌∙◌}
 use Prim.Native.Nat.{ℕ, zero, suc, ◌≤◌, ◌<◌}
 use mathlib.Core.Bool.{Bool, true, false, cond}
 use mathlib.Core.List.{List, [], ◌∷◌, ◌++◌, map}
 use native.Mathlib.Omega.{arith}
 use lib.Dec.{eqb}
 use lib.ListN.{length, get_or, set, replicate}
-use borrow.Author.Tests.{eqb-true, ne_eqb}
+use Rattle.std.proofs.lemmas.List.{set-get_or}
+use borrow.Author.Tests.{eqb-true, eq-eqb, ne_eqb}
 use Rattle.rules.specs.Basics.{Each}
 use Rattle.rules.specs.Charge.{Charge}
 use Rattle.rules.specs.Calls.{not_held, start_or_not_held}
@@ -37,6 +38,14 @@ shown_more x t cs c e = shown-append x t cs (c ∷ []) ∙ go (eqb c.ticket t) r
     go : (b : Bool) → eqb c.ticket t ≡ b → start_or (cond b c.start x) cs t ≡ cond b c.start (start_or x cs t)
     go true p = let same : c.ticket ≡ t = eqb-true c.ticket t p in shown_none c.start t cs (rw same at e)
     go false p = refl
+
+-- the answer at a place, after a charge was looked at
+module _ (list : List ℕ) (j start ticket asked : ℕ) {next : List ℕ} where
+  pub shown_here : ticket ≡ asked → next ≡ set list j start → next ≡ set list j (cond (eqb ticket asked) start (get_or list j 0))
+  shown_here e s = s ∙ rw (eq-eqb ticket asked e)
+
+  pub shown_before : (ticket ≡ asked → ⊥) → next ≡ list → next ≡ set list j (cond (eqb ticket asked) start (get_or list j 0))
+  shown_before ne s = s ∙ rw (ne_eqb ticket asked ne) (sym (set-get_or list j 0))
 
 -- The tickets asked for
 

@@ -1,7 +1,7 @@
 // The board: the starts of the charges that are asked for by their tickets, feeder by feeder.
 #![tactic(auto)]
 
-ghost use Rattle.std.specs.Prelude.{◌≡◌, cond, ◌&&◌, ◌≤◌, leb, ltb, eqb, length, get_or, replicate};
+ghost use Rattle.std.specs.Prelude.{◌≡◌, ◌&&◌, ◌≤◌, leb, ltb, length, get_or, replicate};
 ghost use Rattle.rules.specs.Basics.{first_of};
 ghost use Rattle.rules.specs.Site.{places, State};
 ghost use Rattle.rules.specs.Calls.{refusals, board as board_call, rises_from, not_held, written};
@@ -11,29 +11,20 @@ ghost use Rattle.boards.specs.Board.{CanBoard, Boarded};
 use charges::{Charges, PLACES};
 
 // "4,294,967,295 for one not held"
-const NOT_HELD: u32 = 4294967295;
+const NOT_HELD: u32 = u32::MAX;
 
 // Whether each number is above the one before it.
 fn rises(list: &[u32]) -> bool
     ensures { result ≡ rises_from 0 list.now }
 {
-    let n = list.len();
-    for i in 1..n {
-        if list[i] <= list[i - 1] {
-            return false;
-        }
-    }
-    true
+    list.is_sorted_by(|before, next| *before < *next)
 }
 
 // The number of the first refusal of a board, 0 where none applies, whatever the station holds.
 pub fn board_refusal(asked: &[u32], answers: &[u32]) -> u32
     ensures { (s : State) → result ≡ first_of (refusals s (board_call asked.now answers.now)) }
 {
-    if !rises(asked) {
-        return 23;
-    }
-    if PLACES < asked.len() {
+    if !rises(asked) || PLACES < asked.len() {
         return 23;
     }
     if answers.len() < asked.len() {
@@ -43,22 +34,11 @@ pub fn board_refusal(asked: &[u32], answers: &[u32]) -> u32
 }
 
 // Whether a charge is held at the place, with a ticket that is not above this one.
-fn is_looked_at(tickets: &[u32; PLACES], held: usize, place: usize, ticket: u32) -> bool
-    requires { held ≤ places }
-    ensures { result ≡ (ltb place held && leb (get_or tickets.now place 0) ticket) }
+fn is_looked_at(charges: &Charges, place: usize, ticket: u32) -> bool
+    requires { charges.now.held ≤ places }
+    ensures { result ≡ (ltb place charges.now.held && leb (get_or charges.now.tickets place 0) ticket) }
 {
-    if place < held {
-        tickets[place] <= ticket
-    } else {
-        false
-    }
-}
-
-// The start of a charge, where it has the ticket that is asked for; else what was there.
-fn shown_for(held: u32, ticket: u32, start: u32, other: u32) -> u32
-    ensures { result ≡ cond (eqb held ticket) start other }
-{
-    if held == ticket { start } else { other }
+    place < charges.held && charges.tickets[place] <= ticket
 }
 
 // The first `count` answers, while no charge was looked at.
@@ -66,32 +46,24 @@ pub fn none_held(answers: &mut [u32], count: usize)
     requires { count ≤ length answers.old }
     ensures { answers.new ≡ written (replicate count not_held) answers.old }
 {
-    for i in 0..count {
-        answers[i] = NOT_HELD;
-    }
+    answers[..count].fill(NOT_HELD);
 }
 
 // "It walks the held charges once": they and the tickets rise, so that a charge is passed with the first ticket that is not
 // below its own, and a ticket is done at the first charge above it. What a feeder does not hold keeps its answer. How many
 // charges were passed is told.
-pub fn board(charges: Charges, asked: &[u32], answers: &mut [u32]) -> usize
-    requires { CanBoard charges asked.now answers.old }
-    ensures { Boarded (charges_of charges) asked.now answers.old answers.new result }
+pub fn board(charges: &Charges, asked: &[u32], answers: &mut [u32]) -> usize
+    requires { CanBoard charges.now asked.now answers.old }
+    ensures { Boarded (charges_of charges.now) asked.now answers.old answers.new result }
 {
-    let held = charges.held;
-    let count = asked.len();
     let mut place = 0;
     let mut answered = 0;
-    while answered < count {
+    while answered < asked.len() {
         let ticket = asked[answered];
-        if is_looked_at(&charges.tickets, held, place, ticket) {
-            let other = answers[answered];
-            answers[answered] = shown_for(
-                charges.tickets[place],
-                ticket,
-                charges.starts[place],
-                other,
-            );
+        if is_looked_at(charges, place, ticket) {
+            if charges.tickets[place] == ticket {
+                answers[answered] = charges.starts[place];
+            }
             place += 1;
         } else {
             answered += 1;

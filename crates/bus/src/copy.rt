@@ -24,7 +24,7 @@ pub extern "C" fn togbeyis_save(image: &[u8], copy: &mut [u8], blocks: &mut u32)
         return refusal;
     }
     let one = restored.one;
-    let saved = save_only(one, copy);
+    let saved = save_only(&one, copy);
     let refused = saved.answer;
     if 0 < refused {
         return refused;

@@ -34,7 +34,7 @@ pub extern "C" fn togbeyis_open(
             four,
         } => {
             let station = opened.station;
-            let saved = save_back(station, image);
+            let saved = save_back(&station, image);
             let refusal = saved.answer;
             if 0 < refusal {
                 return refusal;

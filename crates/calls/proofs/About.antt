@@ -1,18 +1,17 @@
 -- The feeder that a call is about, and what it stands beside.
 use mathlib.Core.Path.{◌≡◌, refl, ap, sym, subst, ◌∙◌}
 use Prim.Native.Nat.{ℕ, ◌+◌, ◌≤◌, ◌<◌}
-use mathlib.Core.List.{List, map}
+use mathlib.Core.List.{List, [], map}
+use lib.ListN.{length}
 use native.Mathlib.Omega.{arith}
 use Rattle.rules.specs.Basics.{Found, at, nothing}
 use Rattle.rules.specs.Load.{Load, elsewhere}
 use Rattle.rules.specs.Charge.{loads_of}
 use Rattle.rules.specs.Site.{others_of}
-use Rattle.charges.specs.declared.drawn.Drawn.{Drawn}
-use Rattle.charges.specs.Drawn.{drawn_of, Draws, Reaches}
-use Rattle.charges.proofs.Drawing.{columns_reach}
-use Rattle.charges.specs.Held.{Listed}
+use Rattle.charges.specs.declared.loads.Loads.{Loads}
+use Rattle.charges.specs.Drawn.{loads_lent}
 use Rattle.planner.specs.declared.Beside.{Beside}
-use Rattle.planner.specs.Ready.{Around, Others}
+use Rattle.planner.specs.Others.{Others}
 use Rattle.station.specs.declared.Station.{Station}
 use Rattle.station.specs.declared.One.{One}
 use Rattle.station.specs.View.{view, Valid, one_at, Of, Names, Alone, station_of}
@@ -20,10 +19,9 @@ use Rattle.station.specs.Holders.{Lacks, HeldAt, Holding}
 use Rattle.station.specs.Beside.{BesideOf}
 use Rattle.station.proofs.Ones.{alone_of}
 use Rattle.station.proofs.Rests.{beside_of}
-use Rattle.planning.specs.Answers.{beside_for}
-use Rattle.planning.proofs.Ready.{can_plan}
-use Rattle.calls.specs.Applied.{NamedPlace, HeldPlace, PartsOf}
-use Rattle.calls.specs.declared.yard.Parts.{Parts}
+use Rattle.station.proofs.Held.{valid_others}
+use Rattle.planning.specs.Answers.{BesideFor}
+use Rattle.calls.specs.Applied.{NamedPlace, HeldPlace}
 
 -- One feeder of several. Numbers and lists that a call passes on are told by equations.
 
@@ -45,39 +43,17 @@ pub place_holds : {s : Station} {p q t u : ℕ} {o : One} → o ≡ one_at s q �
 place_holds {s} {p} {q} {t} {u} {o} e h same named =
     subst (λ x. Holding s x o.place) named (subst (Holding s u) (sym (ap (λ (x : One). x.place) e ∙ same)) h.holding)
 
--- how many charges the others hold is handed on
-pub held_is : {b told : Beside} → b ≡ told → b.held ≡ told.held
-held_is e = ap (λ (x : Beside). x.held) e
+-- What the others draw is lent
+module _ {s : Station} {p : ℕ} (v : Valid s) (h : p < s.count) {xs : List Load} (draws : xs ≡ map elsewhere (loads_of (others_of (view s) (p + 1)))) where
+  -- so that a plan may stand beside it
+  pub others_lent : {l : Loads} → length xs ≤ 540 → loads_lent l ≡ xs → Others l
+  others_lent {l} few lent = valid_others s v p h l (lent ∙ draws) (rw lent few)
 
--- and what these draw is lent
-pub several_around :
-    {s : Station} {o : One} {b : Beside} {n : ℕ} {xs : List Load} {d r : Drawn}
-    → Of s o
-    → b ≡ beside_for o n
-    → Draws xs d
-    → d.held ≤ 540
-    → xs ≡ map elsewhere (loads_of (others_of (view s) (o.place + 1)))
-    → r ≡ d
-    → BesideOf s o.place (record { clock = b.clock; limits = b.limits; rest = r })
-several_around {s} {o} {b} {n} {xs} {d} {r} f e draws few others same =
-    beside_of f (ap (λ (x : Beside). x.limits) e) (ap (λ (x : Beside). x.clock) e) (ap drawn_of same ∙ draws.loads ∙ others)
-    (subst Reaches (sym same) (columns_reach d draws.columns))
-    (omega (arith, few, ap (λ (x : Drawn). x.held) same))
-
--- Both, as they are gathered. The columns are those lent: their equation is shown where they are, with `held_is`.
-module _ {s : Station} {p : ℕ} {r : Parts} (v : Valid s) (h : p < s.count) (k : PartsOf s p r) where
-  pub parts_of : Of s r.one
-  parts_of = one_of v h k.taken
-
-  pub parts_around : {d : Drawn} → d ≡ r.others → BesideOf s r.one.place (record { clock = r.beside.clock; limits = r.beside.limits; rest = d })
-  parts_around same =
-      several_around parts_of k.beside k.draws k.few
-      (ap (λ q. map elsewhere (loads_of (others_of (view s) (q + 1)))) (sym (ap (λ (x : One). x.place) k.taken))) same
-
--- what a withdrawal asks
-pub can_withdraw :
-    {s : Station} {o : One} {b : Around} → Of s o → BesideOf s o.place b → Listed o.feeder.charges × Others b × (b.rest.held ≤ 540)
-can_withdraw f d = let can = can_plan f d in (can.ready.listed, can.others, can.few)
+  -- beside the feeder that was taken out
+  pub beside_at : {o : One} {l : Loads} {b : Beside} → o ≡ one_at s p → loads_lent l ≡ xs → BesideFor o l b → BesideOf s o.place b
+  beside_at {o} e lent made =
+      beside_of (one_of v h e) made.limits made.clock
+      (ap loads_lent made.others ∙ lent ∙ draws ∙ ap (λ q. map elsewhere (loads_of (others_of (view s) (q + 1)))) (sym (ap (λ (x : One). x.place) e)))
 
 -- The only feeder is that of every number and every ticket
 
@@ -94,15 +70,8 @@ alone_holds {o} a ticket =
     }
 
 -- and stands beside nothing
-pub alone_around :
-    {o : One} {b : Beside} {n : ℕ} {lines times starts rates : List ℕ} → Alone o → b ≡ beside_for o n → n ≡ 0 →
-    BesideOf (station_of o) o.place
-    (record { clock = b.clock; limits = b.limits; rest = record { held = b.held; lines = lines; active_times = times; starts = starts; rates = rates } })
-alone_around {o} {b} a e none =
-    let held : b.held ≡ 0 = held_is e ∙ none in
-    beside_of (alone_of a) (ap (λ (x : Beside). x.limits) e) (ap (λ (x : Beside). x.clock) e) (rw (held, a.first) refl)
-    (record { lines = omega (arith, held); active_times = omega (arith, held); starts = omega (arith, held); rates = omega (arith, held) })
-    (omega (arith, held))
+pub alone_beside : {o : One} {l : Loads} {b : Beside} → Alone o → loads_lent l ≡ [] → BesideFor o l b → BesideOf (station_of o) o.place b
+alone_beside a none made = beside_of (alone_of a) made.limits made.clock (ap loads_lent made.others ∙ none ∙ rw a.first refl)
 
 -- The place of a ticket by what was found
 

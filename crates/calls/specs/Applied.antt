@@ -1,10 +1,7 @@
 -- A call given as a value: the call of the rules that it is, and what applying it gives.
-use Rattle.std.specs.Prelude.{◌≡◌, ℕ, ◌+◌, ◌≤◌, ◌<◌, Bool, true, false, List, [], map}
+use Rattle.std.specs.Prelude.{◌≡◌, ℕ, ◌+◌, ◌≤◌, ◌<◌, Bool, true, false, List, []}
 use Rattle.rules.specs.Calls as rules
-use Rattle.rules.specs.Load.{elsewhere}
-use Rattle.rules.specs.Charge.{loads_of}
-use Rattle.rules.specs.Site.{State, others_of}
-use Rattle.charges.specs.Drawn.{Draws}
+use Rattle.rules.specs.Site.{State}
 use Rattle.rules.specs.Calls.{preview, commit, move, offer, replan_latest, replan_lines, enquire, board, withdraw, step}
 use Rattle.station.specs.declared.Station.{Station}
 use Rattle.calls.specs.declared.Call.{Call}
@@ -12,13 +9,11 @@ use Rattle.calls.specs.declared.Call.TheVariants.{Preview, Commit, Move, Offer, 
 use Rattle.calls.specs.declared.Answer.{Answer}
 use Rattle.calls.specs.declared.Answer.TheVariants.{Preview as PreviewOf, Commit as CommitOf, Move as MoveOf, Plan as PlanOf, Enquiry as EnquiryOf, Board as BoardOf, Withdrawal as WithdrawalOf}
 use Rattle.calls.specs.declared.Applied.{Applied}
-use Rattle.calls.specs.declared.yard.Parts.{Parts}
-use Rattle.station.specs.View.{view, one_at}
 use Rattle.station.specs.Holders.{Holding}
 use Rattle.station.specs.Given.{Gives}
 use Rattle.orders.specs.Shown.{preview_answer}
 use Rattle.ordering.specs.Answers.{commit_answer}
-use Rattle.planning.specs.Answers.{plan_answer, beside_for}
+use Rattle.planning.specs.Answers.{plan_answer}
 use Rattle.site.specs.Answers.{move_answer, enquiry_answer, board_answer, withdrawal_answer}
 
 -- the call of the rules, with the lists that are lent to it
@@ -109,10 +104,3 @@ pub record NamedPlace (count number place : ℕ) : Type 0 where
 pub record HeldPlace (s : Station) (ticket place : ℕ) : Type 0 where
   pub inside : place < s.count
   pub holding : Holding s ticket place
-
--- a feeder taken out, and what a plan of it stands beside
-pub record PartsOf (s : Station) (place : ℕ) (r : Parts) : Type 0 where
-  pub taken : r.one ≡ one_at s place
-  pub draws : Draws (map elsewhere (loads_of (others_of (view s) (place + 1)))) r.others
-  pub few : r.others.held ≤ 540
-  pub beside : r.beside ≡ beside_for r.one r.others.held

@@ -4,6 +4,7 @@ ghost use Rattle.station.specs.View.{view, station_of, Alone};
 ghost use Rattle.calls.specs.Applied.{keeps_of, Applies};
 
 use crate::{Answer, Call, Made};
+use charges::loads::Loads;
 use ordering::commit::commit;
 use ordering::start::preview_alone;
 use planning::beside;
@@ -16,9 +17,9 @@ use site::withdraw::withdraw;
 use station::One;
 
 // A call that keeps the station: its answer alone.
-pub fn ask(one: One, call: Call, numbers: &[u32], list: &mut [u32]) -> Answer
-    requires { Alone one × (keeps_of call ≡ true) }
-    ensures { Applies (view (station_of one)) call numbers.now list.old list.new result (station_of one) }
+pub fn ask(one: &One, call: Call, numbers: &[u32], list: &mut [u32]) -> Answer
+    requires { Alone one.now × (keeps_of call ≡ true) }
+    ensures { Applies (view (station_of one.now)) call numbers.now list.old list.new result (station_of one.now) }
 {
     if let Call::Preview { order } = call {
         let answer = preview_alone(one, order);
@@ -38,85 +39,70 @@ pub fn make(one: One, call: Call, numbers: &[u32], list: &mut [u32]) -> Made
     ensures applies { Applies (view (station_of one)) call numbers.now list.old list.new result.answer (station_of result.left) }
     ensures alone { Alone result.left }
 {
-    let zero = [0; 1];
-    let none = &zero[..];
-    let rest = [none, none, none, none];
-    let beside = beside(one, 0);
+    let beside = beside(&one, Loads::none());
     match call {
         Call::Preview { order } => {
-            let answer = preview_alone(one, order);
+            let answer = preview_alone(&one, order);
             Made {
                 answer: Answer::Preview(answer),
                 left: one,
             }
         }
         Call::Commit { order, shown } => {
-            let found = preview_alone(one, order);
+            let found = preview_alone(&one, order);
             let done = commit(one, order, shown, found);
-            let answer = done.answer;
-            let left = done.left;
             Made {
-                answer: Answer::Commit(answer),
-                left,
+                answer: Answer::Commit(done.answer),
+                left: done.left,
             }
         }
         Call::Move { target } => {
             let done = move_alone(one, target, list);
-            let answer = done.answer;
-            let left = done.left;
             Made {
-                answer: Answer::Move(answer),
-                left,
+                answer: Answer::Move(done.answer),
+                left: done.left,
             }
         }
         Call::Offer { feeder } => {
-            let done = offer(one, beside, rest, feeder, numbers);
-            let answer = done.answer;
-            let left = done.left;
+            let done = offer(one, beside, feeder, numbers);
             Made {
-                answer: Answer::Plan(answer),
-                left,
+                answer: Answer::Plan(done.answer),
+                left: done.left,
             }
         }
         Call::ReplanLatest { feeder } => {
-            let done = replan_latest(one, beside, rest, feeder);
-            let answer = done.answer;
-            let left = done.left;
+            let done = replan_latest(one, beside, feeder);
             Made {
-                answer: Answer::Plan(answer),
-                left,
+                answer: Answer::Plan(done.answer),
+                left: done.left,
             }
         }
         Call::ReplanLines { feeder, allowance } => {
-            let done = replan_lines(one, beside, rest, feeder, allowance);
-            let answer = done.answer;
-            let left = done.left;
+            let done = replan_lines(one, beside, feeder, allowance);
             Made {
-                answer: Answer::Plan(answer),
-                left,
+                answer: Answer::Plan(done.answer),
+                left: done.left,
             }
         }
         Call::Enquire { ticket } => {
-            let answer = enquire_alone(one, ticket);
+            let answer = enquire_alone(&one, ticket);
             Made {
                 answer: Answer::Enquiry(answer),
                 left: one,
             }
         }
         Call::Board => {
-            let answer = board_alone(one, numbers, list);
+            let answer = board_alone(&one, numbers, list);
             Made {
                 answer: Answer::Board(answer),
                 left: one,
             }
         }
         Call::Withdraw { ticket } => {
-            let done = withdraw(one, beside, rest, ticket);
-            let answer = done.answer;
-            let left = done.left;
+            let done = withdraw(one, beside, ticket);
             Made {
-                answer: Answer::Withdrawal(answer),
-                left,
+                answer: Answer::Withdrawal(done.answer),
+                left: done.left,
             }
         }
     }

@@ -20,11 +20,10 @@ impl Yard {
         ensures { Gives (step (view self.station) (move_call target report.old)) (move_answer result.answer) result.yard.station report.new }
     {
         let station = self.station;
-        let done = move_clock(station, target, report);
-        let answer = done.answer;
+        let done = move_clock(&station, target, report);
         let next = station.after(done.left);
         Moving {
-            answer,
+            answer: done.answer,
             yard: Yard { station: next },
         }
     }

@@ -31,7 +31,7 @@ impl Yard {
         requires { Valid self.station }
         ensures { Gives (step (view self.station) (preview_of order)) (preview_answer result.answer) result.yard.station [] }
     {
-        let answer = preview(self.station, order);
+        let answer = preview(&self.station, order);
         Previewing { answer, yard: self }
     }
 
@@ -41,17 +41,14 @@ impl Yard {
         ensures { Gives (step (view self.station) (commit_of order shown)) (commit_answer result.answer) result.yard.station [] }
     {
         let mut station = self.station;
-        let found = preview(station, order);
+        let found = preview(&station, order);
         let place = place_of(station.count, order.feeder);
         let one = station.one(place);
         let done = commit(one, order, shown, found);
-        let answer = done.answer;
-        let left = done.left;
-        let feeder = left.feeder;
-        station.feeders[place] = feeder;
-        station.next = left.next;
+        station.feeders[place] = done.left.feeder;
+        station.next = done.left.next;
         Committing {
-            answer,
+            answer: done.answer,
             yard: Yard { station },
         }
     }

@@ -6,10 +6,10 @@ ghost use Rattle.planning.specs.Answers.{plan_answer};
 ghost use Rattle.station.specs.View.{view, Valid};
 ghost use Rattle.station.specs.Given.{Gives};
 
-use crate::yard::{Yard, place_of, taken_out};
-use planning::PlanAnswer;
+use crate::yard::{Yard, place_of};
 use planning::offer::offer;
 use planning::replan::{replan_latest, replan_lines};
+use planning::{PlanAnswer, beside};
 
 #[derive(Clone, Copy)]
 pub struct Planning {
@@ -24,22 +24,14 @@ impl Yard {
     {
         let mut station = self.station;
         let place = place_of(station.count, feeder);
-        let parts = taken_out(station, place);
-        let others = parts.others;
-        let rest = [
-            &others.lines[..],
-            &others.active_times[..],
-            &others.starts[..],
-            &others.rates[..],
-        ];
-        let done = offer(parts.one, parts.beside, rest, feeder, starts);
-        let answer = done.answer;
-        let left = done.left;
-        let feeder = left.feeder;
-        station.feeders[place] = feeder;
-        station.next = left.next;
+        let one = station.one(place);
+        let others = station.rest(place);
+        let beside = beside(&one, others.loads());
+        let done = offer(one, beside, feeder, starts);
+        station.feeders[place] = done.left.feeder;
+        station.next = done.left.next;
         Planning {
-            answer,
+            answer: done.answer,
             yard: Yard { station },
         }
     }
@@ -50,22 +42,14 @@ impl Yard {
     {
         let mut station = self.station;
         let place = place_of(station.count, feeder);
-        let parts = taken_out(station, place);
-        let others = parts.others;
-        let rest = [
-            &others.lines[..],
-            &others.active_times[..],
-            &others.starts[..],
-            &others.rates[..],
-        ];
-        let done = replan_latest(parts.one, parts.beside, rest, feeder);
-        let answer = done.answer;
-        let left = done.left;
-        let feeder = left.feeder;
-        station.feeders[place] = feeder;
-        station.next = left.next;
+        let one = station.one(place);
+        let others = station.rest(place);
+        let beside = beside(&one, others.loads());
+        let done = replan_latest(one, beside, feeder);
+        station.feeders[place] = done.left.feeder;
+        station.next = done.left.next;
         Planning {
-            answer,
+            answer: done.answer,
             yard: Yard { station },
         }
     }
@@ -76,22 +60,14 @@ impl Yard {
     {
         let mut station = self.station;
         let place = place_of(station.count, feeder);
-        let parts = taken_out(station, place);
-        let others = parts.others;
-        let rest = [
-            &others.lines[..],
-            &others.active_times[..],
-            &others.starts[..],
-            &others.rates[..],
-        ];
-        let done = replan_lines(parts.one, parts.beside, rest, feeder, allowance);
-        let answer = done.answer;
-        let left = done.left;
-        let feeder = left.feeder;
-        station.feeders[place] = feeder;
-        station.next = left.next;
+        let one = station.one(place);
+        let others = station.rest(place);
+        let beside = beside(&one, others.loads());
+        let done = replan_lines(one, beside, feeder, allowance);
+        station.feeders[place] = done.left.feeder;
+        station.next = done.left.next;
         Planning {
-            answer,
+            answer: done.answer,
             yard: Yard { station },
         }
     }

@@ -5,7 +5,8 @@ ghost use Rattle.station.specs.View.{view, Valid};
 ghost use Rattle.station.specs.Given.{Gives};
 ghost use Rattle.site.specs.Answers.{enquiry_answer, board_answer, withdrawal_answer};
 
-use crate::yard::{Yard, holding, taken_out};
+use crate::yard::{Yard, holding};
+use planning::beside;
 use site::board::{BoardAnswer, board};
 use site::enquiry::{EnquiryAnswer, enquire};
 use site::withdraw::{WithdrawalAnswer, withdraw};
@@ -33,7 +34,7 @@ impl Yard {
         requires { Valid self.station }
         ensures { Gives (step (view self.station) (enquire_call ticket)) (enquiry_answer result.answer) result.yard.station [] }
     {
-        let answer = enquire(self.station, ticket);
+        let answer = enquire(&self.station, ticket);
         Enquiring { answer, yard: self }
     }
 
@@ -42,7 +43,7 @@ impl Yard {
         requires { Valid self.station }
         ensures { Gives (step (view self.station) (board_call asked.now answers.old)) (board_answer result.answer) result.yard.station answers.new }
     {
-        let answer = board(self.station, asked, answers);
+        let answer = board(&self.station, asked, answers);
         Boarding { answer, yard: self }
     }
 
@@ -52,23 +53,15 @@ impl Yard {
         ensures { Gives (step (view self.station) (withdraw_call ticket)) (withdrawal_answer result.answer) result.yard.station [] }
     {
         let mut station = self.station;
-        let place = holding(station, ticket);
-        let parts = taken_out(station, place);
-        let others = parts.others;
-        let rest = [
-            &others.lines[..],
-            &others.active_times[..],
-            &others.starts[..],
-            &others.rates[..],
-        ];
-        let done = withdraw(parts.one, parts.beside, rest, ticket);
-        let answer = done.answer;
-        let left = done.left;
-        let feeder = left.feeder;
-        station.feeders[place] = feeder;
-        station.next = left.next;
+        let place = holding(&station, ticket);
+        let one = station.one(place);
+        let others = station.rest(place);
+        let beside = beside(&one, others.loads());
+        let done = withdraw(one, beside, ticket);
+        station.feeders[place] = done.left.feeder;
+        station.next = done.left.next;
         Withdrawing {
-            answer,
+            answer: done.answer,
             yard: Yard { station },
         }
     }

@@ -6,17 +6,16 @@ use mathlib.Core.List.{List, [], ◌∷◌, ◌++◌, append_assoc, append-nil, 
 use native.Mathlib.Omega.{arith}
 use native.Mathlib.Numerals.{add-one}
 use lib.Dec.{eqb}
-use lib.ListN.{length, get_or, take, drop}
+use lib.ListN.{length, get_or, take, drop, length-append, length-map}
 use lib.Seq.{drop-cons, drop-length, take-length, take-nil}
 use borrow.Author.Tests.{eq-eqb, ne_eqb}
-use Rattle.rules.specs.Load.{elsewhere}
+use Rattle.rules.specs.Load.{Load, elsewhere}
 use Rattle.rules.specs.Charge.{load_of, loads_of, seen}
 use Rattle.rules.specs.Site.{places, Feeder, State, no_feeder, charges_on, joined, others_from, limits_of}
-use Rattle.rules.proofs.Lists.{map-append}
+use Rattle.rules.proofs.Lists.{map-append, length_tabulate}
 use Rattle.charges.specs.declared.Charges.{Charges}
-use Rattle.charges.specs.declared.drawn.Drawn.{Drawn}
-use Rattle.charges.specs.Arrays.{charges_of, Holds}
-use Rattle.charges.specs.Drawn.{drawn_of, seen_from, Draws}
+use Rattle.charges.specs.Arrays.{charge_at, charges_of, Holds}
+use Rattle.charges.specs.Drawn.{seen_from}
 
 -- From the last one to the first
 
@@ -53,52 +52,53 @@ others_more f i (suc k) (g ∷ gs) ne h = go (eqb i f) (others_more f (suc i) k 
         ap (λ l. g.charges ++ l) ih ∙ sym (append_assoc g.charges (others_from f (suc i) (take k gs)) (get_or gs k no_feeder).charges)
 
 -- what the others of the first k feeders draw, with room for one feeder more
-pub record OthersDrawn (f : ℕ) (gs : List Feeder) (k : ℕ) (d : Drawn) : Type 0 where
-  pub draws : Draws (map elsewhere (loads_of (others_from f 1 (take k gs)))) d
-  pub few : d.held ≤ places * k
+pub record OthersDrawn (f : ℕ) (gs : List Feeder) (k : ℕ) (drawn : List Load) : Type 0 where
+  pub loads : drawn ≡ map elsewhere (loads_of (others_from f 1 (take k gs)))
+  pub few : length drawn ≤ places * k
 
-pub others_none : (f : ℕ) (gs : List Feeder) {d : Drawn} → Draws [] d × (d.held ≡ 0) → OthersDrawn f gs 0 d
-others_none f gs v = record { draws = v.0; few = omega (arith, v.1) }
+pub others_none : (f : ℕ) (gs : List Feeder) {drawn : List Load} → drawn ≡ [] → OthersDrawn f gs 0 drawn
+others_none f gs e = record { loads = e; few = omega (arith, ap length e) }
 
-module _ {f : ℕ} {gs : List Feeder} {k : ℕ} {d : Drawn} (v : OthersDrawn f gs k d) where
+module _ {f : ℕ} {gs : List Feeder} {k : ℕ} {drawn : List Load} (v : OthersDrawn f gs k drawn) where
   -- the feeder itself is passed over
-  pub others_pass : k + 1 ≡ f → OthersDrawn f gs (k + 1) d
+  pub others_pass : k + 1 ≡ f → OthersDrawn f gs (k + 1) drawn
   others_pass e =
-      record { draws = rw (add-one k, others_own f 1 k gs (omega arith)) v.draws; few = omega (arith, v.few) }
+      record { loads = rw (add-one k, others_own f 1 k gs (omega arith)) v.loads; few = omega (arith, v.few) }
 
   pub others_join :
-      {c : Charges} {r : Drawn}
+      {c : Charges} {next : List Load}
       → (k + 1 ≡ f → ⊥)
       → k < length gs
       → Holds (get_or gs k no_feeder).charges c
-      → Draws (drawn_of d ++ seen_from false (loads_of (charges_of c))) r × (r.held ≡ d.held + c.held)
-      → OthersDrawn f gs (k + 1) r
-  others_join {c} {r} ne h e w =
+      → next ≡ drawn ++ seen_from false (loads_of (charges_of c))
+      → OthersDrawn f gs (k + 1) next
+  others_join {c} {next} ne h e w =
       record {
-        draws =
-            record {
-              loads =
-                  w.0.loads
-                  ∙ rw (
-                    v.draws.loads,
-                    e.charges,
-                    add-one k,
-                    others_more f 1 k gs (λ z. ne (omega arith)) h,
-                    map-append load_of (others_from f 1 (take k gs)) (get_or gs k no_feeder).charges,
-                    map-append elsewhere (loads_of (others_from f 1 (take k gs))) (loads_of (get_or gs k no_feeder).charges),
-                  );
-              columns = w.0.columns;
-            };
-        few = omega (arith, v.few, e.columns.few, w.1);
+        loads =
+            w
+            ∙ rw (
+              v.loads,
+              e.charges,
+              add-one k,
+              others_more f 1 k gs (λ z. ne (omega arith)) h,
+              map-append load_of (others_from f 1 (take k gs)) (get_or gs k no_feeder).charges,
+              map-append elsewhere (loads_of (others_from f 1 (take k gs))) (loads_of (get_or gs k no_feeder).charges),
+            );
+        few = omega (arith, v.few, e.columns.few, length_seen);
       }
+    where
+      length_seen : length next ≡ length drawn + c.held
+      length_seen =
+          ap length w
+          ∙ length-append drawn (seen_from false (loads_of (charges_of c)))
+          ∙ ap (λ n. length drawn + n) (length-map (loads_of (charges_of c)) elsewhere ∙ length-map (charges_of c) load_of ∙ length_tabulate (charge_at c) c.held 0)
 
 -- all of them, and then the feeder itself: what a plan of it has to do with
 pub drawn_seen :
-    (s : State) (f : ℕ) {c : Charges} {k : ℕ} {d r : Drawn}
-    → OthersDrawn f s.feeders k d
+    (s : State) (f : ℕ) {c : Charges} {k : ℕ} {drawn next : List Load}
+    → OthersDrawn f s.feeders k drawn
     → k ≡ length s.feeders
     → Holds (charges_on s f) c
-    → Draws (drawn_of d ++ seen_from true (loads_of (charges_of c))) r
-    → Draws (seen (limits_of s f) (charges_on s f)) r
-drawn_seen s f v n e w =
-    record { loads = w.loads ∙ rw (v.draws.loads, e.charges, n, take-length s.feeders); columns = w.columns }
+    → next ≡ drawn ++ seen_from true (loads_of (charges_of c))
+    → next ≡ seen (limits_of s f) (charges_on s f)
+drawn_seen s f v n e w = w ∙ rw (v.loads, e.charges, n, take-length s.feeders)

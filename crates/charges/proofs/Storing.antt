@@ -105,13 +105,13 @@ filled_set n v xs f =
       clear = λ i h. get_or-set_other xs n i v 0 (λ e. omega arith) ∙ f.clear i (omega arith);
     }
 
-module _ (c : Charges) (x : Charge) (w : Columns c) (room : c.held < places) where
+module _ (c : Charges) (x : Charge) (full : (k : Column) → length (column_of c k) ≡ places) (room : c.held < places) where
   put-new : charge_at (put c x) c.held ≡ x
   put-new =
       charge_same (charge_at (put c x) c.held) x
       (λ k.
       value_at (put c x) c.held k
-      ∙ rw (column_put c x k) (get_or-set_same (column_of c k) c.held (value_of x k) 0 (omega (arith, (w.filled k).full))))
+      ∙ rw (column_put c x k) (get_or-set_same (column_of c k) c.held (value_of x k) 0 (omega (arith, full k))))
 
   put-old : (j : ℕ) → j < c.held → charge_at (put c x) j ≡ charge_at c j
   put-old j h =
@@ -121,18 +121,17 @@ module _ (c : Charges) (x : Charge) (w : Columns c) (room : c.held < places) whe
       ∙ (rw (column_put c x k) (get_or-set_other (column_of c k) c.held j (value_of x k) 0 (λ e. omega arith)))
       ∙ sym (value_at c j k))
 
-  pub holds_put : Holds (charges_of c ++ (x ∷ [])) (put c x)
-  holds_put =
-      record {
-        charges =
-            rw (
-              tabulate_next (charge_at (put c x)) c.held,
-              put-new,
-              tabulate_same (charge_at (put c x)) (charge_at c) c.held 0 (λ j l m. put-old j (omega arith)),
-            );
-        columns =
-            record {
-              few = omega arith;
-              filled = λ k. rw (column_put c x k) (filled_set c.held (value_of x k) (column_of c k) (w.filled k));
-            };
-      }
+  pub charges_put : charges_of (put c x) ≡ charges_of c ++ (x ∷ [])
+  charges_put =
+      rw (
+        tabulate_next (charge_at (put c x)) c.held,
+        put-new,
+        tabulate_same (charge_at (put c x)) (charge_at c) c.held 0 (λ j l m. put-old j (omega arith)),
+      )
+
+pub columns_put : (c : Charges) (x : Charge) → c.held < places → Columns c → Columns (put c x)
+columns_put c x room w =
+    record {
+      few = omega arith;
+      filled = λ k. rw (column_put c x k) (filled_set c.held (value_of x k) (column_of c k) (w.filled k));
+    }

@@ -1,27 +1,13 @@
--- Walks along the places from 0 on: what one turn adds to a search, and to the members that pass a test.
+-- Walks along the places from 0 on: what one turn adds to the members that pass a test.
 use mathlib.Core.Path.{◌≡◌}
-use Prim.Native.Nat.{ℕ, suc, ◌+◌, ◌-◌, ◌≤◌, ◌<◌}
+use Prim.Native.Nat.{ℕ, ◌+◌, ◌≤◌, ◌<◌}
 use mathlib.Core.Bool.{Bool, true, false}
 use mathlib.Core.List.{[], ◌∷◌, ◌++◌, append-nil}
-use native.Mathlib.Omega.{arith}
-use native.Mathlib.Numerals.{add-one}
 use lib.ListN.{length, length-append}
 use borrow.Author.Tests.{lt-ltb, le-ltb}
-use Rattle.rules.specs.Basics.{tabulate, at, nothing, first, keep}
+use Rattle.rules.specs.Basics.{tabulate, keep}
 use Rattle.rules.specs.Charge.{Charge, is_waiting}
 use Rattle.rules.proofs.Lists.{tabulate_next, keep_append}
-
--- A search
-
-module _ (f : ℕ → Bool) (i n : ℕ) where
-  pub first_here : i < n → f i ≡ true → first f (n - i) i ≡ at i
-  first_here h e = let s : n - i ≡ suc (n - (i + 1)) = omega arith in rw (s, first, e)
-
-  pub first_next : i < n → f i ≡ false → first f (n - i) i ≡ first f (n - (i + 1)) (i + 1)
-  first_next h e = let s : n - i ≡ suc (n - (i + 1)) = omega arith in rw (s, first, e, add-one i)
-
-  pub first_end : n ≤ i → first f (n - i) i ≡ nothing
-  first_end h = let s : n - i ≡ 0 = omega arith in rw (s, first)
 
 -- The members that pass a test
 

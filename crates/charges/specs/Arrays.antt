@@ -1,11 +1,10 @@
 -- The charges held, as eight arrays: the list that they stand for, and what holds of the places behind it.
-use Rattle.std.specs.Prelude.{ℕ, ◌≤◌, ◌≡◌, List, length, get_or}
+use Rattle.std.specs.Prelude.{ℕ, ◌≤◌, ◌≡◌, List, length, get_or, Option, Some, None}
 use Rattle.rules.specs.Site.{places}
 use Rattle.rules.specs.Basics.{Found, at, nothing, tabulate}
 use Rattle.rules.specs.Charge.{Charge}
 use Rattle.charges.specs.declared.Charges.{Charges}
-use Rattle.charges.specs.declared.Place.{Place}
-use Rattle.charges.specs.declared.Place.TheVariants.{At, Nothing}
+use Rattle.charges.specs.declared.Charge as declared
 
 -- the eight arrays, so that a fact of each is said once
 pub data Column : Type 0 where
@@ -44,6 +43,10 @@ charge ticket line order_minute time active_time due start rate =
       rate = rate;
     }
 
+-- one charge, as the code hands it over
+abbrev pub charge_of : declared.Charge → Charge
+charge_of x = charge x.ticket x.line x.order_minute x.time x.active_time x.due x.start x.rate
+
 -- the charge at a place
 abbrev pub charge_at : Charges → ℕ → Charge
 charge_at c i =
@@ -70,6 +73,6 @@ pub record Holds (xs : List Charge) (c : Charges) : Type 0 where
   pub columns : Columns c
 
 -- what a search for a ticket found
-abbrev pub found_at : Place → Found
-found_at (At i) = at i
-found_at Nothing = nothing
+abbrev pub found_at : Option ℕ → Found
+found_at (Some i) = at i
+found_at None = nothing

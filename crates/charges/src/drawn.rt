@@ -1,31 +1,38 @@
 // What the charges of several feeders draw, one feeder after another.
-ghost use Rattle.std.specs.Prelude.{◌≡◌, cond, [], ◌+◌, ◌≤◌, length};
+ghost use Rattle.std.specs.Prelude.{◌≡◌, cond, List, [], ◌++◌, ◌+◌, ◌≤◌, length};
+ghost use Rattle.rules.specs.Charge.{loads_of};
 ghost use Rattle.rules.specs.Site.{places};
-ghost use Rattle.charges.specs.Drawn.{site_places, number_at, line_at, behind, Draws};
+ghost use Rattle.charges.specs.Arrays.{charges_of};
+ghost use Rattle.charges.specs.Drawn.{site_places, loads_lent, seen_from};
 
-use crate::PLACES;
+use crate::loads::Loads;
+use crate::{Charges, PLACES};
+use std::marker::Model;
 
 // "1 to 4 feeders, each with its own .. 180 places"
 pub const SITE_PLACES: usize = 4 * PLACES;
 
-// What the charges of other feeders draw, lent column by column: lines, active times, starts and rates.
-pub type Rest<'a> = [&'a [u32]; 4];
-
-pub const LINES: usize = 0;
-
-pub const ACTIVE_TIMES: usize = 1;
-
-pub const STARTS: usize = 2;
-
-pub const RATES: usize = 3;
-
-#[derive(Clone, Copy)]
+// Columns as those of the charges, for all feeders of a site.
+#[derive(Drop)]
 pub struct Drawn {
-    pub held: usize,
-    pub lines: [u32; SITE_PLACES],
-    pub active_times: [u32; SITE_PLACES],
-    pub starts: [u32; SITE_PLACES],
-    pub rates: [u32; SITE_PLACES],
+    held: usize,
+    lines: [u32; SITE_PLACES],
+    active_times: [u32; SITE_PLACES],
+    starts: [u32; SITE_PLACES],
+    rates: [u32; SITE_PLACES],
+}
+
+// Seen as the loads drawn.
+impl Model for Drawn {
+    ghost use Rattle.std.specs.Prelude.{List, ◌≤◌};
+    ghost use Rattle.rules.specs.Load.{Load};
+    ghost use Rattle.charges.specs.Drawn.{site_places, loads_in};
+
+    ghost Value = { List Load };
+
+    ghost view = { λ d. loads_in d.held d.lines d.active_times d.starts d.rates };
+
+    ghost invariant = { λ d. d.held ≤ site_places };
 }
 
 // The line on which a charge is seen: what another feeder draws counts as a fourth.
@@ -35,37 +42,9 @@ fn line_seen(own: bool, line: u32) -> u32
     if own { line } else { 4 }
 }
 
-// A column with that of one more feeder's charges behind what was there. Columns are lent one by one, since a copy of all four costs more.
-pub fn append(column: &mut [u32; SITE_PLACES], before: usize, more: &[u32; PLACES], count: usize)
-    requires { (length column.old ≡ site_places) × (count ≤ places) × (before + count ≤ site_places) }
-    ensures { column.new ≡ behind column.old before (number_at more.now) count }
-{
-    for i in 0..count {
-        let k = before + i;
-        column[k] = more[i];
-    }
-}
-
-// The column of lines likewise, on their own lines or as another feeder's.
-pub fn append_lines(
-    lines: &mut [u32; SITE_PLACES],
-    before: usize,
-    more: &[u32; PLACES],
-    count: usize,
-    own: bool,
-)
-    requires { (length lines.old ≡ site_places) × (count ≤ places) × (before + count ≤ site_places) }
-    ensures { lines.new ≡ behind lines.old before (line_at own more.now) count }
-{
-    for i in 0..count {
-        let k = before + i;
-        lines[k] = line_seen(own, more[i]);
-    }
-}
-
 impl Drawn {
     pub fn none() -> Drawn
-        ensures { Draws [] result × (result.held ≡ 0) }
+        ensures { result ≡ [] }
     {
         let zeros = [0; SITE_PLACES];
         Drawn {
@@ -74,6 +53,34 @@ impl Drawn {
             active_times: zeros,
             starts: zeros,
             rates: zeros,
+        }
+    }
+
+    // What one more feeder's charges draw, on their own lines or as another feeder's, behind what was there.
+    pub fn append(&mut self, charges: &Charges, own: bool)
+        requires { (charges.now.held ≤ places) × (length self.old + charges.now.held ≤ site_places) }
+        ensures { self.new ≡ self.old ++ seen_from own (loads_of (charges_of charges.now)) }
+    {
+        for i in 0..charges.held {
+            let k = self.held;
+            self.lines[k] = line_seen(own, charges.lines[i]);
+            self.active_times[k] = charges.active_times[i];
+            self.starts[k] = charges.starts[i];
+            self.rates[k] = charges.rates[i];
+            self.held = k + 1;
+        }
+    }
+
+    // What is drawn, lent.
+    pub fn loads(&self) -> Loads<'_>
+        ensures { loads_lent result ≡ self.now }
+    {
+        Loads {
+            held: self.held,
+            lines: &self.lines,
+            active_times: &self.active_times,
+            starts: &self.starts,
+            rates: &self.rates,
         }
     }
 }

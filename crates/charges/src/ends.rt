@@ -1,9 +1,7 @@
-// The ends of the held charges: the minute from which on they draw nothing, and how late they are.
-ghost use Rattle.std.specs.Prelude.{◌≡◌, List, ℕ, ◌≤◌, ◌+◌, ◌-◌, ◌<◌, max, length};
-ghost use Rattle.rules.specs.Load.{last_until};
+// The ends of the held charges, and how late they are.
+ghost use Rattle.std.specs.Prelude.{◌≡◌, ◌+◌, ◌-◌, ◌<◌};
 ghost use Rattle.rules.specs.Charge.{lateness as lateness_of};
 ghost use Rattle.charges.specs.Arrays.{charges_of, Columns};
-ghost use Rattle.charges.specs.Drawn.{loads_in};
 
 use crate::Charges;
 
@@ -11,43 +9,22 @@ use crate::Charges;
 pub fn end_of(start: u32, time: u32) -> u64
     ensures { (result ≡ start + time) × (result < 8589934592) }
 {
-    start as u64 + time as u64
+    u64::from(start) + u64::from(time)
 }
 
 fn late_of(start: u32, time: u32, due: u32) -> u64
     ensures { (result ≡ start + time - due) × (result < 8589934592) }
 {
-    let end = end_of(start, time);
-    let due = due as u64;
-    if due < end { end - due } else { 0 }
-}
-
-fn larger(a: u64, b: u64) -> u64
-    ensures { result ≡ max a b }
-{
-    if a < b { b } else { a }
-}
-
-// "Cause 4 compares the largest s + p + r of the site": that of charges of which two columns are lent, 0 if there is none.
-pub fn last_until<'a>(active_times: &'a [u32], starts: &'a [u32], held: usize) -> u64
-    requires { (held ≤ length active_times.now) × (held ≤ length starts.now) }
-    ensures { (lines rates : List ℕ) → result ≡ last_until (loads_in held lines active_times.now starts.now rates) }
-{
-    let mut last = 0;
-    for i in 0..held {
-        last = larger(last, end_of(starts[i], active_times[i]));
-    }
-    last
+    end_of(start, time).saturating_sub(u64::from(due))
 }
 
 impl Charges {
-    pub fn lateness(self) -> u64
-        requires { Columns self }
-        ensures { result ≡ lateness_of (charges_of self) }
+    pub fn lateness(&self) -> u64
+        requires { Columns self.now }
+        ensures { result ≡ lateness_of (charges_of self.now) }
     {
-        let n = self.held;
         let mut sum = 0;
-        for i in 0..n {
+        for i in 0..self.held {
             sum += late_of(self.starts[i], self.times[i], self.dues[i]);
         }
         sum

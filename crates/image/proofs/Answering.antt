@@ -22,23 +22,32 @@ use Rattle.layout.proofs.Testing.{Tested, valid_tested}
 use Rattle.layout.proofs.Refusing.{refused_contents, not_refused}
 use Rattle.layout.proofs.RoundTrip.{restoring_valid}
 use Rattle.validity.specs.Settled.{settings_valid}
-use Rattle.blocks.specs.Contents.{contents_in, same_part}
+use Rattle.std.specs.Cmp.Lexicographic.{pointwise}
+use Rattle.blocks.specs.Contents.{contents_in, BlocksTaken}
+use Rattle.blocks.proofs.Chunks.{same_part_told}
 use Rattle.records.specs.Contents.{contents_of, charge_from, state_from, header_right}
 use Rattle.records.specs.Columns.{ReadFrom}
 use Rattle.image.specs.Answers.{is_from, restored, Restores}
 use Rattle.image.specs.declared.restoring.Restored.{Restored}
-use Rattle.image.proofs.Imaging.{state_taken, right_taken}
+use Rattle.image.proofs.Imaging.{contents_long, state_taken, right_taken}
 
 -- Contents
 
 module _ (xs : List ℕ) (s : State) (b : Bool) where
-  pub not_of : b ≡ is_valid s → b ≡ false → false ≡ is_from xs s
+  pub not_of : b ≡ is_valid s → b ≡ false → b ≡ is_from xs s
   unfolding is_from
-  not_of p q = rw (← p, q)
+  not_of p q = q ∙ rw (← p, q)
 
-  pub of_told : (ys : List ℕ) (r : Bool) → b ≡ is_valid s → b ≡ true → ys ≡ contents_of s → r ≡ same_part xs ys 0 4572 → r ≡ is_from xs s
+  pub of_told :
+      (ys : List ℕ) (r : Bool)
+      → b ≡ is_valid s
+      → b ≡ true
+      → ys ≡ contents_of s
+      → length xs ≡ 4572
+      → r ≡ pointwise eqb xs ys
+      → r ≡ is_from xs s
   unfolding is_from
-  of_told ys r p q e h = rw (← p, q, ← e) h
+  of_told ys r p q e l h = rw (← p, q, ← e) (h ∙ same_part_told xs ys 4572 l (ap length e ∙ contents_long s))
 
 -- where block 0 is not right, the station that the contents would be of is not valid
 module _ (xs : List ℕ) where
@@ -72,17 +81,19 @@ module _ (xs : List ℕ) where
 
   pub header_wrong : header_right xs ≡ false → is_from xs (state_from xs) ≡ false
   header_wrong e =
-      sym
-      (not_of xs (state_from xs) (is_valid (state_from xs)) refl
-      (fails (is_valid (state_from xs)) (λ t. true≢false (sym (header_passes t) ∙ e))))
+      let f = fails (is_valid (state_from xs)) (λ t. true≢false (sym (header_passes t) ∙ e)) in
+      sym (not_of xs (state_from xs) (is_valid (state_from xs)) refl f) ∙ f
 
 -- Restoring
 
 -- an image whose checks are right, by the contents that were taken from it
-module _ (xs cs : List ℕ) (long : length xs ≡ 4608) (small : (k : ℕ) → get_or xs k 0 < 256) (checks : every (checked xs) 9 ≡ true)
-    (taken : cs ≡ contents_in xs) where
+module _ (xs cs : List ℕ) (right : Bool) (long : length xs ≡ 4608) (small : (k : ℕ) → get_or xs k 0 < 256) (taken : BlocksTaken xs cs right)
+    (found : right ≡ true) where
+  checks : every (checked xs) 9 ≡ true
+  checks = sym taken.all_checked ∙ found
+
   of_taken : is_of xs (state_in xs) ≡ is_from cs (state_from cs)
-  of_taken = right_taken xs long small checks ∙ ap (λ zs. is_from zs (state_from zs)) (sym taken)
+  of_taken = right_taken xs long small checks ∙ ap (λ zs. is_from zs (state_from zs)) (sym taken.taken)
 
   pub contents_wrong : is_from cs (state_from cs) ≡ false → restore_refusal xs ≡ 22
   contents_wrong e = refused_contents xs long checks (of_taken ∙ e)

@@ -1,93 +1,85 @@
 -- What saving answers and writes, way by way.
-use mathlib.Core.Path.{◌≡◌, refl, sym, subst, ◌∙◌}
+use mathlib.Core.Path.{◌≡◌, refl, ap, sym, ◌∙◌}
 use Prim.Native.Nat.{ℕ}
 use mathlib.Core.Bool.{Bool, true, false, ◌&&◌}
 use mathlib.Core.List.{List}
 use native.Mathlib.Omega.{arith}
+use lib.Dec.{eqb}
 use lib.ListN.{length}
-use borrow.Author.Tests.{eqb-true, eq-eqb, ne_eqb}
+use borrow.Author.Tests.{eqb-true, ne_eqb}
 use Rattle.rules.specs.Basics.{first_of}
 use Rattle.rules.specs.Site.{State}
 use Rattle.rules.proofs.Ranges.{and_left, and_right, fails}
 use Rattle.station.specs.declared.Station.{Station}
 use Rattle.station.specs.declared.One.{One}
-use Rattle.station.specs.View.{view, station_of}
+use Rattle.station.specs.View.{view, Valid, one_at, station_of}
 use Rattle.station.proofs.Views.{view_length}
+use Rattle.station.proofs.Ones.{taken_whole}
 use Rattle.layout.specs.Image.{image_of}
 use Rattle.layout.specs.Reading.{sized}
 use Rattle.layout.specs.Blocks.{differing}
-use Rattle.layout.specs.Saving.{has_one, save_rows, save_refusal, saving}
+use Rattle.layout.specs.Saving.{save_rows, save_refusal, saving}
 use Rattle.layout.proofs.Refusing.{saving_written}
 use Rattle.image.specs.declared.saving.Saved.{Saved}
-use Rattle.image.specs.Answers.{count_refusal, Saves}
-
--- The refusal, by the number of feeders
+use Rattle.image.specs.Answers.{count_refusal, Saves, SavesFirst}
 
 module _ (count : ℕ) (previous xs : List ℕ) where
-  pub size_refused : (n : ℕ) → (length previous ≡ 4608 → length xs ≡ 4608 → ⊥) → n ≡ 20 → n ≡ count_refusal count previous xs
-  unfolding count_refusal
-  size_refused n h e =
-      e
-      ∙ rw (fails (sized previous && sized xs)
-      (λ t. h (eqb-true (length previous) 4608 (and_left (sized previous) (sized xs) t)) (eqb-true (length xs) 4608 (and_right (sized previous) (sized xs) t))))
-
-  pub several_refused :
-      (n : ℕ) → length previous ≡ 4608 → length xs ≡ 4608 → (count ≡ 1 → ⊥) → n ≡ 22 → n ≡ count_refusal count previous xs
-  unfolding count_refusal
-  several_refused n h l several e = e ∙ rw (eq-eqb (length previous) 4608 h, eq-eqb (length xs) 4608 l, ne_eqb count 1 several)
-
-  pub none_refused : (n : ℕ) → length previous ≡ 4608 → length xs ≡ 4608 → count ≡ 1 → n ≡ 0 → n ≡ count_refusal count previous xs
-  unfolding count_refusal
-  none_refused n h l one e = e ∙ rw (eq-eqb (length previous) 4608 h, eq-eqb (length xs) 4608 l, eq-eqb count 1 one)
-
-  pub station_refused : (s : State) → length s.feeders ≡ count → count_refusal count previous xs ≡ save_refusal s previous xs
-  unfolding count_refusal save_refusal
-  station_refused s e = rw e
-
--- What is saved
-
-module _ (s : State) (previous xs : List ℕ) where
-  pub saves_refused : (n : ℕ) → n ≡ save_refusal s previous xs → (n ≡ 0 → ⊥) → Saves s previous xs xs (record { answer = n; blocks = 0 })
-  unfolding saving
-  saves_refused n e h = record { result = rw (← e, ne_eqb n 0 h) }
-
   -- what is saved: one feeder, over images of the right size
   pub record Passed : Type 0 where
     pub previous_long : length previous ≡ 4608
     pub long : length xs ≡ 4608
-    pub one : length s.feeders ≡ 1
+    pub one : count ≡ 1
 
   rows_pass : (p q : Bool) → first_of (save_rows p q) ≡ 0 → (p ≡ true) × (q ≡ true)
   rows_pass true true e = (refl, refl)
   rows_pass true false e = absurd (omega arith)
   rows_pass false q e = absurd (omega arith)
 
-  pub passed : (n : ℕ) → n ≡ save_refusal s previous xs → n ≡ 0 → Passed
-  unfolding save_refusal
+  pub passed : (n : ℕ) → n ≡ count_refusal count previous xs → n ≡ 0 → Passed
+  unfolding count_refusal
   passed n e z =
-      let p = rows_pass (sized previous && sized xs) (has_one s) (sym e ∙ z) in
+      let p = rows_pass (sized previous && sized xs) (eqb count 1) (sym e ∙ z) in
       record {
         previous_long = eqb-true (length previous) 4608 (and_left (sized previous) (sized xs) p.0);
         long = eqb-true (length xs) 4608 (and_right (sized previous) (sized xs) p.0);
-        one = eqb-true (length s.feeders) 1 p.1;
+        one = eqb-true count 1 p.1;
       }
 
-  pub saves_done :
-      (ps ys : List ℕ) (n : ℕ)
-      → Passed
-      → ps ≡ previous
-      → ys ≡ image_of s
-      → n ≡ differing ps ys
-      → Saves s previous xs ys (record { answer = 0; blocks = n })
-  saves_done ps ys n h p w e =
-      record { result = rw (e, p, w) (sym (saving_written s previous xs h.one h.previous_long h.long)) }
+  pub size_refused : (length xs ≡ 4608 → ⊥) → 20 ≡ count_refusal count previous xs
+  unfolding count_refusal
+  size_refused h =
+      rw (fails (sized previous && sized xs) (λ t. h (eqb-true (length xs) 4608 (and_right (sized previous) (sized xs) t))))
 
--- a station that is saved has one feeder
-pub passed_one : (s : Station) {previous xs : List ℕ} → Passed (view s) previous xs → s.count ≡ 1
-passed_one s p = sym (view_length s) ∙ p.one
+module _ (count : ℕ) (first : State) (previous xs : List ℕ) where
+  -- the refusal is that of each station with so many feeders
+  station_refused : (s : State) → length s.feeders ≡ count → count_refusal count previous xs ≡ save_refusal s previous xs
+  unfolding count_refusal save_refusal
+  station_refused s e = rw e
 
--- and what is saved of that feeder is saved of the station
-pub saves_whole :
-    (o : One) {s : Station} {previous before after : List ℕ} {r : Saved} → station_of o ≡ s → Saves (view (station_of o)) previous before after r
+  pub first_refused :
+      (n : ℕ) → n ≡ count_refusal count previous xs → (n ≡ 0 → ⊥) → SavesFirst count first previous xs xs (record { answer = n; blocks = 0 })
+  unfolding saving
+  first_refused n e h =
+      record { saves = λ s m w. record { result = rw (← (e ∙ station_refused s m), ne_eqb n 0 h) } }
+
+  pub first_saved :
+      (ys : List ℕ) (n : ℕ)
+      → Passed count previous xs
+      → ys ≡ image_of first
+      → n ≡ differing previous ys
+      → SavesFirst count first previous xs ys (record { answer = 0; blocks = n })
+  first_saved ys n h w e =
+      record {
+        saves = λ s m f.
+            let g : ys ≡ image_of s = w ∙ ap image_of (f h.one) in
+            record { result = rw (e, g) (sym (saving_written s previous xs (m ∙ h.one) h.previous_long h.long)) };
+      }
+
+-- the first feeder that is taken out of a station is the whole of it where there is no other
+pub saves_taken :
+    (s : Station) (o : One) {previous before after : List ℕ} {r : Saved}
+    → Valid s
+    → o ≡ one_at s 0
+    → SavesFirst s.count (view (station_of o)) previous before after r
     → Saves (view s) previous before after r
-saves_whole o {s} {previous} {before} {after} {r} e h = subst (λ (x : Station). Saves (view x) previous before after r) e h
+saves_taken s o v e h = h.saves (view s) (view_length s) (λ n. ap view (taken_whole v n e))

@@ -1,5 +1,5 @@
 -- What saving and restoring answer, write and give back.
-use Rattle.std.specs.Prelude.{ℕ, ◌≡◌, Bool, ◌&&◌, List, eqb}
+use Rattle.std.specs.Prelude.{ℕ, ◌≡◌, Bool, ◌&&◌, List, length, eqb}
 use Rattle.rules.specs.Basics.{first_of}
 use Rattle.rules.specs.Site.{State}
 use Rattle.station.specs.View.{view, station_of, Alone}
@@ -21,6 +21,10 @@ count_refusal count previous list = first_of (save_rows (sized previous && sized
 
 pub record Saves (s : State) (previous before after : List ℕ) (r : Saved) : Type 0 where
   pub result : saved r after ≡ saving s previous before
+
+-- the same of each station with so many feeders, of which the first is that of `first` if there is no other
+pub record SavesFirst (count : ℕ) (first : State) (previous before after : List ℕ) (r : Saved) : Type 0 where
+  pub saves : (s : State) → length s.feeders ≡ count → (count ≡ 1 → first ≡ s) → Saves s previous before after r
 
 -- contents that are those of this station, and it is valid
 unfoldable pub is_from : List ℕ → State → Bool

@@ -1,12 +1,11 @@
 // An image accepted, or refused with 20, 21 or 22.
-ghost use Rattle.std.specs.Prelude.{◌≡◌, length};
+ghost use Rattle.std.specs.Prelude.{◌≡◌};
 ghost use Rattle.rules.specs.Calls.{fresh, least};
 ghost use Rattle.station.specs.View.{view, station_of, Alone};
 ghost use Rattle.validity.specs.Settled.{Settled};
 ghost use Rattle.image.specs.Answers.{is_from, Restores};
 
-use blocks::comparing::same_part;
-use blocks::contents::{CONTENTS, take_blocks};
+use blocks::contents::{CONTENTS, IMAGE, take_blocks};
 use records::reading::{header_right, read};
 use records::writing::contents_of;
 use station::One;
@@ -21,15 +20,11 @@ pub struct Restored {
 }
 
 // Whether the contents are those of this feeder's station, and the station valid: "All else is zero" is found by writing them again.
-fn is_of(contents: &[u8], one: One) -> bool
-    requires { (length contents.now ≡ 4572) × Settled one }
-    ensures { result ≡ is_from contents.now (view (station_of one)) }
+fn is_of(contents: &[u8; CONTENTS], one: &One) -> bool
+    requires { Settled one.now }
+    ensures { result ≡ is_from contents.now (view (station_of one.now)) }
 {
-    if !is_valid(one) {
-        return false;
-    }
-    let again = contents_of(one);
-    same_part(contents, &again, 0, CONTENTS)
+    is_valid(one) && *contents == contents_of(one)
 }
 
 // "Beside a refused restore stands the fresh station of 1, 100 and r = 0": "one feeder and W 720".
@@ -43,10 +38,10 @@ fn refused(answer: u32) -> Restored
 pub fn restore(image: &[u8]) -> Restored
     ensures { Restores image.now result }
 {
-    if image.len() != 4608 {
+    if image.len() != IMAGE {
         return refused(20);
     }
-    let mut contents = [0u8; CONTENTS];
+    let mut contents = [0; CONTENTS];
     if !take_blocks(image, &mut contents) {
         return refused(21);
     }
@@ -54,7 +49,7 @@ pub fn restore(image: &[u8]) -> Restored
         return refused(22);
     }
     let one = read(&contents);
-    if !is_of(&contents, one) {
+    if !is_of(&contents, &one) {
         return refused(22);
     }
     Restored { answer: 0, one }

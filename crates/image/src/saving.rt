@@ -1,12 +1,11 @@
 // A station saved as an image.
-ghost use Rattle.std.specs.Prelude.{◌≡◌, length};
+ghost use Rattle.std.specs.Prelude.{◌≡◌};
 ghost use Rattle.charges.specs.Arrays.{Columns};
-ghost use Rattle.layout.specs.Image.{image_of};
 ghost use Rattle.station.specs.View.{view, Valid, station_of, Alone};
-ghost use Rattle.image.specs.Answers.{count_refusal, Saves};
+ghost use Rattle.image.specs.Answers.{count_refusal, SavesFirst, Saves};
 
 use blocks::comparing::{copied, differing_blocks};
-use blocks::contents::put_blocks;
+use blocks::contents::{IMAGE, put_blocks};
 use records::writing::contents_of;
 use station::{One, Station};
 
@@ -17,23 +16,12 @@ pub struct Saved {
     pub blocks: u32,
 }
 
-// The image of the station of which this is the only feeder, written whole.
-fn write(one: One, image: &mut [u8])
-    requires { Columns one.feeder.charges × (length image.old ≡ 4608) }
-    ensures { image.new ≡ image_of (view (station_of one)) }
-{
-    let contents = contents_of(one);
-    put_blocks(&contents, image);
-}
-
 // The refusal of saving a station with so many feeders, 0 where none applies: 20 for either size, then 22 for several feeders.
+#[tactic(auto, unfolding(crate::specs::Answers::count_refusal))]
 fn save_refusal(count: usize, previous: &[u8], image: &[u8]) -> u32
     ensures { result ≡ count_refusal count previous.now image.now }
 {
-    if previous.len() != 4608 {
-        return 20;
-    }
-    if image.len() != 4608 {
+    if previous.len() != IMAGE || image.len() != IMAGE {
         return 20;
     }
     if count != 1 {
@@ -42,54 +30,64 @@ fn save_refusal(count: usize, previous: &[u8], image: &[u8]) -> u32
     0
 }
 
-// How many blocks differ from the previous image; or the refusal, and then nothing is written.
-pub fn save(station: Station, previous: &[u8], image: &mut [u8]) -> Saved
-    requires { Valid station }
-    ensures { Saves (view station) previous.now image.old image.new result }
+// The image of a station with so many feeders, of which this is the first, and how many blocks differ from the previous image; or the
+// refusal, and then nothing is written.
+fn save_first(count: usize, one: &One, previous: &[u8], image: &mut [u8]) -> Saved
+    requires { Columns one.now.feeder.charges }
+    ensures { SavesFirst count (view (station_of one.now)) previous.now image.old image.new result }
 {
-    let refusal = save_refusal(station.count, previous, image);
+    let refusal = save_refusal(count, previous, image);
     if refusal != 0 {
         return Saved {
             answer: refusal,
             blocks: 0,
         };
     }
-    let one = station.one(0);
-    write(one, image);
-    let blocks = differing_blocks(previous, image);
-    Saved { answer: 0, blocks }
+    put_blocks(&contents_of(one), image);
+    Saved {
+        answer: 0,
+        blocks: differing_blocks(previous, image),
+    }
 }
 
 // The same where the previous image is the one that is lent: how many of its blocks change.
-pub fn save_back(station: Station, image: &mut [u8]) -> Saved
-    requires { Valid station }
-    ensures { Saves (view station) image.old image.old image.new result }
+#[tactic(auto, using(crate::proofs::SavedImages::first_refused, crate::proofs::SavedImages::size_refused))]
+fn save_over(count: usize, one: &One, image: &mut [u8]) -> Saved
+    requires { Columns one.now.feeder.charges }
+    ensures { SavesFirst count (view (station_of one.now)) image.old image.old image.new result }
 {
-    let refusal = save_refusal(station.count, image, image);
-    if refusal != 0 {
+    if image.len() != IMAGE {
         return Saved {
-            answer: refusal,
-            blocks: 0,
-        };
-    }
-    let one = station.one(0);
-    save_only(one, image)
-}
-
-// The same of the only feeder of a station, which is never refused for several.
-pub fn save_only(one: One, image: &mut [u8]) -> Saved
-    requires { Alone one }
-    ensures { Saves (view (station_of one)) image.old image.old image.new result }
-{
-    let refusal = save_refusal(1, image, image);
-    if refusal != 0 {
-        return Saved {
-            answer: refusal,
+            answer: 20,
             blocks: 0,
         };
     }
     let before = copied(image);
-    write(one, image);
-    let blocks = differing_blocks(&before, image);
-    Saved { answer: 0, blocks }
+    save_first(count, one, &before, image)
+}
+
+// A station over an image that is lent beside the previous one.
+#[tactic(auto, using(crate::proofs::SavedImages::saves_taken))]
+pub fn save(station: &Station, previous: &[u8], image: &mut [u8]) -> Saved
+    requires { Valid station.now }
+    ensures { Saves (view station.now) previous.now image.old image.new result }
+{
+    save_first(station.count, &station.one(0), previous, image)
+}
+
+// A station over its previous image.
+#[tactic(auto, using(crate::proofs::SavedImages::saves_taken))]
+pub fn save_back(station: &Station, image: &mut [u8]) -> Saved
+    requires { Valid station.now }
+    ensures { Saves (view station.now) image.old image.old image.new result }
+{
+    save_over(station.count, &station.one(0), image)
+}
+
+// The only feeder of a station over its previous image, which is never refused for several.
+pub fn save_only(one: &One, image: &mut [u8]) -> Saved
+    requires { Alone one.now }
+    ensures { Saves (view (station_of one.now)) image.old image.old image.new result }
+{
+    save_over(1, one, image)
 }

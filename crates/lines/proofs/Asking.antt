@@ -1,12 +1,13 @@
 -- What an unbalanced minute asks for: seen from the profiles, and as the rules have it.
-use mathlib.Core.Path.{◌≡◌, refl, ◌∙◌}
+use mathlib.Core.Path.{◌≡◌, refl, sym, ◌∙◌, ap}
 use Prim.Native.Nat.{ℕ, zero, suc, ◌+◌, ◌≤◌, ◌<◌}
 use mathlib.Core.Bool.{true, false}
 use mathlib.Core.List.{List, ◌++◌}
 use native.Mathlib.Omega.{arith}
 use lib.Dec.{ltb}
-use lib.ListN.{take}
+use lib.ListN.{length, get_or, take}
 use borrow.Author.Tests.{eq-eqb, ne_eqb, lt-ltb, le-ltb}
+use Rattle.std.specs.declared.option.Option.TheVariants.{Some, None}
 use Rattle.rules.specs.Basics.{at, nothing, Each}
 use Rattle.rules.specs.Load.{Load, count, counts}
 use Rattle.rules.specs.Charge.{Charge, loads_of}
@@ -14,49 +15,47 @@ use Rattle.rules.specs.Search.{Caps, first_unbalanced}
 use Rattle.rules.specs.Replan.{starts, none, largest_line, smallest_line, placed_active, ends, lowers, after_round, round, standing}
 use Rattle.rules.proofs.Lists.{each_right}
 use Rattle.rules.proofs.Counts.{count-append}
+use Rattle.rules.proofs.Rounds.{smallest_line_lem}
 use Rattle.charges.specs.declared.Charges.{Charges}
 use Rattle.charges.specs.Arrays.{charges_of}
-use Rattle.profile.specs.Shows.{Profile, of_lines, level_of, levels, most_drawn, Rated}
-use Rattle.profile.proofs.Picks.{largest_same, smallest_same}
-use Rattle.lines.specs.declared.rounds.Outcome.TheVariants.{Ends, Lowers}
+use Rattle.profile.specs.declared.steps.Step.{Step}
+use Rattle.profile.specs.Steps.{minutes_of, counts_of, empty_step, In}
+use Rattle.profile.specs.Shows.{Profile, line_of, level_of, levels, most_drawn, Rated}
+use Rattle.profile.proofs.Levels.{level_in}
 use Rattle.planner.specs.Starts.{waiting_count, WaitingStarts}
-use Rattle.planner.specs.Ready.{Around, terms_of}
+use Rattle.planner.specs.declared.Beside.{Beside}
+use Rattle.planner.specs.Ready.{terms_of}
 use Rattle.planner.specs.Placed.{plan_of, AllPlaced}
+use Rattle.planner.proofs.Placing.{placed_active_lem}
 use Rattle.lines.specs.Lines.{lines_placed}
 use Rattle.lines.specs.Rounds.{asked_in, Comparable}
-use Rattle.planner.proofs.Placing.{placed_active_lem}
-use Rattle.lines.proofs.Extremes.{smallest_is}
+use Rattle.lines.proofs.Extremes.{largest_alike, smallest_alike}
 
--- Seen from the profiles
+-- Seen from the profiles: s is the step of the minute
 
-module _ {p base : Profile} {t bound : ℕ} (h : Comparable p base t bound) {one two three : ℕ} (a : one ≡ level_of p 1 t)
-    (b : two ≡ level_of p 2 t) (d : three ≡ level_of p 3 t) where
-  pub low_small : {j z : ℕ} → j ≡ smallest_line (of_lines one two three 0) → z ≡ level_of p j t → z ≤ most_drawn
-  low_small {j} small ez = rw ez (h.small j (smallest_is one two three small))
+module _ {p base : Profile} {t bound : ℕ} (h : Comparable p base t bound) {i : ℕ} (inside : In (minutes_of p) (length p) i t) {s : Step}
+    (is : s ≡ get_or p i (empty_step 0)) where
+  counted : (l : ℕ) → counts_of s l ≡ level_of p l t
+  counted l = ap (λ (x : Step). counts_of x l) is ∙ sym (level_in (minutes_of p) (line_of p l) (length p) i t inside)
 
-  module _ {i x y : ℕ} (large : i ≡ largest_line (of_lines one two three 0)) (ex : x ≡ level_of p i t) (ey : y ≡ level_of base i t) where
-    pub asked_none : x ≡ y → Ends ≡ asked_in p base t bound
-    asked_none e = rw (← (large ∙ largest_same (levels p t) a b d), ← ex, ← ey, eq-eqb x y e)
+  large : largest_line (counts_of s) ≡ largest_line (levels p t)
+  large = largest_alike (counts_of s) (levels p t) (λ l on. counted l)
+
+  small : smallest_line (counts_of s) ≡ smallest_line (levels p t)
+  small = smallest_alike (counts_of s) (levels p t) (λ l on. counted l)
+
+  pub low_small : {low : ℕ} → low ≡ smallest_line (counts_of s) → counts_of s low ≤ most_drawn
+  low_small {low} e = rw (counted low) (h.small low (rw e (smallest_line_lem (counts_of s)).line))
+
+  module _ {line x y : ℕ} (e : line ≡ largest_line (counts_of s)) (ex : x ≡ counts_of s line) (ey : y ≡ level_of base line t) where
+    pub asked_none : x ≡ y → None ≡ asked_in p base t bound
+    asked_none same = rw (← (e ∙ large), ← (ex ∙ counted line), ← ey, eq-eqb x y same)
 
     pub asked_lowers :
-        {j z line cap : ℕ}
-        → (x ≡ y → ⊥)
-        → j ≡ smallest_line (of_lines one two three 0)
-        → z ≡ level_of p j t
-        → line ≡ i
-        → cap ≡ z + bound
-        → Lowers line t cap ≡ asked_in p base t bound
-    asked_lowers ne small ez same_line same-cap =
-        rw (
-          same_line,
-          same-cap,
-          ← (large ∙ largest_same (levels p t) a b d),
-          ← ex,
-          ← ey,
-          ne_eqb x y ne,
-          ← (small ∙ smallest_same (levels p t) a b d),
-          ← ez,
-        )
+        {low cap : ℕ} → (x ≡ y → ⊥) → low ≡ smallest_line (counts_of s) → cap ≡ counts_of s low + bound
+        → Some (record { line = line; minute = t; cap = cap }) ≡ asked_in p base t bound
+    asked_lowers {low} ne el ec =
+        rw (ec, ← (e ∙ large), ← (ex ∙ counted line), ← ey, ne_eqb x y ne, ← (el ∙ small), ← (counted low))
 
 -- As the rules have it
 
@@ -78,8 +77,8 @@ module _ (base : List Load) (placed : List Charge) (i t : ℕ) (rated : Each Rat
       more zero e = absurd (h (omega (arith, both)))
       more (suc k) e = omega arith
 
-module _ (cap : Caps) (b : Around) {size : ℕ} {c : Charges} {p : Profile} {given : List ℕ}
-    (a : AllPlaced (lines_placed cap b c 3) size (terms_of b) b.clock c p given) where
+module _ (cap : Caps) (b : Beside) {c : Charges} {p : Profile} {given : List ℕ}
+    (a : AllPlaced (lines_placed cap b c 3) (terms_of b) b.clock c p given) where
   abbrev base : List Load
   base = standing (terms_of b) b.clock (charges_of c)
 

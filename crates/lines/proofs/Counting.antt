@@ -1,156 +1,102 @@
 -- The rounds of replan by lines: what one more does, and the loop over them.
 use mathlib.Core.Path.{◌≡◌, refl, ◌∙◌}
-use Prim.Native.Nat.{ℕ, zero, suc, ◌+◌, ◌-◌, ◌≤◌, ◌<◌}
+use Prim.Native.Nat.{ℕ, zero, suc, ◌+◌, ◌-◌, max, ◌≤◌, ◌<◌}
 use mathlib.Core.List.{List}
 use native.Mathlib.Omega.{arith}
 use native.Mathlib.Numerals.{add-one}
-use lib.ListN.{length}
+use Rattle.std.specs.declared.result.Result.{Result}
+use Rattle.std.specs.declared.result.Result.TheVariants.{Err}
 use Rattle.rules.specs.Search.{Caps}
-use Rattle.rules.specs.Replan.{Proposal, none, Outcome, ends, lowers, lowered, round, Replanned, rounds_from, by_lines}
+use Rattle.rules.specs.Replan.{none, Outcome, lowered, go_on, round, Replanned, rounds_from, by_lines}
 use Rattle.rules.proofs.Rounds.{lowered_at_least}
-use Rattle.charges.specs.declared.Charges.{Charges}
-use Rattle.charges.specs.Arrays.{charge_at, charges_of, Filled}
-use Rattle.charges.specs.declared.places.Places.{Places}
+use Rattle.charges.specs.Arrays.{charge_at, charges_of}
 use Rattle.search.specs.declared.caps.LineCaps.{LineCaps}
 use Rattle.search.specs.Caps.{CapsShown, CapLowered}
 use Rattle.search.proofs.Lowerings.{lowered_shows}
-use Rattle.lines.specs.declared.rounds.Outcome.TheVariants.{Ends, Lowers}
-use Rattle.planner.specs.declared.Proposed.{Proposed}
-use Rattle.lines.specs.declared.rounds.Round.{Round}
+use Rattle.planner.specs.declared.cause.Cause.{Cause}
+use Rattle.planner.specs.declared.cause.Cause.TheVariants.{AllowanceSpent}
 use Rattle.planner.specs.Starts.{waiting_count}
-use Rattle.planner.specs.Ready.{Around, terms_of, Spacious, Others, Ready}
-use Rattle.lines.specs.Lines.{InOrder, Capped, CanPlace}
-use Rattle.planner.specs.Answers.{proposal_of}
-use Rattle.planner.proofs.StandingLoads.{spacious_room}
-use Rattle.lines.specs.Rounds.{Plays, Replans}
+use Rattle.planner.specs.Ready.{terms_of, Ready}
+use Rattle.lines.specs.declared.rounds.Lowering.{Lowering}
+use Rattle.lines.specs.declared.rounds.Round.{Round}
+use Rattle.lines.specs.declared.rounds.Round.TheVariants.{Ends, Lowers}
+use Rattle.lines.specs.declared.place.Task.{Task}
+use Rattle.lines.specs.Rounds.{outcome, Plays, Replans}
 
-abbrev pub replanned : Proposal → ℕ → Replanned
-replanned p made = record { proposal = p; rounds = made }
+-- What comes after so many rounds, with so many more allowed
 
-module _ (play : Caps → Outcome) (made : ℕ) (cap : Caps) where
-  rounds_end :
-      (left : ℕ) (p : Proposal) → play cap ≡ ends p → rounds_from play left made cap ≡ replanned p made
+module _ (play : Caps → Outcome) where
+  abbrev pub after : ℕ → ℕ → Caps → Replanned
+  after zero made cap = record { proposal = none 2; rounds = made }
+  after (suc more) made cap = rounds_from play more (suc made) cap
+
+  -- one more round
+  after_one : (more made : ℕ) (cap : Caps) → rounds_from play more made cap ≡ go_on made (after more made) cap (play cap)
   unfolding rounds_from
-  rounds_end zero p e = rw (e, rounds_from)
-  rounds_end (suc left) p e = rw (e, rounds_from)
-
-  rounds_over : (i t v : ℕ) → play cap ≡ lowers i t v → rounds_from play 0 made cap ≡ replanned (none 2) made
-  unfolding rounds_from
-  rounds_over i t v e = rw (e, rounds_from)
-
-  rounds_on :
-      (left i t v : ℕ)
-      → play cap ≡ lowers i t v
-      → rounds_from play (suc left) made cap ≡ rounds_from play left (suc made) (lowered cap i t v)
-  unfolding rounds_from
-  rounds_on left i t v e = rw (e, rounds_from)
+  after_one zero made cap = refl
+  after_one (suc more) made cap = refl
 
 -- What is left of the rounds, from the caps as they stand, is the whole
 
-pub record Rounds (b : Around) (allowance : ℕ) (c : Charges) (caps : LineCaps) (made : ℕ) : Type 0 where
+abbrev whole_of : Task → ℕ → Replanned
+whole_of k allowance = by_lines (terms_of k.beside) k.beside.clock allowance (charges_of k.charges.now)
+
+abbrev round_of : Task → Caps → Outcome
+round_of k = round (terms_of k.beside) k.beside.clock (charges_of k.charges.now)
+
+pub record Rounds (k : Task) (allowance : ℕ) (caps : LineCaps) (made : ℕ) : Type 0 where
   pub cap : Caps
-  pub shown : CapsShown caps cap
-  pub enough : (i : ℕ) → i < c.held → (l t : ℕ) → (charge_at c i).rate ≤ cap l t
-  pub whole :
-      by_lines (terms_of b) b.clock allowance (charges_of c)
-      ≡ rounds_from (round (terms_of b) b.clock (charges_of c)) (allowance - made) made cap
-
-pub rounds_capped :
-    {b : Around} {allowance : ℕ} {c : Charges} {caps : LineCaps} {made : ℕ}
-    → Rounds b allowance c caps made
-    → Capped c caps
-rounds_capped v = record { cap = v.cap; shown = v.shown; enough = v.enough }
-
--- the next round can be made, in lists with as many places
-pub rounds_can :
-    {b : Around} {allowance : ℕ} {c : Charges} {caps : LineCaps} {made size : ℕ} {queue : Places} {ats counts : List ℕ}
-    → Rounds b allowance c caps made
-    → Spacious b ats counts
-    → Others b
-    → Ready b c
-    → InOrder b.clock c queue
-    → size ≡ length ats
-    → CanPlace size b c queue caps
-rounds_can v space o r q e =
-    record {
-      ready = r;
-      others_end = o.end_most;
-      room = omega (arith, spacious_room space, e);
-      in_order = q;
-      capped = rounds_capped v;
-    }
+  pub shown : CapsShown caps k.beside.limits.site cap
+  pub enough : (i : ℕ) → i < k.charges.now.held → (l t : ℕ) → (charge_at k.charges.now i).rate ≤ cap l t
+  pub whole : whole_of k allowance ≡ after (round_of k) (max allowance 1 - made) made cap
 
 pub rounds_start :
-    {b : Around} {c : Charges} {caps : LineCaps} {made : ℕ} (allowance : ℕ)
-    → Ready b c
-    → CapsShown caps (λ l t. b.limits.limit)
-    → made ≡ 1
-    → Rounds b allowance c caps made
+    {k : Task} {caps : LineCaps} (allowance : ℕ)
+    → Ready k.beside k.charges.now
+    → CapsShown caps k.beside.limits.site (λ l t. k.beside.limits.limit)
+    → Rounds k allowance caps 0
 unfolding by_lines
-rounds_start allowance r s e = rw e record { cap = _; shown = s; enough = λ i h l t. r.within_limit i h; whole = refl }
+rounds_start allowance r s =
+    let one : max allowance 1 - 0 ≡ suc (allowance - 1) = omega arith in
+    record { cap = _; shown = s; enough = λ i h l t. r.within_limit i h; whole = rw one refl }
 
-module _ {b : Around} {allowance : ℕ} {c : Charges} {caps : LineCaps} {made : ℕ} (v : Rounds b allowance c caps made)
-    {r : Round} (h : Plays b c caps r) where
-  pub rounds_done :
-      {rounds : ℕ}
-      → r.outcome ≡ Ends
-      → rounds ≡ made
-      → Replans b.clock c (by_lines (terms_of b) b.clock allowance (charges_of c))
-      (record { proposed = r.proposed; rounds = rounds })
-  rounds_done e total =
-      rw total
-      record {
-        same =
-            v.whole
-            ∙ rounds_end (round (terms_of b) b.clock (charges_of c)) made v.cap (allowance - made)
-            (proposal_of (waiting_count b.clock c) r.proposed)
-            (h.same v.cap v.shown ∙ rw e);
-        filled = h.filled;
-      }
+module _ {k : Task} {allowance : ℕ} {caps : LineCaps} {made : ℕ} (v : Rounds k allowance caps made) where
+  -- one more round
+  module _ (more : made < max allowance 1) {r : Round} (h : Plays k caps r) where
+    played :
+        whole_of k allowance
+        ≡ go_on (suc made) (after (round_of k) (max allowance 1 - suc made) (suc made)) v.cap (outcome (waiting_count k.beside.clock k.charges.now) r)
+    played =
+        let one_more : max allowance 1 - made ≡ suc (max allowance 1 - suc made) = omega arith in
+        v.whole ∙ rw one_more (after_one (round_of k) (max allowance 1 - suc made) (suc made) v.cap ∙ rw (h.same v.cap v.shown) refl)
 
-  module _ {i t x : ℕ} (e : r.outcome ≡ Lowers i t x) where
-    pub lowers_fit : (t < 4294967295) × (b.limits.bound ≤ x)
-    lowers_fit = rw e at h.fits
+    pub rounds_done :
+        {p : Result (List ℕ) Cause} {rounds : ℕ} → r ≡ Ends p → rounds ≡ made + 1
+        → Replans k.beside.clock k.charges.now (whole_of k allowance) (record { proposed = p; rounds = rounds })
+    rounds_done e total = rw (total, add-one made) record { same = rw e at played; filled = rw e at h.fits }
 
-    pub rounds_spent :
-        {p : Proposed} {rounds : ℕ}
-        → allowance ≤ made
-        → p.cause ≡ 2
-        → Filled 0 p.starts
-        → rounds ≡ made
-        → Replans b.clock c (by_lines (terms_of b) b.clock allowance (charges_of c)) (record { proposed = p; rounds = rounds })
-    rounds_spent {p} l k zeros total =
-        let none_left : allowance - made ≡ 0 = omega arith in
-        rw total
-        record {
-          same =
-              v.whole
-              ∙ rw (none_left, k)
-              (rounds_over (round (terms_of b) b.clock (charges_of c)) made v.cap i t x
-              (h.same v.cap v.shown ∙ rw e));
-          filled = rw k zeros;
-        }
+    module _ {x : Lowering} (e : r ≡ Lowers x) where
+      -- it was the last that is allowed
+      pub rounds_spent :
+          {rounds : ℕ} → rounds ≡ made + 1 → rounds ≡ max allowance 1
+          → Replans k.beside.clock k.charges.now (whole_of k allowance) (record { proposed = Err AllowanceSpent; rounds = rounds })
+      rounds_spent total all =
+          let none_left : max allowance 1 - suc made ≡ 0 = omega arith in
+          rw (total, add-one made) record { same = (rw e at played) ∙ rw none_left refl; filled = tt }
 
-    pub rounds_next :
-        {next : LineCaps} {line minute cap : ℕ}
-        → Ready b c
-        → made < allowance
-        → CapLowered caps next line minute cap
-        → line ≡ i
-        → minute ≡ t
-        → cap ≡ x
-        → Rounds b allowance c next (made + 1)
-    rounds_next {next} ready l low same_line same-minute same-cap =
-        let more : allowance - made ≡ suc (allowance - (made + 1)) = omega arith in
-        record {
-          cap = lowered v.cap i t x;
-          shown = lowered_shows (rw (same_line, same-minute, same-cap) at low) v.cap v.shown;
-          enough =
-              λ j h.
-              lowered_at_least (charge_at c j).rate v.cap i t x (omega (arith, lowers_fit.1, ready.within_bound j h)) (v.enough j h);
-          whole =
-              v.whole
-              ∙ rw (more, add-one made)
-              (rounds_on (round (terms_of b) b.clock (charges_of c)) made v.cap (allowance - suc made) i t x
-              (h.same v.cap v.shown ∙ rw e));
-        }
+      lowers_fit : (x.minute < 4294967295) × (k.beside.limits.bound ≤ x.cap)
+      lowers_fit = rw e at h.fits
+
+      pub rounds_next :
+          {next : LineCaps} {rounds : ℕ} → Ready k.beside k.charges.now → CapLowered caps next x.line x.minute x.cap → rounds ≡ made + 1
+          → Rounds k allowance next rounds
+      rounds_next {next} ready low total =
+          rw (total, add-one made)
+          record {
+            cap = lowered v.cap x.line x.minute x.cap;
+            shown = lowered_shows low k.beside.limits.site v.cap v.shown;
+            enough =
+                λ j h.
+                lowered_at_least (charge_at k.charges.now j).rate v.cap x.line x.minute x.cap (omega (arith, lowers_fit.1, ready.within_bound j h)) (v.enough j h);
+            whole = rw e at played;
+          }

@@ -3,8 +3,6 @@ use mathlib.Core.Path.{◌≡◌, refl, sym, ◌∙◌}
 use Prim.Native.Nat.{ℕ}
 use Rattle.rules.specs.Load.{IsLine}
 use Rattle.rules.specs.Replan.{largest_line, smallest_line}
-use Rattle.rules.proofs.Rounds.{largest_line_lem, smallest_line_lem}
-use Rattle.profile.specs.Shows.{of_lines}
 use Rattle.profile.proofs.Lines.{line_one, line_two, line_three}
 use Rattle.profile.proofs.Picks.{largest_same, smallest_same}
 
@@ -16,9 +14,3 @@ largest_alike f g e =
 pub smallest_alike : (f g : ℕ → ℕ) → ((l : ℕ) → IsLine l → f l ≡ g l) → smallest_line f ≡ smallest_line g
 smallest_alike f g e =
     sym (smallest_same f refl refl refl) ∙ smallest_same g (e 1 line_one) (e 2 line_two) (e 3 line_three)
-
-pub largest_is : {i : ℕ} (a b c : ℕ) → i ≡ largest_line (of_lines a b c 0) → IsLine i
-largest_is a b c e = rw e (largest_line_lem (of_lines a b c 0)).line
-
-pub smallest_is : {i : ℕ} (a b c : ℕ) → i ≡ smallest_line (of_lines a b c 0) → IsLine i
-smallest_is a b c e = rw e (smallest_line_lem (of_lines a b c 0)).line

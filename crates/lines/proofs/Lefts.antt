@@ -7,14 +7,17 @@ use mathlib.Core.List.{List, map}
 use native.Mathlib.Omega.{arith}
 use lib.Dec.{eqb}
 use lib.ListN.{length, get_or}
+use lib.Seq.{take-length}
 use borrow.Author.Tests.{eqb-true, eqb-false, ne_eqb, not-true}
+use Rattle.std.specs.List.{remove}
+use Rattle.std.proofs.lemmas.List.Edits.{length-remove, get_or-remove_below, get_or-remove_above}
 use Rattle.rules.specs.Site.{places}
 use Rattle.rules.specs.Basics.{Each, tabulate, keep}
 use Rattle.rules.specs.Charge.{Charge, latest_start_before}
 use Rattle.rules.specs.Priority.{total_time, without_ticket}
 use Rattle.rules.specs.Replan.{by_latest_start, of_line}
 use Rattle.rules.proofs.Ranges.{below_or_not}
-use Rattle.rules.proofs.Lists.{map_tabulate, length_tabulate, each_keep, each_tabulate}
+use Rattle.rules.proofs.Lists.{map_tabulate, length_tabulate, length_keep, each_keep, each_tabulate}
 use Rattle.rules.proofs.ThenTicket.{ThenTicket, ticket_decides, ticket_by_number, ticket_by_ticket}
 use Rattle.rules.proofs.LatestStarts.{latest_start_sums, latest_start_ordering}
 use Rattle.rules.proofs.Sorting.{Rearranged, rearranged_length, sorted_rearranged, sorted_sorted}
@@ -22,10 +25,9 @@ use Rattle.rules.proofs.Picking.{Among, among_keep}
 use Rattle.charges.specs.declared.Charges.{Charges}
 use Rattle.charges.specs.Arrays.{charge_at}
 use Rattle.charges.specs.Held.{Listed}
-use Rattle.charges.specs.declared.places.Places.{Places}
-use Rattle.charges.specs.Places.{place_at, places_of, Lists}
-use Rattle.queues.specs.Queues.{is_on_line, Ordered, Removed}
+use Rattle.queues.specs.Queues.{is_on_line, Ordered}
 use Rattle.charges.proofs.Members.{each_place, map_keep}
+use Rattle.charges.proofs.Words.{take_is}
 use Rattle.queues.proofs.EveryTwo.{two_tabulate, two_keep, two_places}
 use Rattle.priority.specs.Crowds.{sum_of}
 use Rattle.planner.proofs.Queueing.{places_apart}
@@ -35,15 +37,14 @@ use Rattle.lines.proofs.Rearranging.{among_kept, among_passes, among_to, among_b
 abbrev pub left_at : Charges → List ℕ → ℕ → Charge
 left_at c left j = charge_at c (get_or left j 0)
 
--- the first n places are those of the charges left, by latest start, then ticket
-pub record Left (c : Charges) (line : ℕ) (left : List ℕ) (n : ℕ) (rest : List Charge) : Type 0 where
-  pub full : length left ≡ places
-  pub few : n ≤ places
-  pub inside : (j : ℕ) → j < n → get_or left j 0 < c.held
-  pub on_line : (j : ℕ) → j < n → (left_at c left j).line ≡ line
-  pub sorted : (i j : ℕ) → i < j → j < n → latest_start_before (left_at c left i) (left_at c left j) ≡ true
-  pub to : (j : ℕ) → j < n → Among (left_at c left j) rest
-  pub from : (x : Charge) → Among x rest → PlaceOf (left_at c left) n x
+-- the places are those of the charges left, by latest start, then ticket
+pub record Left (c : Charges) (line : ℕ) (left : List ℕ) (rest : List Charge) : Type 0 where
+  pub few : length left ≤ places
+  pub inside : (j : ℕ) → j < length left → get_or left j 0 < c.held
+  pub on_line : (j : ℕ) → j < length left → (left_at c left j).line ≡ line
+  pub sorted : (i j : ℕ) → i < j → j < length left → latest_start_before (left_at c left i) (left_at c left j) ≡ true
+  pub to : (j : ℕ) → j < length left → Among (left_at c left j) rest
+  pub from : (x : Charge) → Among x rest → PlaceOf (left_at c left) (length left) x
 
 -- of two different charges the one that is not after comes before
 before_other : (a b : Charge) → latest_start_before b a ≡ false → (a.ticket ≡ b.ticket → ⊥) → latest_start_before a b ≡ true
@@ -54,72 +55,77 @@ before_other a b e other =
     go (inl h) = rw (latest_start_sums a b) (ticket_by_number (a.due + b.time) (b.due + a.time) a b h)
     go (inr h) = rw (latest_start_sums a b) (ticket_by_ticket (a.due + b.time) (b.due + a.time) a b h.0 h.1)
 
+-- a list of places, place by place
+by_place : (xs : List ℕ) → tabulate (λ j. get_or xs j 0) (length xs) 0 ≡ xs
+by_place xs = sym (take_is xs (length xs) (omega arith)) ∙ take-length xs
+
 -- When the round begins
 
-module _ {c : Charges} (line : ℕ) (ws : List Charge) {queue own : Places} (h : Listed c) (o : Ordered c (by_latest_start ws) queue)
-    (l : Lists (keep (is_on_line c.lines line) (places_of queue)) own) where
-  abbrev own_left : List ℕ
-  own_left = own.places
-
-  own_charges : tabulate (left_at c own_left) own.count 0 ≡ of_line line (by_latest_start ws)
+module _ {c : Charges} (line : ℕ) (ws : List Charge) {queue own : List ℕ} (h : Listed c) (o : Ordered c (by_latest_start ws) queue)
+    (is : own ≡ keep (is_on_line c.lines line) queue) where
+  own_charges : tabulate (left_at c own) (length own) 0 ≡ of_line line (by_latest_start ws)
   own_charges =
-      sym (map_tabulate (charge_at c) (place_at own) own.count 0)
-      ∙ ap (map (charge_at c)) l.listed
-      ∙ map_keep (charge_at c) (λ x. eqb x.line line) (places_of queue)
+      sym (map_tabulate (charge_at c) (λ j. get_or own j 0) (length own) 0)
+      ∙ ap (map (charge_at c)) (by_place own ∙ is)
+      ∙ map_keep (charge_at c) (λ x. eqb x.line line) queue
       ∙ ap (keep (λ x. eqb x.line line)) o.charges
 
   own_order : Rearranged (of_line line ws) (of_line line (by_latest_start ws))
   own_order = keep_rearranged (λ x. eqb x.line line) (sorted_rearranged latest_start_before ws)
 
-  pub own_length : own.count ≡ length (of_line line ws)
+  pub own_length : length own ≡ length (of_line line ws)
   own_length =
-      sym (length_tabulate (left_at c own_left) own.count 0) ∙ ap length own_charges ∙ rearranged_length own_order
+      sym (length_tabulate (left_at c own) (length own) 0) ∙ ap length own_charges ∙ rearranged_length own_order
 
-  pub own_total : sum_of (λ j. (left_at c own_left j).time) own.count ≡ total_time (of_line line ws)
-  own_total = total_places (left_at c own_left) own.count ∙ ap total_time own_charges ∙ rearranged_total own_order
+  pub own_total : sum_of (λ j. (left_at c own j).time) (length own) ≡ total_time (of_line line ws)
+  own_total = total_places (left_at c own) (length own) ∙ ap total_time own_charges ∙ rearranged_total own_order
 
-  own_places : Each (λ i. (i < c.held) × (is_on_line c.lines line i ≡ true)) (places_of own)
+  own_places : Each (λ i. (i < c.held) × (is_on_line c.lines line i ≡ true)) own
   own_places =
-      rw l.listed
-      (each_keep (λ i. i < c.held) (is_on_line c.lines line) (places_of queue)
-      (each_tabulate (λ i. i < c.held) (place_at queue) queue.count 0 (λ i a b. o.places.inside i (omega arith))))
+      rw is
+      (each_keep (λ i. i < c.held) (is_on_line c.lines line) queue
+      (rw (← by_place queue)
+      (each_tabulate (λ i. i < c.held) (λ j. get_or queue j 0) (length queue) 0 (λ i a b. o.places.inside i (omega arith)))))
 
-  own_place : (j : ℕ) → j < own.count → (place_at own j < c.held) × (is_on_line c.lines line (place_at own j) ≡ true)
-  own_place = each_place (λ i. (i < c.held) × (is_on_line c.lines line i ≡ true)) (place_at own) own.count own_places
+  own_place : (j : ℕ) → j < length own → (get_or own j 0 < c.held) × (is_on_line c.lines line (get_or own j 0) ≡ true)
+  own_place = each_place (λ i. (i < c.held) × (is_on_line c.lines line i ≡ true)) (λ j. get_or own j 0) (length own) (rw (by_place own) own_places)
 
-  own_apart : (i j : ℕ) → i < j → j < own.count → place_at own i ≡ place_at own j → ⊥
+  own_apart : (i j : ℕ) → i < j → j < length own → get_or own i 0 ≡ get_or own j 0 → ⊥
   own_apart =
-      two_places (λ i j. i ≡ j → ⊥) (place_at own) own.count
-      (rw l.listed
-      (two_keep (λ i j. i ≡ j → ⊥) (is_on_line c.lines line) (places_of queue)
-      (two_tabulate (λ i j. i ≡ j → ⊥) (place_at queue) queue.count 0 (λ i j a b d. o.places.apart i j b (omega arith)))))
+      two_places (λ i j. i ≡ j → ⊥) (λ j. get_or own j 0) (length own)
+      (rw (by_place own, is)
+      (two_keep (λ i j. i ≡ j → ⊥) (is_on_line c.lines line) queue
+      (rw (← by_place queue)
+      (two_tabulate (λ i j. i ≡ j → ⊥) (λ j. get_or queue j 0) (length queue) 0 (λ i j a b d. o.places.apart i j b (omega arith))))))
 
-  own_sorted : (i j : ℕ) → i < j → j < own.count → latest_start_before (left_at c own_left j) (left_at c own_left i) ≡ false
+  own_sorted : (i j : ℕ) → i < j → j < length own → latest_start_before (left_at c own j) (left_at c own i) ≡ false
   own_sorted =
-      two_places (λ a b. latest_start_before b a ≡ false) (left_at c own_left) own.count
+      two_places (λ a b. latest_start_before b a ≡ false) (left_at c own) (length own)
       (rw own_charges
       (two_keep (λ a b. latest_start_before b a ≡ false) (λ x. eqb x.line line) (by_latest_start ws)
       (sorted_sorted latest_start_before latest_start_ordering ws)))
 
-  pub left_start : Left c line own.places own.count (of_line line ws)
+  pub left_start : Left c line own (of_line line ws)
   left_start =
       record {
-        full = l.full;
-        few = l.few;
+        few = own_few;
         inside = λ j b. (own_place j b).0;
-        on_line = λ j b. eqb-true (left_at c own_left j).line line (own_place j b).1;
+        on_line = λ j b. eqb-true (left_at c own j).line line (own_place j b).1;
         sorted = λ i j a b.
-            before_other (left_at c own_left i) (left_at c own_left j) (own_sorted i j a b)
-            (places_apart h (place_at own i) (place_at own j) (own_place i (omega arith)).0 (own_place j b).0 (own_apart i j a b));
+            before_other (left_at c own i) (left_at c own j) (own_sorted i j a b)
+            (places_apart h (get_or own i 0) (get_or own j 0) (own_place i (omega arith)).0 (own_place j b).0 (own_apart i j a b));
         to = λ j b.
-            among_back own_order (subst (Among (left_at c own_left j)) own_charges (among_place (left_at c own_left) own.count j b));
-        from = λ x m. place_among (left_at c own_left) own.count (subst (Among x) (sym own_charges) (among_to own_order m));
+            among_back own_order (subst (Among (left_at c own j)) own_charges (among_place (left_at c own) (length own) j b));
+        from = λ x m. place_among (left_at c own) (length own) (subst (Among x) (sym own_charges) (among_to own_order m));
       }
+    where
+      own_few : length own ≤ places
+      own_few = omega (arith, ap length is, length_keep (is_on_line c.lines line) queue, o.places.few, h.columns.few)
 
 -- After one is taken out
 
-module _ {c : Charges} {line : ℕ} {left : List ℕ} {n : ℕ} {rest : List Charge} (h : Listed c) (v : Left c line left n rest) where
-  pub left_apart : (i j : ℕ) → i < n → j < n → (i ≡ j → ⊥) → get_or left i 0 ≡ get_or left j 0 → ⊥
+module _ {c : Charges} {line : ℕ} {left : List ℕ} {rest : List Charge} (h : Listed c) (v : Left c line left rest) where
+  pub left_apart : (i j : ℕ) → i < length left → j < length left → (i ≡ j → ⊥) → get_or left i 0 ≡ get_or left j 0 → ⊥
   left_apart i j a b ne e = go (below_or_not i j) (below_or_not j i)
     where
       itself : (x y : Charge) → x ≡ y → latest_start_before x y ≡ true → ⊥
@@ -130,72 +136,75 @@ module _ {c : Charges} {line : ℕ} {left : List ℕ} {n : ℕ} {rest : List Cha
       go (inr l) (inl m) = itself (left_at c left j) (left_at c left i) (ap (charge_at c) (sym e)) (v.sorted j i m a)
       go (inr l) (inr m) = ne (omega arith)
 
-  pub left_tickets : (i j : ℕ) → i < n → j < n → (i ≡ j → ⊥) → (left_at c left i).ticket ≡ (left_at c left j).ticket → ⊥
+  pub left_tickets : (i j : ℕ) → i < length left → j < length left → (i ≡ j → ⊥) → (left_at c left i).ticket ≡ (left_at c left j).ticket → ⊥
   left_tickets i j a b ne =
       places_apart h (get_or left i 0) (get_or left j 0) (v.inside i a) (v.inside j b) (left_apart i j a b ne)
 
-  module _ {next : List ℕ} {r : ℕ} (low : r < n) (m : Removed left next n r) where
+  module _ {r : ℕ} (low : r < length left) where
     -- where the k-th stood before
     pub record Stood (k : ℕ) : Type 0 where
       pub old : ℕ
-      pub inside : old < n
+      pub inside : old < length left
       pub other : old ≡ r → ⊥
-      pub same : get_or next k 0 ≡ get_or left old 0
+      pub same : get_or (remove left r) k 0 ≡ get_or left old 0
       pub where_it_was : ((k < r) × (old ≡ k)) ⊎ ((r ≤ k) × (old ≡ k + 1))
 
-    pub stood : (k : ℕ) → k < n - 1 → Stood k
+    pub stood : (k : ℕ) → k < length (remove left r) → Stood k
     stood k b =
         ⊎_elim
         (λ l.
-        record { old = k; inside = omega arith; other = λ e. omega arith; same = m.before k l; where_it_was = inl (l, refl) })
+        record {
+          old = k;
+          inside = omega (arith, length-remove left r low);
+          other = λ e. omega arith;
+          same = get_or-remove_below left r 0 k l low;
+          where_it_was = inl (l, refl);
+        })
         (λ l.
         record {
           old = k + 1;
-          inside = omega arith;
+          inside = omega (arith, length-remove left r low);
           other = λ e. omega arith;
-          same = m.after k l (omega arith);
+          same = get_or-remove_above left r 0 k l low;
           where_it_was = inr (l, refl);
         })
         (below_or_not k r)
 
     stood_order : (i j : ℕ) → i < j → (a : Stood i) (b : Stood j) → a.old < b.old
-    stood_order i j l a b = go a.where_it_was b.where_it_was
-      where
-        go : ((i < r) × (a.old ≡ i)) ⊎ ((r ≤ i) × (a.old ≡ i + 1)) → ((j < r) × (b.old ≡ j)) ⊎ ((r ≤ j) × (b.old ≡ j + 1)) → a.old < b.old
-        go (inl x) (inl y) = omega (arith, x.1, y.1)
-        go (inl x) (inr y) = omega (arith, x.1, y.1)
-        go (inr x) (inl y) = absurd (omega (arith, x.0, y.0))
-        go (inr x) (inr y) = omega (arith, x.1, y.1)
+    stood_order i j l a b = omega (arith, a.where_it_was, b.where_it_was)
 
-    stays : (x : Charge) → PlaceOf (left_at c left) n x → (x.ticket ≡ (left_at c left r).ticket → ⊥) → PlaceOf (left_at c next) (n - 1) x
+    stays :
+        (x : Charge) → PlaceOf (left_at c left) (length left) x → (x.ticket ≡ (left_at c left r).ticket → ⊥)
+        → PlaceOf (left_at c (remove left r)) (length (remove left r)) x
     stays x p ne = go (below_or_not p.place r) (below_or_not r p.place)
       where
-        go : (p.place < r) ⊎ (r ≤ p.place) → (r < p.place) ⊎ (p.place ≤ r) → PlaceOf (left_at c next) (n - 1) x
+        go :
+            (p.place < r) ⊎ (r ≤ p.place) → (r < p.place) ⊎ (p.place ≤ r)
+            → PlaceOf (left_at c (remove left r)) (length (remove left r)) x
         go (inl l) k =
             record {
               place = p.place;
-              inside = omega arith;
-              is = p.is ∙ ap (charge_at c) (sym (m.before p.place l));
+              inside = omega (arith, length-remove left r low);
+              is = p.is ∙ ap (charge_at c) (sym (get_or-remove_below left r 0 p.place l low));
             }
         go (inr l) (inl k) =
             let e : p.place - 1 + 1 ≡ p.place = omega arith in
             record {
               place = p.place - 1;
-              inside = omega (arith, p.inside);
+              inside = omega (arith, p.inside, length-remove left r low);
               is =
                   p.is
                   ∙ ap (charge_at c)
-                  (sym (m.after (p.place - 1) (omega arith) (omega (arith, p.inside)) ∙ ap (λ (y : ℕ). get_or left y 0) e));
+                  (sym (get_or-remove_above left r 0 (p.place - 1) (omega arith) low ∙ ap (λ (y : ℕ). get_or left y 0) e));
             }
         go (inr l) (inr k) =
             let e : p.place ≡ r = omega arith in
             absurd (ne (ap (λ (y : Charge). y.ticket) p.is ∙ ap (λ (y : ℕ). (left_at c left y).ticket) e))
 
-    pub left_next : Left c line next (n - 1) (without_ticket (left_at c left r).ticket rest)
+    pub left_next : Left c line (remove left r) (without_ticket (left_at c left r).ticket rest)
     left_next =
         record {
-          full = m.full;
-          few = omega (arith, v.few);
+          few = omega (arith, v.few, length-remove left r low);
           inside = λ j b. let s = stood j b in rw s.same (v.inside s.old s.inside);
           on_line = λ j b. let s = stood j b in rw s.same (v.on_line s.old s.inside);
           sorted = λ i j a b.

@@ -11,8 +11,6 @@ pub mod LineNumbers
 pub mod Beginning
 pub mod Following
 pub mod Continuing
-pub mod Turns
 pub mod Ending
-pub mod Copying
 pub mod Asking
 pub mod Playing

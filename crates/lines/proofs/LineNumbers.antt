@@ -3,37 +3,23 @@ use Prim.Native.Nat.{ℕ, ◌≤◌, ◌<◌}
 use mathlib.Core.List.{List, [], ◌∷◌}
 use native.Mathlib.Omega.{arith}
 use lib.ListN.{length, get_or}
-use Rattle.rules.specs.Site.{places}
 use Rattle.rules.specs.Basics.{Each}
 use Rattle.rules.specs.Charge.{Charge}
 use Rattle.rules.specs.Priority.{total_time}
-use Rattle.rules.proofs.Lists.{each_tabulate}
 use Rattle.charges.specs.declared.Charges.{Charges}
 use Rattle.charges.specs.Held.{Small, Listed}
-use Rattle.charges.specs.declared.places.Places.{Places}
-use Rattle.charges.specs.Places.{place_at, Inside}
-use Rattle.queues.specs.Queues.{Ordered}
 use Rattle.priority.specs.Numbers.{InRange}
-use Rattle.lines.specs.Lines.{numbers_of}
 use Rattle.lines.proofs.Lefts.{left_at, Left}
 
--- the queue has places of held charges
-pub queue_inside : {c : Charges} {xs : List Charge} {queue : Places} → Listed c → Ordered c xs queue → Inside queue
-queue_inside {c} {xs} {queue} h o =
-    record {
-      few = omega (arith, o.places.few, h.columns.few);
-      below = each_tabulate (λ i. i < places) (place_at queue) queue.count 0 (λ i a b. omega (arith, o.places.inside i (omega arith), h.columns.few));
-    }
-
 -- what the numbers of those left meet
-module _ {c : Charges} {line : ℕ} {left : List ℕ} {n : ℕ} {rest : List Charge} (h : Listed c) (v : Left c line left n rest) where
-  small : (j : ℕ) → j < n → Small (left_at c left j)
+module _ {c : Charges} {line : ℕ} {left : List ℕ} {rest : List Charge} (h : Listed c) (v : Left c line left rest) where
+  small : (j : ℕ) → j < length left → Small (left_at c left j)
   small j b = h.small (get_or left j 0) (v.inside j b)
 
-  pub left_range : InRange (numbers_of c) left n
+  pub left_range : InRange c left
   left_range =
       record {
-        can_fit = record { few = v.few; inside = λ j b. omega (arith, v.inside j b, h.columns.few) };
+        inside = record { few = v.few; below = λ j b. omega (arith, v.inside j b, h.columns.few) };
         short = λ j b. let s = small j b in (s.time_low, omega (arith, s.time_most));
         active = λ j b. let s = small j b in (omega (arith, s.time_low, s.active_least), s.active_most);
         dues_most = λ j b. (small j b).due_most;

@@ -16,16 +16,17 @@ use Rattle.charges.specs.Arrays.{charge_at}
 use Rattle.charges.specs.Held.{Listed}
 use Rattle.profile.specs.Shows.{Profile}
 use Rattle.priority.specs.declared.crowd.Crowd as code
-use Rattle.planner.specs.Ready.{Around, terms_of, begun_of}
+use Rattle.planner.specs.declared.Beside.{Beside}
+use Rattle.planner.specs.Ready.{terms_of, begun_of}
 use Rattle.planner.specs.Placed.{Missing, plan_of, PlanShown}
 use Rattle.lines.specs.Next.{Bounds}
-use Rattle.lines.specs.Lines.{numbers_of, waiting_of, lines_placed, many_up_to}
+use Rattle.lines.specs.Lines.{waiting_of, lines_placed, many_up_to}
 use Rattle.lines.proofs.Lefts.{left_at, Left}
 use Rattle.lines.proofs.Many.{many_room}
 
 -- The rules' pick on a line, after those placed so far
 
-abbrev pub pick_in : Caps → Around → Charges → ℕ → List Charge → List Charge → Pick
+abbrev pub pick_in : Caps → Beside → Charges → ℕ → List Charge → List Charge → Pick
 pick_in cap b c line placed rest =
     picked (fits_at b.limits.site cap) b.clock (plan_of (terms_of b) b.clock c placed) (crowd_of (of_line line (waiting_of b.clock c))) rest
 
@@ -42,7 +43,7 @@ place_end pick placed rest = refl
 
 -- a line begins
 pub line_begins :
-    (cap : Caps) (b : Around) (c : Charges) (before line : ℕ) (placed : List Charge)
+    (cap : Caps) (b : Beside) (c : Charges) (before line : ℕ) (placed : List Charge)
     → line ≡ before + 1
     → lines_placed cap b c before ≡ all placed
     → lines_placed cap b c line
@@ -50,26 +51,26 @@ pub line_begins :
 line_begins cap b c before line placed e g =
     let next : line ≡ suc before = omega arith in rw (next, g) refl
 
--- n charges of the line are left
-pub record LineSoFar (cap : Caps) (size : ℕ) (b : Around) (c : Charges) (line : ℕ) (left : List ℕ) (n : ℕ) (p : Profile) (by_place : List ℕ)
+-- these charges of the line are left
+pub record LineSoFar (cap : Caps) (b : Beside) (c : Charges) (line : ℕ) (left : List ℕ) (p : Profile) (by_place : List ℕ)
     (q : code.Crowd) (from : ℕ) : Type 0 where
   pub placed : List Charge
   pub rest : List Charge
-  pub gives : lines_placed cap b c line ≡ place_on (pick_in cap b c line) n placed rest
-  pub are : Left c line left n rest
-  pub plan : PlanShown size (terms_of b) b.clock c placed p by_place
-  pub many : length placed + n ≡ many_up_to line (waiting_of b.clock c)
-  pub fresh : (j : ℕ) → j < n → Missing (left_at c left j).ticket placed
+  pub gives : lines_placed cap b c line ≡ place_on (pick_in cap b c line) (length left) placed rest
+  pub are : Left c line left rest
+  pub plan : PlanShown (terms_of b) b.clock c placed p by_place
+  pub many : length placed + length left ≡ many_up_to line (waiting_of b.clock c)
+  pub fresh : (j : ℕ) → j < length left → Missing (left_at c left j).ticket placed
   pub later : (i : ℕ) → i < c.held → line < (charge_at c i).line → Missing (charge_at c i).ticket placed
   pub below : NoneBelow (fits_at b.limits.site cap) b.clock (plan_of (terms_of b) b.clock c placed) rest from
   pub low : b.clock ≤ from
   pub near : from ≤ max b.clock (last_until (plan_of (terms_of b) b.clock c placed))
   pub number : q.number ≡ length (of_line line (waiting_of b.clock c))
   pub total : q.total ≡ total_time (of_line line (waiting_of b.clock c))
-  pub some : 0 < n → 1 ≤ q.total
-  pub bounds : Bounds (numbers_of c) left n q
+  pub some : 1 ≤ length left → 1 ≤ q.total
+  pub bounds : Bounds c left q
 
-module _ {cap : Caps} {size : ℕ} {b : Around} {c : Charges} {line : ℕ} {left : List ℕ} {n : ℕ} {p : Profile} {by_place : List ℕ} {q : code.Crowd}
-    {from : ℕ} (h : Listed c) (on : IsLine line) (v : LineSoFar cap size b c line left n p by_place q from) where
-  pub line_room : length (begun_of b.clock c) + length v.placed + n ≤ places
+module _ {cap : Caps} {b : Beside} {c : Charges} {line : ℕ} {left : List ℕ} {p : Profile} {by_place : List ℕ} {q : code.Crowd}
+    {from : ℕ} (h : Listed c) (on : IsLine line) (v : LineSoFar cap b c line left p by_place q from) where
+  pub line_room : length (begun_of b.clock c) + length v.placed + length left ≤ places
   line_room = omega (arith, v.many, many_room b.clock h line on.high)

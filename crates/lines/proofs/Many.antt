@@ -1,12 +1,10 @@
 -- How many charges the lines have.
 use mathlib.Core.Path.{◌≡◌, refl}
 use Prim.Native.Nat.{ℕ, zero, suc, ◌+◌, ◌≤◌}
-use mathlib.Core.Bool.{Bool, true, false, cond}
 use mathlib.Core.List.{List, [], ◌∷◌}
 use native.Mathlib.Omega.{arith}
-use lib.Dec.{eqb}
 use lib.ListN.{length}
-use borrow.Author.Tests.{eqb-true}
+use Rattle.std.proofs.lemmas.Bool.Decides.{nat_tests}
 use Rattle.rules.specs.Site.{places}
 use Rattle.rules.specs.Charge.{Charge}
 use Rattle.rules.specs.Replan.{of_line}
@@ -21,23 +19,7 @@ use Rattle.planner.proofs.Showing.{begun_and_waiting_lem}
 -- a charge is on one line at most
 lines_length : (cs : List Charge) → length (of_line 1 cs) + (length (of_line 2 cs) + length (of_line 3 cs)) ≤ length cs
 lines_length [] = omega arith
-lines_length (c ∷ cs) = go (eqb c.line 1) refl (eqb c.line 2) refl (eqb c.line 3) refl (lines_length cs)
-  where
-    go :
-        (x : Bool) → eqb c.line 1 ≡ x
-        → (y : Bool) → eqb c.line 2 ≡ y
-        → (z : Bool) → eqb c.line 3 ≡ z
-        → length (of_line 1 cs) + (length (of_line 2 cs) + length (of_line 3 cs)) ≤ length cs
-        → length (cond x (c ∷ of_line 1 cs) (of_line 1 cs))
-        + (length (cond y (c ∷ of_line 2 cs) (of_line 2 cs)) + length (cond z (c ∷ of_line 3 cs) (of_line 3 cs)))
-        ≤ suc (length cs)
-    go true p true q z r h = absurd (omega (arith, eqb-true c.line 1 p, eqb-true c.line 2 q))
-    go true p false q true r h = absurd (omega (arith, eqb-true c.line 1 p, eqb-true c.line 3 r))
-    go true p false q false r h = omega arith
-    go false p true q true r h = absurd (omega (arith, eqb-true c.line 2 q, eqb-true c.line 3 r))
-    go false p true q false r h = omega arith
-    go false p false q true r h = omega arith
-    go false p false q false r h = omega arith
+lines_length (c ∷ cs) = grind (arith, nat_tests, lines_length cs)
 
 many_most : (cs : List Charge) (l : ℕ) → l ≤ 3 → many_up_to l cs ≤ length cs
 many_most cs zero h = omega arith

@@ -1,53 +1,62 @@
 -- One round: every charge is placed, and what the first unbalanced minute asks for.
 use mathlib.Core.Path.{◌≡◌, refl, sym, ◌∙◌, ap}
 use Prim.Native.Nat.{ℕ, ◌+◌, ◌-◌, ◌≤◌, ◌<◌}
-use mathlib.Core.Bool.{Bool, true, false}
+use mathlib.Core.Bool.{Bool, true, false, cond}
 use mathlib.Core.List.{List}
 use native.Mathlib.Omega.{arith}
 use lib.Dec.{eqb}
 use borrow.Author.Tests.{eqb-true, eqb-false}
 use lib.ListN.{length}
+use Rattle.std.specs.declared.option.Option.{Option}
+use Rattle.std.specs.declared.option.Option.TheVariants.{Some, None}
+use Rattle.std.specs.declared.result.Result.TheVariants.{Ok, Err}
 use Rattle.rules.specs.Load.{Load, IsLine, count, counts, last_until}
 use Rattle.rules.specs.Search.{Caps, first_unbalanced}
 use Rattle.rules.specs.Replan.{largest_line, smallest_line, standing}
 use Rattle.rules.proofs.Searches.{unbalanced_first}
 use Rattle.rules.proofs.Rounds.{largest_line_lem, smallest_line_lem}
 use Rattle.charges.specs.declared.Charges.{Charges}
-use Rattle.charges.specs.Arrays.{charges_of, Filled}
-use Rattle.charges.specs.Drawn.{drawn_of}
-use Rattle.charges.specs.declared.places.Places.{Places}
-use Rattle.profile.specs.declared.When.{When}
-use Rattle.profile.specs.declared.When.TheVariants.{Minute, Never}
+use Rattle.charges.specs.Arrays.{charges_of}
+use Rattle.charges.specs.Drawn.{loads_lent}
 use Rattle.search.specs.declared.caps.LineCaps.{LineCaps}
-use Rattle.profile.specs.Shows.{Profile, level_of, levels, Formed, ShowsIn, found_at}
 use Rattle.search.specs.Caps.{CapsShown}
-use Rattle.profile.specs.Balance.{FirstUnbalanced, Unbalanced}
+use Rattle.profile.specs.Shows.{Profile, level_of, levels, Formed, found_at}
+use Rattle.profile.specs.Balance.{FirstUnbalanced}
 use Rattle.profile.proofs.Balances.{unbalanced_shows}
 use Rattle.profile.proofs.Lines.{line_column}
 use Rattle.profile.proofs.Shown.{shows_small}
-use Rattle.planner.specs.declared.Proposed.{Proposed}
-use Rattle.lines.specs.declared.rounds.Outcome.{Outcome}
-use Rattle.lines.specs.declared.rounds.Outcome.TheVariants.{Ends, Lowers}
+use Rattle.planner.specs.declared.cause.Cause.TheVariants.{NoStart}
 use Rattle.planner.specs.Starts.{WaitingStarts}
-use Rattle.planner.specs.Ready.{Around, terms_of}
+use Rattle.planner.specs.declared.Beside.{Beside}
+use Rattle.planner.specs.Ready.{terms_of}
 use Rattle.planner.specs.Placed.{plan_of, AllPlaced}
-use Rattle.lines.specs.Lines.{lines_placed, CanPlace, LinesUnder}
-use Rattle.lines.specs.Rounds.{asked_in, Comparable, Plays}
 use Rattle.planner.proofs.Growing.{plan_length}
+use Rattle.planner.proofs.StandingLoads.{spacious_room}
+use Rattle.lines.specs.declared.place.Task.{Task}
+use Rattle.lines.specs.declared.rounds.Lowering.{Lowering}
+use Rattle.lines.specs.declared.rounds.Round.TheVariants.{Ends, Lowers}
+use Rattle.lines.specs.Lines.{lines_placed, CanPlace, LinesUnder, ShowsStanding}
+use Rattle.lines.specs.Rounds.{asked_in, Comparable, Plays}
 use Rattle.lines.proofs.Extremes.{largest_alike, smallest_alike}
 use Rattle.lines.proofs.Asking.{round_balanced, round_ends, round_lowers}
 use Rattle.lines.proofs.Ending.{lines_end}
 
-module _ {size : ℕ} {b : Around} {c : Charges} {queue : Places} {caps : LineCaps} {p : Profile} {by_place : List ℕ}
-    (can : CanPlace size b c queue caps) (under : LinesUnder caps size b c 3 p by_place) where
-  plan : (cap : Caps) → CapsShown caps cap → AllPlaced (lines_placed cap b c 3) size (terms_of b) b.clock c p by_place
+module _ {size : ℕ} {k : Task} {caps : LineCaps} {p : Profile} {by_place : List ℕ}
+    (can : CanPlace size k caps) (under : LinesUnder caps k 3 p by_place) where
+  abbrev b : Beside
+  b = k.beside
+
+  abbrev c : Charges
+  c = k.charges.now
+
+  plan : (cap : Caps) → CapsShown caps b.limits.site cap → AllPlaced (lines_placed cap b c 3) (terms_of b) b.clock c p by_place
   plan cap shown = lines_end can.ready.listed (under cap shown)
 
-  abbrev some_plan : AllPlaced (lines_placed can.capped.cap b c 3) size (terms_of b) b.clock c p by_place
+  abbrev some_plan : AllPlaced (lines_placed can.capped.cap b c 3) (terms_of b) b.clock c p by_place
   some_plan = plan can.capped.cap can.capped.shown
 
   -- what the profile shows
-  abbrev loads : (cap : Caps) → CapsShown caps cap → List Load
+  abbrev loads : (cap : Caps) → CapsShown caps b.limits.site cap → List Load
   loads cap shown = plan_of (terms_of b) b.clock c (plan cap shown).placed
 
   abbrev some_loads : List Load
@@ -56,27 +65,18 @@ module _ {size : ℕ} {b : Around} {c : Charges} {queue : Places} {caps : LineCa
   pub round_formed : Formed p
   round_formed = some_plan.plan.shows.formed
 
-  module _ (u : When) {d : ℕ} (first : FirstUnbalanced p d u) (same-bound : d ≡ b.limits.bound) where
-    f : Unbalanced p b.limits.bound u
-    f = unbalanced_shows (rw same-bound at first)
+  module _ {u : Option ℕ} (first : FirstUnbalanced p b.limits.bound u) where
+    found : (cap : Caps) (shown : CapsShown caps b.limits.site cap) → first_unbalanced (terms_of b) b.clock (loads cap shown) ≡ found_at u
+    found cap shown = unbalanced_shows first b.clock (loads cap shown) b.limits.limit b.limits.site (loads_lent b.others) (plan cap shown).plan.shows
 
-    found : (cap : Caps) (shown : CapsShown caps cap) → first_unbalanced (terms_of b) b.clock (loads cap shown) ≡ found_at u
-    found cap shown =
-        f size b.clock (loads cap shown) b.limits.limit b.limits.site (drawn_of b.rest) (plan cap shown).plan.shows
-
-    pub plays_balanced :
-        {listed : List ℕ}
-        → u ≡ Never
-        → WaitingStarts b.clock c by_place listed
-        → Plays b c caps (record { outcome = Ends; proposed = record { cause = 0; starts = listed } })
+    pub plays_balanced : {listed : List ℕ} → u ≡ None → WaitingStarts b.clock c by_place listed → Plays k caps (Ends (Ok listed))
     plays_balanced e s =
         record {
           same = λ cap shown. round_balanced cap b (plan cap shown) (found cap shown ∙ ap found_at e) s;
-          filled = s.filled;
-          fits = tt;
+          fits = s.filled;
         }
 
-    module _ {t : ℕ} (e : u ≡ Minute t) where
+    module _ {t : ℕ} (e : u ≡ Some t) where
       range : (b.clock ≤ t) × (t < b.clock + (last_until some_loads - b.clock))
       range =
           let i =
@@ -88,21 +88,13 @@ module _ {size : ℕ} {b : Around} {c : Charges} {queue : Places} {caps : LineCa
       minute_fits = omega (arith, range, some_plan.plan.ends, some_plan.few)
 
       -- levels are counts
-      level_counted : (cap : Caps) (shown : CapsShown caps cap) (l : ℕ) → IsLine l → level_of p l t ≡ count (loads cap shown) l t
+      level_counted : (cap : Caps) (shown : CapsShown caps b.limits.site cap) (l : ℕ) → IsLine l → level_of p l t ≡ count (loads cap shown) l t
       level_counted cap shown l i = (plan cap shown).plan.shows.counted l (line_column l i) t range.0
 
       few : length some_loads ≤ 720
-      few =
-          omega (
-            arith,
-            plan_length (terms_of b) b.clock c some_plan.placed,
-            some_plan.few,
-            can.room,
-            some_plan.plan.shows.sized,
-            some_plan.plan.shows.formed.at_size,
-          )
+      few = omega (arith, plan_length (terms_of b) b.clock c some_plan.placed, some_plan.few, spacious_room b can.space, can.space.most)
 
-      module _ {from : ℕ} {base : Profile} (s : ShowsIn from base b.clock (standing (terms_of b) b.clock (charges_of c))) where
+      module _ {base : Profile} (s : ShowsStanding k base) where
         pub round_comparable : Comparable p base t b.limits.bound
         round_comparable =
             record {
@@ -123,50 +115,56 @@ module _ {size : ℕ} {b : Around} {c : Charges} {queue : Places} {caps : LineCa
         abbrev small : ℕ
         small = smallest_line (levels p t)
 
-        large_same : (cap : Caps) (shown : CapsShown caps cap) → large ≡ largest_line (counts (loads cap shown) t)
+        large_same : (cap : Caps) (shown : CapsShown caps b.limits.site cap) → large ≡ largest_line (counts (loads cap shown) t)
         large_same cap shown = largest_alike (levels p t) (counts (loads cap shown) t) (level_counted cap shown)
 
-        large_counted : (cap : Caps) (shown : CapsShown caps cap) → level_of p large t ≡ count (loads cap shown) large t
+        large_counted : (cap : Caps) (shown : CapsShown caps b.limits.site cap) → level_of p large t ≡ count (loads cap shown) large t
         large_counted cap shown = level_counted cap shown large (largest_line_lem (levels p t)).line
 
         base_counted : level_of base large t ≡ count (standing (terms_of b) b.clock (charges_of c)) large t
         base_counted = s.counted large (line_column large (largest_line_lem (levels p t)).line) t range.0
 
-        module _ {n : Proposed} (k : n.cause ≡ 1) (zeros : Filled 0 n.starts) where
-          plays_none : level_of p large t ≡ level_of base large t → Plays b c caps (record { outcome = Ends; proposed = n })
-          plays_none same =
-              record {
-                same =
-                    λ cap shown.
-                    rw k
-                    (round_ends cap b (plan cap shown) (found cap shown ∙ ap found_at e) (large_same cap shown)
-                    (sym (large_counted cap shown) ∙ same ∙ base_counted));
-                filled = rw k zeros;
-                fits = tt;
-              }
+        plays_none : level_of p large t ≡ level_of base large t → Plays k caps (Ends (Err NoStart))
+        plays_none same =
+            record {
+              same =
+                  λ cap shown.
+                  round_ends cap b (plan cap shown) (found cap shown ∙ ap found_at e) (large_same cap shown)
+                  (sym (large_counted cap shown) ∙ same ∙ base_counted);
+              fits = tt;
+            }
 
-          plays_lowers :
-              (level_of p large t ≡ level_of base large t → ⊥)
-              → Plays b c caps (record { outcome = Lowers large t (level_of p small t + b.limits.bound); proposed = n })
-          plays_lowers ne =
-              record {
-                same =
-                    λ cap shown.
-                    round_lowers cap b (plan cap shown) (found cap shown ∙ ap found_at e) (large_same cap shown) small
-                    (level_of p small t + b.limits.bound)
-                    (λ same. ne (large_counted cap shown ∙ same ∙ sym base_counted))
-                    (smallest_alike (levels p t) (counts (loads cap shown) t) (level_counted cap shown))
-                    (ap (λ (m : ℕ). m + b.limits.bound) (level_counted cap shown small (smallest_line_lem (levels p t)).line));
-                filled = rw k zeros;
-                fits = (minute_fits, omega arith);
-              }
+        abbrev lowering : Lowering
+        lowering = record { line = large; minute = t; cap = level_of p small t + b.limits.bound }
 
-          pub plays_asked : {o : Outcome} → o ≡ asked_in p base t b.limits.bound → Plays b c caps (record { outcome = o; proposed = n })
-          plays_asked {o} eo = go (eqb (level_of p large t) (level_of base large t)) refl
-            where
-              go :
-                  (same : Bool)
-                  → eqb (level_of p large t) (level_of base large t) ≡ same
-                  → Plays b c caps (record { outcome = o; proposed = n })
-              go true h' = rw (eo, h') (plays_none (eqb-true _ _ h'))
-              go false h' = rw (eo, h') (plays_lowers (eqb-false _ _ h'))
+        plays_lowers : (level_of p large t ≡ level_of base large t → ⊥) → Plays k caps (Lowers lowering)
+        plays_lowers ne =
+            record {
+              same =
+                  λ cap shown.
+                  round_lowers cap b (plan cap shown) (found cap shown ∙ ap found_at e) (large_same cap shown) small
+                  (level_of p small t + b.limits.bound)
+                  (λ same. ne (large_counted cap shown ∙ same ∙ sym base_counted))
+                  (smallest_alike (levels p t) (counts (loads cap shown) t) (level_counted cap shown))
+                  (ap (λ (m : ℕ). m + b.limits.bound) (level_counted cap shown small (smallest_line_lem (levels p t)).line));
+              fits = (minute_fits, omega arith);
+            }
+
+        -- what the round ends with, or lowers, is what the minute asks for
+        pub ends_asked : None ≡ asked_in p base t b.limits.bound → Plays k caps (Ends (Err NoStart))
+        ends_asked asked = go (eqb (level_of p large t) (level_of base large t)) refl asked
+          where
+            go :
+                (same : Bool) → eqb (level_of p large t) (level_of base large t) ≡ same → None ≡ cond same None (Some lowering)
+                → Plays k caps (Ends (Err NoStart))
+            go true h' a = plays_none (eqb-true _ _ h')
+            go false h' a = absurd (cc)
+
+        pub lowers_asked : {x : Lowering} → Some x ≡ asked_in p base t b.limits.bound → Plays k caps (Lowers x)
+        lowers_asked {x} asked = go (eqb (level_of p large t) (level_of base large t)) refl asked
+          where
+            go :
+                (same : Bool) → eqb (level_of p large t) (level_of base large t) ≡ same → Some x ≡ cond same None (Some lowering)
+                → Plays k caps (Lowers x)
+            go true h' a = absurd (cc)
+            go false h' a = let e : x ≡ lowering = cc in rw e (plays_lowers (eqb-false _ _ h'))

@@ -5,7 +5,7 @@ use Prim.Native.Nat.{ℕ, ◌-◌, ◌*◌, max, ◌≤◌, ◌<◌}
 use mathlib.Core.Bool.{Bool, true, false, ◌||◌, true≢false}
 use mathlib.Core.List.{List, [], ◌∷◌}
 use native.Mathlib.Omega.{arith}
-use lib.ListN.{get_or}
+use lib.ListN.{length, get_or}
 use borrow.Author.Tests.{lt-ltb, le-ltb, eq-eqb}
 use Rattle.rules.specs.Basics.{at, run_of, Each, keep, some}
 use Rattle.rules.specs.Load.{Load, IsLine, last_until}
@@ -18,7 +18,7 @@ use Rattle.rules.proofs.Picking.{Among, front, behind, among_each, among_keep, T
 use Rattle.rules.proofs.Foremost.{foremost_first}
 use Rattle.charges.specs.declared.Charges.{Charges}
 use Rattle.charges.specs.Held.{Listed}
-use Rattle.profile.specs.Shows.{Profile, ShowsIn}
+use Rattle.profile.specs.Shows.{Profile, Shows}
 use Rattle.search.specs.declared.caps.LineCaps.{LineCaps}
 use Rattle.search.specs.Caps.{CapsShown, room_under}
 use Rattle.search.proofs.Unders.{run_shows, misses_fails}
@@ -26,8 +26,7 @@ use Rattle.priority.specs.declared.crowd.Crowd as code
 use Rattle.priority.specs.Numbers.{number_of}
 use Rattle.priority.specs.Chosen.{fits_run, Ahead}
 use Rattle.lines.specs.declared.next.Next.{Next}
-use Rattle.lines.specs.Next.{NextIs}
-use Rattle.lines.specs.Lines.{numbers_of}
+use Rattle.lines.specs.Next.{NextAt}
 use Rattle.lines.proofs.Rearranging.{each_among, among_kept, among_passes, PlaceOf}
 use Rattle.lines.proofs.Lefts.{left_at, Left}
 
@@ -54,10 +53,10 @@ picked_is :
 unfolding picked
 picked_is fits clock xs q left s z e f = rw (e, picked) (rw f)
 
-module _ {cap : Caps} {caps : LineCaps} {size site clock : ℕ} {c : Charges} {line : ℕ} {left : List ℕ} {n : ℕ} {p : Profile} {rest : List Charge}
+module _ {cap : Caps} {caps : LineCaps} {site clock : ℕ} {c : Charges} {line : ℕ} {left : List ℕ} {p : Profile} {rest : List Charge}
     {q : code.Crowd} {from : ℕ} {next : Next} (own : Crowd) (loads : List Load) (h : Listed c) (on : IsLine line)
-    (shown : CapsShown caps cap) (shows : ShowsIn size p clock loads) (are : Left c line left n rest)
-    (r : NextIs p site caps line (numbers_of c) left n q from next)
+    (shown : CapsShown caps site cap) (shows : Shows p clock loads) (are : Left c line left rest)
+    (r : NextAt p caps line c left q from next)
     (number : next.crowd.number ≡ own.number) (total : next.crowd.total ≡ own.total)
     (below : NoneBelow (fits_at site cap) clock loads rest from) (near : from ≤ max clock (last_until loads)) where
   abbrev s : ℕ
@@ -70,23 +69,23 @@ module _ {cap : Caps} {caps : LineCaps} {size site clock : ℕ} {c : Charges} {l
   start_low = omega (arith, r.low, shows.starts)
 
   pub start_near : s ≤ max clock (last_until loads)
-  start_near = omega (arith, r.high, near, shows.ends (p.steps - 1) (omega (arith, shows.formed.some)))
+  start_near = omega (arith, r.high, near, shows.ends (length p - 1) (omega (arith, shows.formed.some)))
 
   -- a charge fits exactly when it is no longer than the run
-  fits_same : (j : ℕ) → j < n → fits s (left_at c left j) ≡ fits_run (numbers_of c) left (run_of (room_under p site caps line 1) next.crowd.one.longest s) (run_of (room_under p site caps line 2) next.crowd.two.longest s) j
+  fits_same : (j : ℕ) → j < length left → fits s (left_at c left j) ≡ fits_run c left (run_of (room_under p caps line 1) next.crowd.one.longest s) (run_of (room_under p caps line 2) next.crowd.two.longest s) j
   fits_same j b =
       rw (are.on_line j b)
       (⊎_elim
       (λ l.
       let e : 1 ≡ number_of c.rates left j = omega (arith, (h.small (get_or left j 0) (are.inside j b)).is_rate.low) in
-      rw (← e) (run_shows on shows shown site 1 (number_of c.active_times left j) next.crowd.one.longest s start_low (r.bounds.one j b e)))
+      rw (← e) (run_shows on shows shown 1 (number_of c.active_times left j) next.crowd.one.longest s start_low (r.bounds.one j b e)))
       (λ l.
       let e : 2 ≡ number_of c.rates left j = omega (arith, (h.small (get_or left j 0) (are.inside j b)).is_rate.high) in
-      rw (← e) (run_shows on shows shown site 2 (number_of c.active_times left j) next.crowd.two.longest s start_low (r.bounds.two j b e)))
+      rw (← e) (run_shows on shows shown 2 (number_of c.active_times left j) next.crowd.two.longest s start_low (r.bounds.two j b e)))
       (below_or_not (number_of c.rates left j) 2))
 
   taken_fits : fits s (left_at c left next.place) ≡ true
-  taken_fits = fits_same next.place r.inside ∙ r.choice.fits r.inside
+  taken_fits = fits_same next.place r.inside ∙ r.choice.fits
 
   some_fits : some (fits s) rest ≡ true
   some_fits = among_some (fits s) (are.to next.place r.inside) taken_fits
@@ -101,7 +100,7 @@ module _ {cap : Caps} {caps : LineCaps} {size site clock : ℕ} {c : Charges} {l
       (λ x m.
       let w = are.from x m in
       rw (w.is, are.on_line w.place w.inside)
-      (misses_fails on shows shown site (number_of c.rates left w.place) (number_of c.active_times left w.place) u a
+      (misses_fails on shows shown (number_of c.rates left w.place) (number_of c.active_times left w.place) u a
       (r.none u l b w.place w.inside)))))
       (below_or_not u from)
 
@@ -116,9 +115,9 @@ module _ {cap : Caps} {caps : LineCaps} {size site clock : ℕ} {c : Charges} {l
 
   -- what is ahead is taken before
   taken_ahead :
-      (j : ℕ) → j < n → fits s (left_at c left j) ≡ true → (j ≡ next.place → ⊥)
+      (j : ℕ) → j < length left → fits s (left_at c left j) ≡ true → (j ≡ next.place → ⊥)
       → taken_before own s (left_at c left next.place) (left_at c left j) ≡ true
-  taken_ahead j b fit ne = go (rw (number, total) at (r.choice.ahead r.inside j b (sym (fits_same j b) ∙ fit) ne))
+  taken_ahead j b fit ne = go (rw (number, total) at (r.choice.ahead j b (sym (fits_same j b) ∙ fit) ne))
     where
       go :
           Ahead W T next.place j
@@ -138,7 +137,7 @@ module _ {cap : Caps} {caps : LineCaps} {size site clock : ℕ} {c : Charges} {l
       go : Taken (taken_before own s) (keep (fits s) rest) → foremost (taken_before own s) (keep (fits s) rest) ≡ chosen (left_at c left next.place)
       go t = t.gives ∙ ap chosen (split (below_or_not w.place next.place) (below_or_not next.place w.place))
         where
-          w : PlaceOf (left_at c left) n t.who
+          w : PlaceOf (left_at c left) (length left) t.who
           w = are.from t.who (among_keep (fits s) t.who rest t.member)
 
           first : (1 ≤ t.who.time) × Each (λ d. taken_before own s d t.who ≡ false) (keep (fits s) rest)

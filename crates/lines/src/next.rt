@@ -1,25 +1,17 @@
 // The next charge of a line: the smallest start at which one of those left fits, and the one that is taken there.
-ghost use Rattle.profile.specs.Shows.{profile_of};
-ghost use Rattle.search.specs.Caps.{caps_in};
-ghost use Rattle.priority.specs.Numbers.{numbers_in};
-ghost use Rattle.lines.specs.Next.{CanChooseAt, ChosenAt, CanSeekFor, CanSeek, StartFor, NextStart, CanNext, NextIs};
+ghost use Rattle.std.specs.Prelude.{◌≡◌};
+ghost use Rattle.rules.specs.Basics.{run_of};
+ghost use Rattle.rules.specs.Load.{IsLine};
+ghost use Rattle.search.specs.Caps.{room_under, CanRun};
+ghost use Rattle.lines.specs.Next.{CanChooseAt, ChosenAt, CanSeek, StartFor, NextStart, CanNext, NextIs};
 
-use charges::PLACES;
+use charges::Charges;
 use priority::choice::choose;
-use priority::columns::Columns;
-use priority::crowd::{Crowd, narrowed};
-use profile::COLUMNS;
-use profile::counts::smaller;
-use search::caps::CAP_PLACES;
+use priority::crowd::{Crowd, Span};
+use profile::loads::Draw;
+use profile::steps::Step;
+use search::caps::LineCaps;
 use search::fit::{next_under, run_under};
-use search::limits::Draw;
-
-// The line that is placed, and the site's limit over all lines.
-#[derive(Clone, Copy)]
-pub struct Under {
-    pub line: u32,
-    pub site: u32,
-}
 
 // The start of the next charge, which of those left it is, and the crowd as it is there.
 #[derive(Clone, Copy)]
@@ -29,127 +21,95 @@ pub struct Next {
     pub crowd: Crowd,
 }
 
-// The charge that is taken at the start, the number of those left where none fits.
-fn chosen_at<'a, 'b>(
-    at: &'a [u32],
-    counts: &'a [u32],
-    steps: usize,
-    caps: &'a [u32; COLUMNS * CAP_PLACES],
-    under: Under,
-    columns: Columns<'b>,
-    left: &'a [usize; PLACES],
-    n: usize,
+// How many minutes from a start on have room for charges of the rate, up to the longest time of those left.
+fn run_for(steps: &[Step], caps: &LineCaps, line: u32, rate: u32, span: Span, start: u32) -> u32
+    requires { CanRun steps.now span.longest start × IsLine line }
+    ensures { result ≡ run_of (room_under steps.now caps.now line rate) span.longest start }
+{
+    let time = span.longest;
+    run_under(steps, caps, Draw { line, time, rate }, start)
+}
+
+// Which of the charges left is taken at the start, if one fits there.
+fn chosen_at(
+    steps: &[Step],
+    caps: &LineCaps,
+    line: u32,
+    charges: &Charges,
+    left: &[usize],
     crowd: Crowd,
     start: u32,
-) -> usize
-    requires { CanChooseAt (profile_of steps at.now counts.now) (caps_in caps.now) under.line (numbers_in columns) left.now n crowd start }
-    ensures { ChosenAt (profile_of steps at.now counts.now) under.site (caps_in caps.now) under.line (numbers_in columns.entry) left.now n crowd start result }
+) -> Option<usize>
+    requires { CanChooseAt steps.now line charges.now left.now crowd start }
+    ensures { ChosenAt steps.now caps.now line charges.now left.now crowd start result }
 {
-    let line = under.line;
-    let site = under.site;
-    let ones = crowd.one;
-    let twos = crowd.two;
-    let longest_one = Draw {
-        line,
-        time: ones.longest,
-        rate: 1,
-    };
-    let longest_two = Draw {
-        line,
-        time: twos.longest,
-        rate: 2,
-    };
-    let one = run_under(at, counts, steps, caps, site, longest_one, start);
-    let two = run_under(at, counts, steps, caps, site, longest_two, start);
-    choose(columns, left, n, crowd, start, one, two)
+    let one = run_for(steps, caps, line, 1, crowd.one, start);
+    let two = run_for(steps, caps, line, 2, crowd.two, start);
+    choose(charges, left, crowd, start, one, two)
 }
 
-// The smallest start of a charge with this draw, not below `from`; no minute where its time is none.
-fn start_for<'a>(
-    at: &'a [u32],
-    counts: &'a [u32],
-    steps: usize,
-    caps: &'a [u32; COLUMNS * CAP_PLACES],
-    site: u32,
-    draw: Draw,
+// The smallest start, not below `from`, of the shortest of those left that have the rate; none where no charge has it.
+fn start_for(
+    steps: &[Step],
+    caps: &LineCaps,
+    line: u32,
+    rate: u32,
+    span: Span,
     from: u32,
-) -> u32
-    requires { CanSeekFor (profile_of steps at.now counts.now) site (caps_in caps.now) draw.line draw.rate draw.time from }
-    ensures { StartFor (profile_of steps at.now counts.now) site (caps_in caps.now) draw.line draw.rate draw.time from result }
+) -> Option<u32>
+    requires { CanSeek steps.now caps.now line rate span.shortest from }
+    ensures { StartFor steps.now caps.now line rate span.shortest from result }
 {
-    if draw.time == 0 {
-        return 4294967295;
+    let time = span.shortest;
+    if time == 0 {
+        return None;
     }
-    next_under(at, counts, steps, caps, site, draw, from)
+    Some(next_under(steps, caps, Draw { line, time, rate }, from))
 }
 
-// The smaller one of the smallest starts for the two rates, which are those of the shortest charges.
-fn next_start<'a>(
-    at: &'a [u32],
-    counts: &'a [u32],
-    steps: usize,
-    caps: &'a [u32; COLUMNS * CAP_PLACES],
-    under: Under,
-    crowd: Crowd,
-    from: u32,
-) -> u32
-    requires { CanSeek (profile_of steps at.now counts.now) under.site (caps_in caps.now) under.line 1 crowd.one from × CanSeek (profile_of steps at.now counts.now) under.site (caps_in caps.now) under.line 2 crowd.two from }
-    ensures { NextStart (profile_of steps at.now counts.now) under.site (caps_in caps.now) under.line crowd from result }
+// The smaller one of the smallest starts for the two rates.
+fn next_start(steps: &[Step], caps: &LineCaps, line: u32, crowd: Crowd, from: u32) -> Option<u32>
+    requires { CanSeek steps.now caps.now line 1 crowd.one.shortest from × CanSeek steps.now caps.now line 2 crowd.two.shortest from }
+    ensures { NextStart steps.now caps.now line crowd from result }
 {
-    let line = under.line;
-    let site = under.site;
-    let ones = crowd.one;
-    let twos = crowd.two;
-    let shortest_one = Draw {
-        line,
-        time: ones.shortest,
-        rate: 1,
-    };
-    let shortest_two = Draw {
-        line,
-        time: twos.shortest,
-        rate: 2,
-    };
-    let one = start_for(at, counts, steps, caps, site, shortest_one, from);
-    let two = start_for(at, counts, steps, caps, site, shortest_two, from);
-    smaller(one, two)
+    let one = start_for(steps, caps, line, 1, crowd.one, from);
+    let two = start_for(steps, caps, line, 2, crowd.two, from);
+    match (one, two) {
+        (Some(one), Some(two)) => Some(one.min(two)),
+        _ => one.or(two),
+    }
 }
 
 // "finds the smallest start at which any unplaced charge fits, and among those that fit there takes the one .."; it is not
-// below `from`, the start of the last one.
-pub fn next_charge<'a, 'b>(
-    at: &'a [u32],
-    counts: &'a [u32],
-    steps: usize,
-    caps: &'a [u32; COLUMNS * CAP_PLACES],
-    under: Under,
-    columns: Columns<'b>,
-    left: &'a [usize; PLACES],
-    n: usize,
+// below `from`, the start of the last one. None where no charge is left.
+pub fn next_charge(
+    steps: &[Step],
+    caps: &LineCaps,
+    line: u32,
+    charges: &Charges,
+    left: &[usize],
     crowd: Crowd,
     from: u32,
-) -> Next
-    requires { CanNext (profile_of steps at.now counts.now) under.site (caps_in caps.now) under.line (numbers_in columns) left.now n crowd from }
-    ensures { NextIs (profile_of steps at.now counts.now) under.site (caps_in caps.now) under.line (numbers_in columns.entry) left.now n crowd from result }
+) -> Option<Next>
+    requires { CanNext steps.now caps.now line charges.now left.now crowd from }
+    ensures { NextIs steps.now caps.now line charges.now left.now crowd from result }
 {
-    let here = chosen_at(
-        at, counts, steps, caps, under, columns, left, n, crowd, from,
-    );
-    if here < n {
-        return Next {
-            start: from,
-            place: here,
-            crowd,
-        };
+    if left.is_empty() {
+        return None;
     }
-    let crowd = narrowed(crowd, columns, left, n);
-    let next = next_start(at, counts, steps, caps, under, crowd, from);
-    let place = chosen_at(
-        at, counts, steps, caps, under, columns, left, n, crowd, next,
-    );
-    Next {
-        start: next,
+    if let Some(place) = chosen_at(steps, caps, line, charges, left, crowd, from) {
+        return Some(Next {
+            start: from,
+            place,
+            crowd,
+        });
+    }
+    let crowd = crowd.narrowed(charges, left);
+    let start = next_start(steps, caps, line, crowd, from)?;
+    let place = chosen_at(steps, caps, line, charges, left, crowd, start)?;
+    Some(Next {
+        start,
         place,
         crowd,
-    }
+    })
 }

@@ -1,150 +1,109 @@
 // Replan by lines: rounds under ever lower caps.
-ghost use Rattle.std.specs.Prelude.{◌≡◌, length};
-ghost use Rattle.rules.specs.Replan.{by_lines, standing as standing_of};
+ghost use Rattle.std.specs.Prelude.{◌≡◌};
+ghost use Rattle.rules.specs.Replan.{by_lines};
 ghost use Rattle.charges.specs.Arrays.{charges_of};
-ghost use Rattle.profile.specs.Shows.{profile_of, Roomy, ShowsIn};
-ghost use Rattle.planner.specs.Ready.{around_of, terms_of, Spacious, Others, Ready};
-ghost use Rattle.lines.specs.Lines.{CanPlace};
+ghost use Rattle.planner.specs.Ready.{terms_of, Spacious, Ready};
+ghost use Rattle.lines.specs.Lines.{CanPlace, ShowsStanding};
 ghost use Rattle.lines.specs.Rounds.{Comparable, Plays, Replans, asked_in};
 
 use crate::place::{Task, place_lines};
-use charges::Charges;
-use charges::drawn::Rest;
-use planner::standing::standing;
-use planner::{Beside, Proposed, waiting_starts};
+use charges::{Charges, PLACES};
+use planner::Beside;
+use planner::cause::Cause;
+use planner::standing::add_standing;
+use planner::starts::waiting_starts;
 use profile::balance::{first_unbalanced, largest_line, level, smallest_line};
-use profile::steps::copy;
-use profile::{COLUMNS, When};
+use profile::loads::Profile;
+use profile::steps::{Step, place};
 use queues::by_latest_start;
 use search::caps::LineCaps;
 
-// A round ends the replan, or the line's cap has to be lowered from the minute on.
+// From the minute on the cap of the line is no longer above this one.
 #[derive(Clone, Copy)]
-pub enum Outcome {
-    Ends,
-    Lowers { line: u32, minute: u32, cap: u32 },
+pub struct Lowering {
+    pub line: u32,
+    pub minute: u32,
+    pub cap: u32,
 }
 
-// What comes of a round, with what is proposed if it ends the replan.
-#[derive(Clone, Copy)]
-pub struct Round {
-    pub outcome: Outcome,
-    pub proposed: Proposed,
+// A round ends the replan with what is proposed, or a line's cap has to be lowered.
+pub enum Round {
+    Ends(Result<[u32; PLACES], Cause>),
+    Lowers(Lowering),
 }
 
 // What replan by lines proposes, with the rounds made for it.
 #[derive(Clone, Copy)]
 pub struct Replanned {
-    pub proposed: Proposed,
+    pub proposed: Result<[u32; PLACES], Cause>,
     pub rounds: u32,
 }
 
-// What an unbalanced minute asks for: a lower cap for the line with the largest count, if a placed charge draws there. The first
-// profile is that of the plan, the other that of what stands.
-fn unbalanced_in<'a, 'b>(
-    at: &'a [u32],
-    counts: &'a [u32],
-    n: usize,
-    base_at: &'b [u32],
-    base_counts: &'b [u32],
-    base_n: usize,
-    minute: u32,
-    bound: u32,
-) -> Outcome
-    requires { Comparable (profile_of n at.now counts.now) (profile_of base_n base_at.now base_counts.now) minute bound }
-    ensures { result ≡ asked_in (profile_of n at.now counts.now) (profile_of base_n base_at.now base_counts.now) minute bound }
+// What an unbalanced minute of the plan asks for: a lower cap for the line with the largest count, if a placed charge draws there, and
+// so the count is not that of what stands.
+fn unbalanced_in(plan: &[Step], standing: &[Step], minute: u32, bound: u32) -> Option<Lowering>
+    requires { Comparable plan.now standing.now minute bound }
+    ensures { result ≡ asked_in plan.now standing.now minute bound }
 {
-    let one = level(at, counts, n, 1, minute);
-    let two = level(at, counts, n, 2, minute);
-    let three = level(at, counts, n, 3, minute);
-    let line = largest_line(one, two, three);
-    let drawn = level(at, counts, n, line, minute);
-    if drawn == level(base_at, base_counts, base_n, line, minute) {
-        return Outcome::Ends;
+    let step = plan[place(plan, minute)];
+    let line = largest_line(step);
+    if step.count(line) == level(standing, line, minute) {
+        return None;
     }
-    let low = smallest_line(one, two, three);
-    let cap = level(at, counts, n, low, minute) + bound;
-    Outcome::Lowers { line, minute, cap }
+    let low = smallest_line(step);
+    let cap = step.count(low) + bound;
+    Some(Lowering { line, minute, cap })
 }
 
-// One round: every waiting charge placed under the caps beside what stands, whose profile comes in the second pair of lists and is
-// copied to the first; and what the first unbalanced minute asks for.
-fn play<'a, 'b>(
-    at: &mut [u32],
-    counts: &mut [u32],
-    base_at: &'b [u32],
-    base_counts: &'b [u32],
-    n: usize,
-    task: Task,
-    rest: Rest<'a>,
-    caps: LineCaps,
+// One round: every waiting charge placed under the caps beside what stands, and what the first unbalanced minute asks for. The plan's
+// profile is lent, since a new one would be cleared in each round.
+fn play<const N: usize>(
+    plan: &mut Profile<N>,
+    standing: &Profile<N>,
+    task: &Task<'_>,
+    caps: &LineCaps,
 ) -> Round
-    requires { CanPlace (length at.old) (around_of task.beside rest) task.charges task.queue caps × Roomy at.old counts.old × ShowsIn (length base_at.now) (profile_of n base_at.now base_counts.now) task.beside.clock (standing_of (terms_of (around_of task.beside rest)) task.beside.clock (charges_of task.charges)) }
-    ensures { Plays (around_of task.beside rest.entry) task.charges caps result }
+    requires { CanPlace N task.now caps.now × ShowsStanding task.now standing.now }
+    ensures { Plays task.now caps.now result }
 {
-    copy(base_at, at, n);
-    copy(base_counts, counts, COLUMNS * n);
-    let placement = place_lines(at, counts, n, task, rest, caps);
-    let steps = placement.steps;
-    let beside = task.beside;
-    let limits = beside.limits;
-    let bound = limits.bound;
-    let unbalanced = first_unbalanced(at, counts, steps, bound);
-    let When::Minute(minute) = unbalanced else {
-        let by_place = placement.by_place;
-        let starts = waiting_starts(task.charges, beside.clock, by_place);
-        let proposed = Proposed { cause: 0, starts };
-        return Round {
-            outcome: Outcome::Ends,
-            proposed,
-        };
+    plan.copy(standing);
+    let by_place = place_lines(plan, task, caps);
+    let bound = task.beside.limits.bound;
+    let Some(minute) = first_unbalanced(plan.steps(), bound) else {
+        let starts = waiting_starts(task.charges, task.beside.clock, &by_place);
+        return Round::Ends(Ok(starts));
     };
-    let outcome = unbalanced_in(at, counts, steps, base_at, base_counts, n, minute, bound);
-    // Without a placed charge to blame there is no start; where a cap is lowered the cause is not looked at.
-    let proposed = Proposed::none(1);
-    Round { outcome, proposed }
+    match unbalanced_in(plan.steps(), standing.steps(), minute, bound) {
+        Some(lowering) => Round::Lowers(lowering),
+        // No placed charge is to blame.
+        None => Round::Ends(Err(Cause::NoStart)),
+    }
 }
 
-// Replan by lines. At least one round is made, whatever the allowance. The first two lists are lent for the profile of what stands,
-// which every round begins from, the other two for that of a round.
-pub fn by_lines<'a>(
-    at: &mut [u32],
-    counts: &mut [u32],
-    plan_at: &mut [u32],
-    plan_counts: &mut [u32],
-    beside: Beside,
-    rest: Rest<'a>,
-    charges: Charges,
-    allowance: u32,
-) -> Replanned
-    requires { Spacious (around_of beside rest) at.old counts.old × Spacious (around_of beside rest) plan_at.old plan_counts.old × Others (around_of beside rest) × Ready (around_of beside rest) charges }
-    ensures { Replans beside.clock charges (by_lines (terms_of (around_of beside rest.entry)) beside.clock allowance (charges_of charges)) result }
+// Replan by lines. At least one round is made, whatever the allowance. Every round begins from the profile of what stands.
+pub fn by_lines<const N: usize>(beside: Beside<'_>, charges: &Charges, allowance: u32) -> Replanned
+    requires { Spacious beside N × Ready beside charges.now }
+    ensures { Replans beside.entry.clock charges.now (by_lines (terms_of beside.entry) beside.entry.clock allowance (charges_of charges.now)) result }
 {
     let queue = by_latest_start(charges, beside.clock);
-    let n = standing(at, counts, beside, rest, charges, beside.clock);
+    let mut plan = Profile::<N>::new(beside.clock);
+    let mut standing = Profile::<N>::new(beside.clock);
+    add_standing(&mut standing, beside, charges, beside.clock);
     let task = Task {
         beside,
         charges,
-        queue,
+        queue: &queue,
     };
-    let limits = beside.limits;
-    let mut caps = LineCaps::new(limits.limit);
-    let mut rounds = 1;
-    loop {
-        let round = play(plan_at, plan_counts, at, counts, n, task, rest, caps);
-        let proposed = round.proposed;
-        let outcome = round.outcome;
-        let Outcome::Lowers { line, minute, cap } = outcome else {
-            return Replanned { proposed, rounds };
-        };
-        if allowance <= rounds {
-            let spent = Proposed::none(2);
-            return Replanned {
-                proposed: spent,
-                rounds,
-            };
+    let mut caps = LineCaps::new(beside.limits);
+    let most = allowance.max(1);
+    for rounds in 1..=most {
+        match play(&mut plan, &standing, &task, &caps) {
+            Round::Ends(proposed) => return Replanned { proposed, rounds },
+            Round::Lowers(Lowering { line, minute, cap }) => caps.lower(line, minute, cap),
         }
-        caps = caps.lower(line, minute, cap);
-        rounds += 1;
+    }
+    Replanned {
+        proposed: Err(Cause::AllowanceSpent),
+        rounds: most,
     }
 }

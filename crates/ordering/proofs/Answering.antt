@@ -5,15 +5,12 @@ use mathlib.Core.List.{List, []}
 use native.Mathlib.Omega.{arith}
 use Rattle.rules.specs.Basics.{Found, at, nothing, first_of}
 use Rattle.rules.specs.Load.{Load}
-use Rattle.rules.specs.Charge.{seen}
+use Rattle.rules.specs.Charge.{loads_of, seen}
 use Rattle.rules.specs.Site.{State, limits_of}
-use Rattle.rules.specs.Calls.{Answer, refused, answering, draw_for, start_for, previewed_at, previewing, step}
+use Rattle.rules.specs.Calls.{Answer, refused, previewed, answering, draw_for, start_for, previewed_at, previewing, step}
 use Rattle.rules.proofs.Tables.{NoneHolds}
 use Rattle.rules.proofs.Shown.{preview_shown, commit_refused, commit_other}
-use Rattle.charges.specs.declared.drawn.Drawn.{Drawn}
 use Rattle.charges.specs.Arrays.{charges_of}
-use Rattle.charges.specs.Drawn.{loads_in, drawn_of, Draws}
-use Rattle.charges.proofs.Drawing.{loads_in_lem}
 use Rattle.orders.specs.declared.sought.Sought.{Sought}
 use Rattle.orders.specs.declared.sought.PreviewAnswer.{PreviewAnswer}
 use Rattle.orders.specs.declared.sought.PreviewAnswer.TheVariants.{Previewed, Refused}
@@ -25,9 +22,9 @@ use Rattle.station.specs.View.{feeder_at, view, Of, Names}
 use Rattle.station.specs.Given.{Keeps, Leaves}
 use Rattle.station.proofs.Ones.{of_stays}
 use Rattle.ordering.specs.declared.Order.{Order}
-use Rattle.ordering.specs.Ordered.{preview_of, commit_of, sought_by}
-use Rattle.ordering.proofs.Rows.{refusals_of, named, There, is_named, rows}
-use Rattle.ordering.proofs.Seeking.{seen_by, with_held, here, own_seen, drawn_seen, unrefused}
+use Rattle.ordering.specs.Ordered.{preview_of, commit_of, refusal_by, sought_by}
+use Rattle.ordering.proofs.Rows.{refusals_of, There, is_named, rows}
+use Rattle.ordering.proofs.Seeking.{seen_by, here, own_seen, drawn_seen, unrefused}
 
 -- the start that the rules give an order
 abbrev pub start_of : Station → Order → Found
@@ -68,45 +65,44 @@ module _ (s : Station) (o : Order) where
 -- On the feeder that the order names
 
 module _ {s : Station} {one : One} (f : Of s one) (o : Order) (n : Names one o.feeder) where
-  module _ (h : There s.count o) {q : Sought} (e : q ≡ sought_by one o) where
-    abbrev number : q.refusal ≡ first_of (refusals_of s o)
-    number = ap (λ (x : Sought). x.refusal) e ∙ rows f o n h
+  module _ (h : There s.count o) {k : ℕ} (e : k ≡ refusal_by one o) where
+    pub number_shown : 0 < k → Keeps (step (view s) (preview_of o)) s (refused k) []
+    number_shown some = refusal_shown s o (e ∙ rows f o n h) some
 
-    pub number_shown : 0 < q.refusal → Keeps (step (view s) (preview_of o)) s (refused q.refusal) []
-    number_shown some = refusal_shown s o number some
-
-    module _ (none : q.refusal ≤ 0) where
+    module _ (none : k ≤ 0) {q : Sought} (w : q ≡ sought_by one o) where
       free : NoneHolds (refusals_of s o)
-      free = unrefused f o n h (ap (λ (x : Sought). x.refusal) e) none
+      free = unrefused f o n h e none
 
       -- what was sought among the loads that the feeder sees
       found_shown :
-          (held : ℕ) {xs : List Load} {a : Answer}
+          {xs : List Load} {start : ℕ}
           → xs ≡ seen_by s o
-          → ((others : List Load) → a ≡ shown q.refusal (start_sought (with_held q held) others xs))
-          → Keeps (step (view s) (preview_of o)) s a []
-      found_shown held {xs} lent told =
-          let found : start_sought (with_held q held) (limits_of (view s) o.feeder).others xs ≡ start_of s o =
-          rw (e, is_named f o n h, lent, here s o free) refl in
-          preview_stays s o (told (limits_of (view s) o.feeder).others ∙ rw (number, found) (sym (step_shown s o)))
+          → ((others : List Load) → start_sought q others xs ≡ at start)
+          → Keeps (step (view s) (preview_of o)) s (previewed start) []
+      found_shown {xs} {start} lent told =
+          let found : start_of s o ≡ at start =
+          sym (rw (w, is_named f o n h, lent, here s o free) refl) ∙ told (limits_of (view s) o.feeder).others in
+          let number : first_of (refusals_of s o) ≡ 0 = omega (arith, rows f o n h) in
+          preview_stays s o (rw (step_shown s o, number, found) refl)
 
       -- its own charges alone
       pub own_shown :
-          {a : Answer}
+          {xs : List Load} {start : ℕ}
           → s.count ≡ 1
-          → ((others : List Load) → a ≡ shown q.refusal (start_sought q others (loads_in q.held one.feeder.charges.lines one.feeder.charges.active_times one.feeder.charges.starts one.feeder.charges.rates)))
-          → Keeps (step (view s) (preview_of o)) s a []
-      own_shown single told =
-          found_shown q.held (rw (e, is_named f o n h) (sym (loads_in_lem (named s o).charges) ∙ own_seen s o free single)) told
+          → xs ≡ loads_of (charges_of one.feeder.charges)
+          → ((others : List Load) → start_sought q others xs ≡ at start)
+          → Keeps (step (view s) (preview_of o)) s (previewed start) []
+      own_shown single lent told = found_shown (lent ∙ rw (is_named f o n h) (own_seen s o free single)) told
 
       -- with what the others draw
       pub drawn_shown :
-          {d : Drawn} (p : ℕ) {a : Answer}
+          {lent xs : List Load} (p : ℕ) {start : ℕ}
           → o.feeder ≡ p + 1
-          → Draws (seen (limits_of (view s) (p + 1)) (charges_of (feeder_at s p).charges)) d
-          → ((others : List Load) → a ≡ shown q.refusal (start_sought (with_held q d.held) others (drawn_of d)))
-          → Keeps (step (view s) (preview_of o)) s a []
-      drawn_shown {d} p place v told = found_shown d.held (drawn_seen s o free p place v).loads told
+          → lent ≡ xs
+          → xs ≡ seen (limits_of (view s) (p + 1)) (charges_of (feeder_at s p).charges)
+          → ((others : List Load) → start_sought q others lent ≡ at start)
+          → Keeps (step (view s) (preview_of o)) s (previewed start) []
+      drawn_shown p place same draws told = found_shown (same ∙ draws ∙ drawn_seen s o free p place) told
 
   -- A commit
 

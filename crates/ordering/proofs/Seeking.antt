@@ -12,15 +12,14 @@ use Rattle.rules.specs.Site.{feeder_of, charges_on, limits_of}
 use Rattle.rules.proofs.Lists.{length_tabulate}
 use Rattle.rules.proofs.Tables.{NoneHolds}
 use Rattle.rules.proofs.Granted.{OrderGranted, order_granted, refusals_none}
-use Rattle.profile.specs.Shows.{Roomy}
-use Rattle.charges.specs.declared.drawn.Drawn.{Drawn}
+use Rattle.profile.specs.Steps.{most_steps}
 use Rattle.charges.specs.Arrays.{charge_at, charges_of}
-use Rattle.charges.specs.Drawn.{Draws}
+use Rattle.charges.specs.declared.Charges.{Charges}
+use Rattle.planner.proofs.Showing.{length_loads_of}
 use Rattle.planner.proofs.StandingLoads.{plannable_drawable}
 use Rattle.orders.specs.declared.sought.Sought.{Sought}
-use Rattle.orders.specs.Asked.{draw_sought, OrderBeside}
-use Rattle.orders.specs.Shown.{CanSeek}
-use Rattle.orders.proofs.Drawings.{sound_beside, own_can_order, drawn_can_order}
+use Rattle.orders.specs.Asked.{draw_sought, OrderBeside, CanOrder}
+use Rattle.orders.proofs.Drawings.{sound_beside, lent_can_order}
 use Rattle.station.specs.declared.Station.{Station}
 use Rattle.station.specs.declared.One.{One}
 use Rattle.station.specs.View.{feeder_view, feeder_at, view, Valid, limits_for, one_at, Of, Names}
@@ -33,20 +32,6 @@ use Rattle.station.proofs.Seen.{seen_end, seen_plannable}
 -- all that the feeder of an order sees
 abbrev pub seen_by : Station → Order → List Load
 seen_by s o = seen (limits_of (view s) o.feeder) (charges_on (view s) o.feeder)
-
--- what is sought, with so many loads in the place of those of the feeder
-abbrev pub with_held : Sought → ℕ → Sought
-with_held q held =
-    record {
-      refusal = q.refusal;
-      limits = q.limits;
-      clock = q.clock;
-      tail = q.tail;
-      held = held;
-      line = q.line;
-      time = q.time;
-      rate = q.rate;
-    }
 
 module _ (s : Station) (o : Order) (free : NoneHolds (refusals_of s o)) where
   pub granted : OrderGranted (view s) o.feeder o.line o.time o.due o.rate
@@ -111,19 +96,12 @@ module _ (s : Station) (o : Order) (free : NoneHolds (refusals_of s o)) where
       ap (λ (g : rules.Feeder). loads_of g.charges) (sym here) ∙ rw (first, one) refl
 
   -- what was gathered for the feeder at its place
-  pub drawn_seen :
-      {d : Drawn} (p : ℕ) → o.feeder ≡ p + 1 → Draws (seen (limits_of (view s) (p + 1)) (charges_of (feeder_at s p).charges)) d
-      → Draws (seen_by s o) d
-  drawn_seen {d} p e v =
+  pub drawn_seen : (p : ℕ) → o.feeder ≡ p + 1 → seen (limits_of (view s) (p + 1)) (charges_of (feeder_at s p).charges) ≡ seen_by s o
+  drawn_seen p e =
       let place : p ≡ o.feeder - 1 = omega arith in
-      record {
-        loads =
-            v.loads
-            ∙ ap (λ f. seen (limits_of (view s) f) (charges_of (feeder_at s p).charges)) (sym e)
-            ∙ ap (λ i. seen (limits_of (view s) o.feeder) (charges_of (feeder_at s i).charges)) place
-            ∙ ap (λ (g : rules.Feeder). seen (limits_of (view s) o.feeder) g.charges) (sym here);
-        columns = v.columns;
-      }
+      ap (λ f. seen (limits_of (view s) f) (charges_of (feeder_at s p).charges)) (sym e)
+      ∙ ap (λ i. seen (limits_of (view s) o.feeder) (charges_of (feeder_at s i).charges)) place
+      ∙ ap (λ (g : rules.Feeder). seen (limits_of (view s) o.feeder) g.charges) (sym here)
 
 -- The search is given what it asks
 
@@ -132,30 +110,28 @@ module _ {s : Station} {one : One} (f : Of s one) (o : Order) (n : Names one o.f
   pub unrefused : {k : ℕ} → k ≡ refusal_by one o → k ≤ 0 → NoneHolds (refusals_of s o)
   unrefused e none = refusals_none (view s) (preview_of o) (omega (arith, e, none, rows f o n h))
 
-  module _ {q : Sought} (e : q ≡ sought_by one o) {ats counts : List ℕ} (roomy : Roomy ats counts) where
-    abbrev number : q.refusal ≡ refusal_by one o
-    number = ap (λ (x : Sought). x.refusal) e
-
-    pub own_can_seek :
-        s.count ≡ 1 → (q.held < 180 → 1 + 2 * q.held ≤ length ats)
-        → CanSeek q ats counts one.feeder.charges.lines one.feeder.charges.active_times one.feeder.charges.starts one.feeder.charges.rates
-    own_can_seek single enough none =
-        let free = unrefused number (omega (arith, none)) in
-        let held : q.held ≡ (named s o).charges.held
-        = ap (λ (x : Sought). x.held) e ∙ ap (λ (x : One). x.feeder.charges.held) (is_named f o n h) in
+  module _ (free : NoneHolds (refusals_of s o)) {q : Sought} (e : q ≡ sought_by one o) {lent : List Load} {size : ℕ} (most : size ≤ most_steps) where
+    -- among what the feeder sees
+    can_seek : lent ≡ seen_by s o → 1 + 2 * length (seen_by s o) ≤ size → CanOrder q size lent
+    can_seek same enough =
         rw (e, is_named f o n h)
-        (own_can_order roomy (sought_by (one_at s (o.feeder - 1)) o) (f.valid.formed.columns (o.feeder - 1) (inside s o free).1) refl (omega (arith, enough (omega (arith, room s o free, held)), held))
-        (rw (own_seen s o free single) (plan s o free f.valid)))
+        (lent_can_order (sought_by (one_at s (o.feeder - 1)) o) same enough most (plan s o free f.valid))
 
+    -- its own charges alone
+    pub own_can_seek :
+        s.count ≡ 1 → lent ≡ loads_of (charges_of one.feeder.charges) → (one.feeder.charges.held < 180 → 1 + 2 * one.feeder.charges.held ≤ size) → CanOrder q size lent
+    own_can_seek single same enough =
+        let own : one.feeder.charges ≡ (named s o).charges = ap (λ (x : One). x.feeder.charges) (is_named f o n h) in
+        let held : length (seen_by s o) ≡ one.feeder.charges.held =
+        ap length (sym (own_seen s o free single)) ∙ length_loads_of (charges_of (named s o).charges)
+        ∙ length_tabulate (charge_at (named s o).charges) (named s o).charges.held 0 ∙ sym (ap (λ (c : Charges). c.held) own) in
+        can_seek (same ∙ ap (λ (c : Charges). loads_of (charges_of c)) own ∙ own_seen s o free single)
+        (omega (arith, held, enough (omega (arith, room s o free, ap (λ (c : Charges). c.held) own))))
+
+    -- with what the others draw
     pub drawn_can_seek :
-        {d : Drawn} (p : ℕ) {t : Sought} {k : ℕ}
-        → t ≡ with_held q k
-        → k ≡ d.held
-        → 1441 ≤ length ats
-        → o.feeder ≡ p + 1
-        → Draws (seen (limits_of (view s) (p + 1)) (charges_of (feeder_at s p).charges)) d
-        → CanSeek t ats counts d.lines d.active_times d.starts d.rates
-    drawn_can_seek {d} p same count enough place w none =
-        let free = unrefused number (omega (arith, none, ap (λ (x : Sought). x.refusal) same)) in
-        rw (same, count, e, is_named f o n h)
-        (drawn_can_order roomy (with_held (sought_by (one_at s (o.feeder - 1)) o) d.held) (drawn_seen s o free p place w) refl enough (plan s o free f.valid))
+        (p : ℕ) {xs : List Load} → o.feeder ≡ p + 1 → lent ≡ xs → xs ≡ seen (limits_of (view s) (p + 1)) (charges_of (feeder_at s p).charges)
+        → length xs ≤ 720 → 1441 ≤ size → CanOrder q size lent
+    drawn_can_seek p place same draws few enough =
+        let seen_here = draws ∙ drawn_seen s o free p place in
+        can_seek (same ∙ seen_here) (omega (arith, few, enough, ap length seen_here))

@@ -1,7 +1,7 @@
 -- A commit that is taken: the charge behind the others of its feeder.
 use mathlib.Core.Path.{◌≡◌, ap, sym, ◌∙◌}
 use Prim.Native.Nat.{ℕ, suc, ◌+◌, ◌-◌, ◌≤◌, ◌<◌}
-use mathlib.Core.List.{List, [], ◌∷◌, ◌++◌}
+use mathlib.Core.List.{[], ◌∷◌, ◌++◌}
 use native.Mathlib.Omega.{arith}
 use native.Mathlib.Numerals.{add-one}
 use lib.ListN.{set}
@@ -15,7 +15,6 @@ use Rattle.rules.proofs.Tables.{NoneHolds}
 use Rattle.rules.proofs.Shown.{commit_taken}
 use Rattle.charges.specs.declared.Charges.{Charges}
 use Rattle.charges.specs.Arrays.{charge, charges_of, Columns, Holds}
-use Rattle.charges.proofs.Storing.{holds_put}
 use Rattle.orders.specs.declared.sought.PreviewAnswer.{PreviewAnswer}
 use Rattle.orders.specs.declared.sought.PreviewAnswer.TheVariants.{Previewed}
 use Rattle.orders.specs.Shown.{preview_answer}
@@ -28,23 +27,6 @@ use Rattle.ordering.specs.Ordered.{preview_of, commit_of}
 use Rattle.ordering.proofs.Rows.{refusals_of, is_named}
 use Rattle.ordering.proofs.Seeking.{granted, inside, here, room, active_most}
 use Rattle.ordering.proofs.Answering.{start_granted}
-
--- lists with a charge's numbers put behind those held hold it too
-pub put_behind :
-    (c : Charges) (x : Charge) {ts ls os ps us ds ss rs : List ℕ}
-    → Columns c
-    → c.held < 180
-    → ts ≡ set c.tickets c.held x.ticket
-    → ls ≡ set c.lines c.held x.line
-    → os ≡ set c.order_minutes c.held x.order_minute
-    → ps ≡ set c.times c.held x.time
-    → us ≡ set c.active_times c.held x.active_time
-    → ds ≡ set c.dues c.held x.due
-    → ss ≡ set c.starts c.held x.start
-    → rs ≡ set c.rates c.held x.rate
-    → Holds (charges_of c ++ (x ∷ []))
-    (record { held = c.held + 1; tickets = ts; lines = ls; order_minutes = os; times = ps; active_times = us; dues = ds; starts = ss; rates = rs })
-put_behind c x w room a b d e f g h i = rw (a, b, d, e, f, g, h, i) (holds_put c x w room)
 
 -- the charge of an order
 abbrev pub ordered : One → Order → ℕ → Charge

@@ -31,15 +31,13 @@ order_rows y held next o =
 abbrev pub refusal_by : One → Order → ℕ
 refusal_by one o = first_of (order_rows (limits_for one) one.feeder.charges.held one.next o)
 
--- what is sought among the feeder's own charges
+-- what is sought for it on the feeder
 abbrev pub sought_by : One → Order → Sought
 sought_by one o =
     record {
-      refusal = refusal_by one o;
       limits = limits_for one;
       clock = one.clock;
       tail = one.feeder.tail;
-      held = one.feeder.charges.held;
       line = o.line;
       time = o.time;
       rate = o.rate;

@@ -10,7 +10,7 @@ ghost use Rattle.ordering.specs.Answers.{commit_answer};
 
 use crate::Order;
 use crate::start::PreviewAnswer;
-use charges::columns::put;
+use charges::Charge;
 use station::One;
 
 #[derive(Clone, Copy)]
@@ -49,20 +49,19 @@ pub fn commit(one: One, order: Order, shown: u32, found: PreviewAnswer) -> Commi
             left: one,
         };
     }
-    let mut left = one;
     let ticket = one.next;
-    let clock = one.clock;
-    let active_time = order.time + left.feeder.tail;
-    let n = left.feeder.charges.held;
-    put(&mut left.feeder.charges.tickets, n, ticket);
-    put(&mut left.feeder.charges.lines, n, order.line);
-    put(&mut left.feeder.charges.order_minutes, n, clock);
-    put(&mut left.feeder.charges.times, n, order.time);
-    put(&mut left.feeder.charges.active_times, n, active_time);
-    put(&mut left.feeder.charges.dues, n, order.due);
-    put(&mut left.feeder.charges.starts, n, start);
-    put(&mut left.feeder.charges.rates, n, order.rate);
-    left.feeder.charges.held = n + 1;
+    let active_time = order.time + one.feeder.tail;
+    let mut left = one;
+    left.feeder.charges.push(Charge {
+        ticket,
+        line: order.line,
+        order_minute: one.clock,
+        time: order.time,
+        active_time,
+        due: order.due,
+        start,
+        rate: order.rate,
+    });
     left.next = ticket + 1;
     Committing {
         answer: CommitAnswer::Committed { ticket, start },

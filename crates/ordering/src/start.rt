@@ -1,16 +1,17 @@
-// The start of an order. The only feeder of a station lends its own columns; of several all that the site draws is gathered first.
+// The start of an order. The only feeder of a station lends what its own charges draw; of several all that the site draws is gathered first.
 ghost use Rattle.std.specs.Prelude.{◌≡◌, []};
 ghost use Rattle.rules.specs.Calls.{step};
 ghost use Rattle.orders.specs.Shown.{preview_answer};
 ghost use Rattle.station.specs.View.{view, Valid, station_of, Alone};
 ghost use Rattle.station.specs.Given.{Keeps};
-ghost use Rattle.ordering.specs.Ordered.{sought_by, preview_of};
+ghost use Rattle.ordering.specs.Ordered.{refusal_by, sought_by, preview_of};
 
 use crate::Order;
 use crate::refusal::order_refusal;
 pub use orders::sought::PreviewAnswer;
-use orders::sought::{Sought, start_for};
-use profile::{COLUMNS, FEEDER_STEPS, STEPS};
+use orders::sought::Sought;
+use orders::start::earliest_start;
+use profile::{FEEDER_STEPS, STEPS};
 use station::{One, Station};
 
 // Up to so many charges a feeder's profile is made in short lists, which take less to clear: a step for the clock, and two for each charge.
@@ -18,20 +19,22 @@ const FEW: usize = 60;
 
 const FEW_STEPS: usize = 2 * FEW + 1;
 
-// What is sought for an order among the feeder's own charges.
-fn sought(one: One, order: Order) -> Sought
-    ensures { result ≡ sought_by one order }
+// The number of the first refusal of an order on its feeder, 0 where none applies.
+fn first_refusal(one: &One, order: Order) -> u32
+    ensures { result ≡ refusal_by one.now order }
+{
+    order_refusal(one.limits(), one.feeder.charges.held, one.next, order)
+}
+
+// What is sought for an order on its feeder.
+fn sought(one: &One, order: Order) -> Sought
+    ensures { result ≡ sought_by one.now order }
 {
     let limits = one.limits();
-    let feeder = one.feeder;
-    let charges = feeder.charges;
-    let refusal = order_refusal(limits, charges.held, one.next, order);
     Sought {
-        refusal,
         limits,
         clock: one.clock,
-        tail: feeder.tail,
-        held: charges.held,
+        tail: one.feeder.tail,
         line: order.line,
         time: order.time,
         rate: order.rate,
@@ -39,74 +42,45 @@ fn sought(one: One, order: Order) -> Sought
 }
 
 // The first refusal of an order, or its start, where the feeder is the only one.
-pub fn preview_alone(one: One, order: Order) -> PreviewAnswer
-    requires { Alone one }
-    ensures { Keeps (step (view (station_of one)) (preview_of order)) (station_of one) (preview_answer result) [] }
+pub fn preview_alone(one: &One, order: Order) -> PreviewAnswer
+    requires { Alone one.now }
+    ensures { Keeps (step (view (station_of one.now)) (preview_of order)) (station_of one.now) (preview_answer result) [] }
 {
     if one.lacks(order.feeder) {
         return PreviewAnswer::Refused(29);
     }
+    let refusal = first_refusal(one, order);
+    if 0 < refusal {
+        return PreviewAnswer::Refused(refusal);
+    }
     let own = sought(one, order);
-    if 0 < own.refusal {
-        return PreviewAnswer::Refused(own.refusal);
+    let held = &one.feeder.charges;
+    let loads = held.loads();
+    if held.held <= FEW {
+        let start = earliest_start::<FEW_STEPS>(own, loads);
+        return PreviewAnswer::Previewed(start);
     }
-    let feeder = one.feeder;
-    let held = feeder.charges;
-    if own.held <= FEW {
-        let mut at = [0; FEW_STEPS];
-        let mut counts = [0; COLUMNS * FEW_STEPS];
-        return start_for(
-            &mut at,
-            &mut counts,
-            own,
-            &held.lines,
-            &held.active_times,
-            &held.starts,
-            &held.rates,
-        );
-    }
-    let mut at = [0; FEEDER_STEPS];
-    let mut counts = [0; COLUMNS * FEEDER_STEPS];
-    start_for(
-        &mut at,
-        &mut counts,
-        own,
-        &held.lines,
-        &held.active_times,
-        &held.starts,
-        &held.rates,
-    )
+    let start = earliest_start::<FEEDER_STEPS>(own, loads);
+    PreviewAnswer::Previewed(start)
 }
 
 // The first refusal of an order, or its start, on any station.
-pub fn preview(station: Station, order: Order) -> PreviewAnswer
-    requires { Valid station }
-    ensures { Keeps (step (view station) (preview_of order)) station (preview_answer result) [] }
+pub fn preview(station: &Station, order: Order) -> PreviewAnswer
+    requires { Valid station.now }
+    ensures { Keeps (step (view station.now) (preview_of order)) station.now (preview_answer result) [] }
 {
-    let number = order.feeder as usize;
-    if number < 1 {
+    let feeder = order.feeder as usize;
+    if feeder < 1 || station.count < feeder {
         return PreviewAnswer::Refused(29);
     }
-    if station.count < number {
-        return PreviewAnswer::Refused(29);
-    }
-    let place = number - 1;
+    let place = feeder - 1;
     let one = station.one(place);
-    let mut sought = sought(one, order);
-    if 0 < sought.refusal {
-        return PreviewAnswer::Refused(sought.refusal);
+    let number = first_refusal(&one, order);
+    if 0 < number {
+        return PreviewAnswer::Refused(number);
     }
     let drawn = station.drawn(place);
-    sought.held = drawn.held;
-    let mut at = [0; STEPS];
-    let mut counts = [0; COLUMNS * STEPS];
-    start_for(
-        &mut at,
-        &mut counts,
-        sought,
-        &drawn.lines,
-        &drawn.active_times,
-        &drawn.starts,
-        &drawn.rates,
-    )
+    let loads = drawn.loads();
+    let start = earliest_start::<STEPS>(sought(&one, order), loads);
+    PreviewAnswer::Previewed(start)
 }

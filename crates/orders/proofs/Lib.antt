@@ -2,4 +2,3 @@ pub mod Parts
 pub mod Windows
 pub mod Seeking
 pub mod Drawings
-pub mod Showing

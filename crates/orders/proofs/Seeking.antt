@@ -12,11 +12,11 @@ use Rattle.rules.specs.Search.{added, earliest}
 use Rattle.rules.proofs.Ranges.{below_or_not, first-is}
 use Rattle.rules.proofs.Lists.{length_keep}
 use Rattle.rules.proofs.TestedStarts.{counts_own, fails_unsound, fits_sound}
-use Rattle.profile.specs.Shows.{Profile, last_minute, ShowsIn}
+use Rattle.profile.specs.declared.loads.Draw.{Draw}
+use Rattle.profile.specs.Shows.{Profile, draw_of, last_minute, Shows}
 use Rattle.profile.proofs.Lines.{sound_tests}
 use Rattle.search.specs.declared.limits.Limits.{Limits}
-use Rattle.search.specs.declared.limits.Draw.{Draw}
-use Rattle.search.specs.Numbers.{limits_beside, draw_of}
+use Rattle.search.specs.Numbers.{limits_beside}
 use Rattle.search.specs.Candidates.{fits_in, CanFit, FirstFitting}
 use Rattle.search.proofs.Starts.{can_start}
 use Rattle.windows.specs.Windows.{StartedAdded}
@@ -29,8 +29,8 @@ abbrev sound_from : List Load → ℕ → Limits → Draw → ℕ → Bool
 sound_from xs clock y a j = sound (limits_beside y []) clock (added xs (draw_of a) j)
 
 -- before the window from `low` up to `until` is added: no start before `start` is sound
-pub record Seeking (size : ℕ) (xs : List Load) (clock : ℕ) (y : Limits) (a : Draw) (p : Profile) (start low until : ℕ) : Type 0 where
-  pub window : Window size xs clock low p
+pub record Seeking (xs : List Load) (clock : ℕ) (y : Limits) (a : Draw) (p : Profile) (start low until : ℕ) : Type 0 where
+  pub window : Window xs clock low p
   pub from : clock ≤ start
   pub most : start ≤ max clock (last_until xs)
   pub wide : start + a.time ≤ until
@@ -38,12 +38,12 @@ pub record Seeking (size : ℕ) (xs : List Load) (clock : ℕ) (y : Limits) (a :
   pub failed : (j : ℕ) → clock ≤ j → j < start → sound_from xs clock y a j ≡ false
 
 pub seeking_begin :
-    {size : ℕ} {xs : List Load} {clock : ℕ} {y : Limits} {a : Draw} {p : Profile} {start until : ℕ}
-    → ShowsIn size p clock [] → start ≡ clock → until ≡ clock + a.time → Seeking (length p.at) xs clock y a p start 0 until
+    {xs : List Load} {clock : ℕ} {y : Limits} {a : Draw} {p : Profile} {start until : ℕ}
+    → Shows p clock [] → start ≡ clock → until ≡ clock + a.time → Seeking xs clock y a p start 0 until
 seeking_begin h same e =
     rw same
     (record {
-      window = window_none (rw h.sized h);
+      window = window_none h;
       from = omega arith;
       most = omega arith;
       wide = omega arith;
@@ -51,9 +51,9 @@ seeking_begin h same e =
       failed = λ j c d. absurd (omega arith);
     })
 
-module _ {size : ℕ} {xs : List Load} {clock : ℕ} {y : Limits} {a : Draw} (f : OrderBeside xs clock y a) {p q : Profile} {start low until : ℕ}
-    (k : Seeking size xs clock y a p start low until) (more : StartedAdded p q xs low until) where
-  pub wider : Window size xs clock until q
+module _ {xs : List Load} {clock : ℕ} {y : Limits} {a : Draw} (f : OrderBeside xs clock y a) {p q : Profile} {start low until : ℕ}
+    (k : Seeking xs clock y a p start low until) (more : StartedAdded p q xs low until) where
+  pub wider : Window xs clock until q
   wider = window_on k.window k.order more
 
   -- what `first_fitting` asks
@@ -87,7 +87,7 @@ module _ {size : ℕ} {xs : List Load} {clock : ℕ} {y : Limits} {a : Draw} (f 
   module _ {r : ℕ} (high : r ≤ max start (last_minute q)) where
     most : r ≤ max clock (last_until xs)
     most =
-        omega (arith, high, k.most, wider.last, wider.shows.ends (q.steps - 1) (omega (arith, wider.shows.formed.some)))
+        omega (arith, high, k.most, wider.last, wider.shows.ends (length q - 1) (omega (arith, wider.shows.formed.some)))
 
     -- no number is too large, and the window reaches behind the clock
     pub seeking_bounds : (r + a.time ≤ 100002890) × (clock ≤ until)
@@ -119,7 +119,7 @@ module _ {size : ℕ} {xs : List Load} {clock : ℕ} {y : Limits} {a : Draw} (f 
           })
 
       -- one that reaches behind it begins the next
-      pub seeking_on : {edge next : ℕ} → until < r + a.time → edge ≡ until → r + a.time ≤ next → Seeking size xs clock y a q r edge next
+      pub seeking_on : {edge next : ℕ} → until < r + a.time → edge ≡ until → r + a.time ≤ next → Seeking xs clock y a q r edge next
       seeking_on b same c =
           rw same
           (record {

@@ -7,25 +7,24 @@ use lib.ListN.{length, length-append}
 use borrow.Author.Tests.{le-ltb}
 use Rattle.rules.specs.Basics.{Each}
 use Rattle.rules.specs.Load.{Load, IsColumn, count, last_until}
-use Rattle.rules.proofs.Lists.{keep_none, length_keep, length_tabulate}
+use Rattle.rules.proofs.Lists.{keep_none, length_keep}
 use Rattle.rules.proofs.Counts.{count-append}
 use Rattle.rules.proofs.Sites.{last_until_append}
-use Rattle.profile.specs.Shows.{Profile, level_of, ShowsIn}
-use Rattle.charges.specs.Drawn.{load_in, loads_in}
-use Rattle.windows.specs.Windows.{starts_in, started, Drawable, RoomFor, CanAddStarted, StartedAdded}
-use Rattle.orders.specs.Asked.{Lent}
+use Rattle.profile.specs.Steps.{most_steps}
+use Rattle.profile.specs.Shows.{Profile, level_of, Shows}
+use Rattle.windows.specs.Windows.{starts_in, started, Drawable, CanAddStarted, StartedAdded}
 use Rattle.orders.proofs.Parts.{is_before, started_before, count_in_two, length_in_two, count_before, last_kept}
 
 -- p shows, in some order, the loads that begin before `until`
-pub record Window (size : ℕ) (xs : List Load) (clock until : ℕ) (p : Profile) : Type 0 where
+pub record Window (xs : List Load) (clock until : ℕ) (p : Profile) : Type 0 where
   pub loads : List Load
-  pub shows : ShowsIn size p clock loads
+  pub shows : Shows p clock loads
   pub few : length loads ≡ length (started_before until xs)
   pub last : last_until loads ≤ last_until xs
   pub alike : (l t : ℕ) → count loads l t ≡ count (started_before until xs) l t
 
-module _ {size : ℕ} {xs : List Load} {clock : ℕ} where
-  pub window_none : {p : Profile} → ShowsIn size p clock [] → Window size xs clock 0 p
+module _ {xs : List Load} {clock : ℕ} where
+  pub window_none : {p : Profile} → Shows p clock [] → Window xs clock 0 p
   window_none h =
       record {
         loads = [];
@@ -38,22 +37,27 @@ module _ {size : ℕ} {xs : List Load} {clock : ℕ} where
       none : started_before 0 xs ≡ []
       none = keep_none (is_before 0) (λ x. le-ltb x.from 0 (omega arith)) xs
 
-  module _ {p : Profile} {low high : ℕ} (w : Window size xs clock low p) (h : low ≤ high) where
-    room : 1 + 2 * length xs ≤ size → RoomFor p (length (started low high xs))
-    room enough =
+  module _ {p : Profile} {low high : ℕ} (w : Window xs clock low p) (h : low ≤ high) where
+    -- what `add_started` asks
+    pub window_can_add : {places : ℕ} → Each Drawable xs → 1 + 2 * length xs ≤ places → places ≤ most_steps → CanAddStarted p places xs low high
+    window_can_add each enough most =
         record {
-          size = size;
-          clock = clock;
-          loads = w.loads;
-          shows = w.shows;
-          few = omega (arith, w.few, length_in_two low high h xs, length_keep (is_before high) xs);
+          drawable = each;
+          room =
+              record {
+                clock = clock;
+                loads = w.loads;
+                shows = w.shows;
+                few = omega (arith, w.few, length_in_two low high h xs, length_keep (is_before high) xs, enough);
+                most = most;
+              };
         }
 
-    pub window_on : {q : Profile} → StartedAdded p q xs low high → Window size xs clock high q
+    pub window_on : {q : Profile} → StartedAdded p q xs low high → Window xs clock high q
     window_on a =
         record {
           loads = w.loads ++ started low high xs;
-          shows = a size clock w.loads w.shows;
+          shows = a clock w.loads w.shows;
           few = omega (arith, w.few, length-append w.loads (started low high xs), length_in_two low high h xs);
           last = omega (arith, w.last, last_until_append w.loads (started low high xs), last_kept (starts_in low high) xs);
           alike = λ l t.
@@ -62,37 +66,5 @@ module _ {size : ℕ} {xs : List Load} {clock : ℕ} where
 
   -- below its end its levels are the counts of all loads
   pub window_counts :
-      {until : ℕ} {p : Profile} → Window size xs clock until p → (l t : ℕ) → IsColumn l → clock ≤ t → t < until → level_of p l t ≡ count xs l t
+      {until : ℕ} {p : Profile} → Window xs clock until p → (l t : ℕ) → IsColumn l → clock ≤ t → t < until → level_of p l t ≡ count xs l t
   window_counts {until} w l t i a b = w.shows.counted l i t a ∙ w.alike l t ∙ count_before until l t b xs
-
--- What is lent
-
-module _ {ats counts : List ℕ} {held : ℕ} {lines actives starts rates : List ℕ} (v : Lent ats counts held lines actives starts rates) where
-  abbrev lent : List Load
-  lent = loads_in held lines actives starts rates
-
-  long : length lent ≡ held
-  long = length_tabulate (load_in lines actives starts rates) held 0
-
-  pub lent_few : length lent ≤ 720
-  lent_few = omega (arith, long, v.enough, v.roomy.at_size)
-
-  module _ {size : ℕ} (e : size ≡ length ats) {clock low : ℕ} {p : Profile} (w : Window size lent clock low p) where
-    -- what `add_started` asks
-    pub lent_can_add : {high : ℕ} → Each Drawable lent → low ≤ high → CanAddStarted p held lines actives starts rates low high
-    lent_can_add each h =
-        record {
-          lines_fit = v.lines_fit;
-          actives_fit = v.actives_fit;
-          starts_fit = v.starts_fit;
-          rates_fit = v.rates_fit;
-          drawable = each;
-          room = room w h (omega (arith, long, v.enough));
-        }
-
-    -- the lists keep their lengths
-    pub lent_at : length p.at ≡ length ats
-    lent_at = w.shows.sized ∙ e
-
-    pub lent_counts : length p.counts ≡ length counts
-    lent_counts = omega (arith, lent_at, w.shows.formed.counts_size, v.roomy.counts_size)

@@ -3,11 +3,11 @@ use Rattle.std.specs.Prelude.{◌≡◌, ℕ, ◌+◌, ◌*◌, ◌≤◌, true,
 use Rattle.rules.specs.Basics.{Found, Each}
 use Rattle.rules.specs.Load.{Load, last_until, sound}
 use Rattle.rules.specs.Search.{earliest}
-use Rattle.charges.specs.Drawn.{loads_in}
-use Rattle.profile.specs.Shows.{Roomy}
+use Rattle.profile.specs.declared.loads.Draw.{Draw}
+use Rattle.profile.specs.Steps.{most_steps}
+use Rattle.profile.specs.Shows.{draw_of}
 use Rattle.search.specs.declared.limits.Limits.{Limits}
-use Rattle.search.specs.declared.limits.Draw.{Draw}
-use Rattle.search.specs.Numbers.{limits_beside, draw_of, SoundAlone}
+use Rattle.search.specs.Numbers.{limits_beside, SoundAlone}
 use Rattle.windows.specs.Windows.{Drawable}
 use Rattle.orders.specs.declared.sought.Sought.{Sought}
 
@@ -19,15 +19,6 @@ draw_sought q = record { line = q.line; time = q.time + q.tail; rate = q.rate }
 abbrev pub start_sought : Sought → List Load → List Load → Found
 start_sought q others xs = earliest (limits_beside q.limits others) q.clock xs (draw_of (draw_sought q))
 
--- what is lent: lists with room for the steps of so many loads, and columns that have as many
-pub record Lent (ats counts : List ℕ) (held : ℕ) (lines actives starts rates : List ℕ) : Type 0 where
-  pub roomy : Roomy ats counts
-  pub enough : 1 + 2 * held ≤ length ats
-  pub lines_fit : held ≤ length lines
-  pub actives_fit : held ≤ length actives
-  pub starts_fit : held ≤ length starts
-  pub rates_fit : held ≤ length rates
-
 -- a sound plan of loads with numbers in range, and what none of refusals 4 to 18 turns away
 pub record OrderBeside (xs : List Load) (clock : ℕ) (y : Limits) (a : Draw) : Type 0 where
   pub drawable : Each Drawable xs
@@ -38,6 +29,8 @@ pub record OrderBeside (xs : List Load) (clock : ℕ) (y : Limits) (a : Draw) : 
   pub time_most : a.time ≤ 1445
   pub alone : SoundAlone y a
 
-pub record CanOrder (q : Sought) (ats counts lines actives starts rates : List ℕ) : Type 0 where
-  pub lent : Lent ats counts q.held lines actives starts rates
-  pub plan : OrderBeside (loads_in q.held lines actives starts rates) q.clock q.limits (draw_sought q)
+-- a list of so many places has them for the steps of the loads
+pub record CanOrder (q : Sought) (places : ℕ) (xs : List Load) : Type 0 where
+  pub enough : 1 + 2 * length xs ≤ places
+  pub most : places ≤ most_steps
+  pub plan : OrderBeside xs q.clock q.limits (draw_sought q)

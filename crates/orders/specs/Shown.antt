@@ -1,20 +1,13 @@
 -- What an order is shown.
-use Rattle.std.specs.Prelude.{ℕ, zero, suc, ◌≡◌, List}
+use Rattle.std.specs.Prelude.{ℕ, zero, suc}
 use Rattle.rules.specs.Basics.{Found, at, nothing}
 use Rattle.rules.specs.Calls.{Answer, refused, previewed}
-use Rattle.orders.specs.declared.sought.Sought.{Sought}
 use Rattle.orders.specs.declared.sought.PreviewAnswer.{PreviewAnswer}
 use Rattle.orders.specs.declared.sought.PreviewAnswer.TheVariants.{Previewed, Refused}
-use Rattle.orders.specs.Asked.{CanOrder}
 
 abbrev pub preview_answer : PreviewAnswer → Answer
 preview_answer (Previewed start) = previewed start
 preview_answer (Refused number) = refused number
-
--- where no refusal applies, the search can be made
-abbrev pub CanSeek : Sought → List ℕ → List ℕ → List ℕ → List ℕ → List ℕ → List ℕ → Type 0
-CanSeek q ats counts lines actives starts rates =
-    q.refusal ≡ 0 → CanOrder q ats counts lines actives starts rates
 
 -- the answer: the first refusal, or the start that was found
 abbrev pub shown : ℕ → Found → Answer

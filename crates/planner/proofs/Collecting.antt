@@ -29,9 +29,6 @@ pub record Collecting (clock : ℕ) (c : Charges) (starts : List ℕ) (i : ℕ) 
   pub gives :
       (placed : List Charge) → Stored c starts placed → i ≤ c.held → starts_in placed (waiting_below clock c i) ≡ take k listed
 
-pub filled_zeros : {xs : List ℕ} → xs ≡ replicate places 0 → Filled 0 xs
-filled_zeros e = rw e filled_none
-
 pub collecting_start : (clock : ℕ) (c : Charges) (starts : List ℕ) → Collecting clock c starts 0 (replicate places 0) 0
 collecting_start clock c starts =
     record {

@@ -1,5 +1,5 @@
 -- One charge more on a plan, whatever start it is given.
-use mathlib.Core.Path.{◌≡◌, refl, sym, ◌∙◌}
+use mathlib.Core.Path.{◌≡◌, refl, sym, ◌∙◌, ap, subst}
 use Prim.Native.Nat.{ℕ, ◌+◌, ◌*◌, max, ◌≤◌, ◌<◌}
 use mathlib.Core.Bool.{Bool, true, false}
 use mathlib.Core.List.{List, [], ◌∷◌, ◌++◌, append_assoc}
@@ -8,7 +8,7 @@ use lib.Dec.{eqb}
 use lib.ListN.{length, get_or, set, length-set, length-append}
 use lib.Seq.{get_or-set_same, get_or-set_other}
 use borrow.Author.Tests.{eqb-true, eqb-false}
-use Rattle.rules.specs.Load.{Limits, IsRate, last_until}
+use Rattle.rules.specs.Load.{Draw, Limits, IsRate, last_until}
 use Rattle.rules.specs.Charge.{Charge, starting, draw_of, load_of, loads_of}
 use Rattle.rules.specs.Site.{places}
 use Rattle.rules.specs.Search.{added}
@@ -16,7 +16,10 @@ use Rattle.rules.specs.Replan.{start_in, standing}
 use Rattle.charges.specs.declared.Charges.{Charges}
 use Rattle.charges.specs.Arrays.{charge_at, charges_of}
 use Rattle.charges.specs.Held.{Listed}
-use Rattle.profile.specs.Shows.{Profile, LoadAdded, CanAdd}
+use Rattle.profile.specs.declared.loads.Draw as code
+use Rattle.profile.specs.Steps.{most_steps}
+use Rattle.profile.specs.Shows as shown
+use Rattle.profile.specs.Shows.{Profile, Shows, LoadAdded, CanAdd}
 use Rattle.profile.proofs.Shown.{last_added, added_shows, can_add}
 use Rattle.planner.specs.Ready.{begun_of}
 use Rattle.planner.specs.Placed.{Missing, plan_of, PlanShown}
@@ -39,16 +42,20 @@ module _ (y : Limits) (clock : ℕ) (c : Charges) (placed : List Charge) where
   grown x s =
       rw (loads_append placed (starting x s ∷ []), ← append_assoc (standing y clock (charges_of c)) (loads_of placed) (load_of (starting x s) ∷ [])) refl
 
-module _ {size : ℕ} {y : Limits} {clock : ℕ} {c : Charges} {placed : List Charge} {p : Profile} {starts : List ℕ} (h : Listed c)
-    (v : PlanShown size y clock c placed p starts) (i s : ℕ) (low : i < c.held)
-    (near : s ≤ max clock (last_until (plan_of y clock c placed))) where
+module _ {y : Limits} {clock : ℕ} {c : Charges} {placed : List Charge} {p : Profile} {starts : List ℕ} (h : Listed c)
+    (v : PlanShown y clock c placed p starts) (i s : ℕ) (low : i < c.held)
+    (near : s ≤ max clock (last_until (plan_of y clock c placed))) {a : code.Draw} (drawn : shown.draw_of a ≡ draw_of (charge_at c i)) where
+  is_rate : IsRate a.rate
+  is_rate = rw (ap (λ (x : Draw). x.rate) drawn) (h.small i low).is_rate
+
   pub plan_can_add :
-      {time rate : ℕ} → 1 + 2 * (length y.others + places) ≤ size → length (begun_of clock c) + length placed < places → time ≤ 1445 → IsRate rate → CanAdd p time rate s
-  plan_can_add {time} {rate} room few short rated =
-      can_add p clock (plan_of y clock c placed) time rate s v.shows
+      {size : ℕ} → 1 + 2 * (length y.others + places) ≤ size → size ≤ most_steps → length (begun_of clock c) + length placed < places → CanAdd p size a s
+  plan_can_add {size} room most few =
+      can_add p size clock (plan_of y clock c placed) a s v.shows
       (omega (arith, plan_length y clock c placed, room))
-      rated
-      (omega (arith, near, v.ends))
+      most
+      is_rate
+      (omega (arith, near, v.ends, ap (λ (x : Draw). x.time) drawn, (h.small i low).active_most))
 
   module _ (fresh : Missing (charge_at c i).ticket placed) where
     stored_on :
@@ -71,19 +78,14 @@ module _ {size : ℕ} {y : Limits} {clock : ℕ} {c : Charges} {placed : List Ch
             ∙ v.stored k l
             ∙ sym (get_or-set_other starts i k s 0 ne)
 
-    pub plan_on :
-        {next : Profile} {time rate : ℕ}
-        → LoadAdded p next (charge_at c i).line time rate s
-        → time ≡ (charge_at c i).active_time
-        → rate ≡ (charge_at c i).rate
-        → PlanShown size y clock c (placed ++ (starting (charge_at c i) s ∷ [])) next (set starts i s)
-    plan_on a long whole =
+    pub plan_on : {next : Profile} → LoadAdded p next a s → PlanShown y clock c (placed ++ (starting (charge_at c i) s ∷ [])) next (set starts i s)
+    plan_on {next} more =
         let many : length (placed ++ (starting (charge_at c i) s ∷ [])) ≡ length placed + 1 =
         length-append placed (starting (charge_at c i) s ∷ []) in
         record {
           shows =
               rw (grown y clock c placed (charge_at c i) s)
-              (added_shows (h.small i low).is_rate (rw (long, whole) at a) size clock (plan_of y clock c placed) v.shows);
+              (subst (λ (x : Draw). Shows next clock (added (plan_of y clock c placed) x s)) drawn (added_shows is_rate more clock (plan_of y clock c placed) v.shows));
           stored = stored_on;
           length_is = length-set starts i s ∙ v.length_is;
           ends =

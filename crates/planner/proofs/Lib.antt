@@ -6,7 +6,6 @@ pub mod StandingLoads
 pub mod Queueing
 pub mod Growing
 pub mod Plans
-pub mod Finding
 pub mod Proposing
 pub mod Judging
 pub mod SoundPlans

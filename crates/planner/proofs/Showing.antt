@@ -13,7 +13,8 @@ use Rattle.rules.proofs.Ends.{until_each, until_kept}
 use Rattle.charges.specs.declared.Charges.{Charges}
 use Rattle.charges.specs.Arrays.{charge_at, charges_of}
 use Rattle.charges.specs.Held.{Listed}
-use Rattle.planner.specs.Ready.{Plannable, Profiled}
+use Rattle.planner.specs.Others.{Plannable}
+use Rattle.planner.specs.Ready.{Profiled}
 
 pub length_loads_of : (cs : List Charge) → length (loads_of cs) ≡ length cs
 length_loads_of [] = refl

@@ -7,11 +7,13 @@ use lib.Dec.{eqb}
 use Rattle.rules.specs.Load.{Load, last_until, Limits, limit_at, balance_at, sound_at, from_on, sound}
 use Rattle.rules.specs.Search.{first_unbalanced}
 use Rattle.rules.proofs.Ranges.{and_left, and_right, and_both, fails, throughout_at, throughout_all}
-use Rattle.profile.specs.declared.When.{When}
-use Rattle.profile.specs.declared.When.TheVariants.{Minute, Never}
-use Rattle.profile.specs.Shows.{Profile, ShowsIn, found_at}
+use Rattle.std.specs.Prelude.{Option, Some, None, Result, Ok, Err, is_ok}
+use Rattle.profile.specs.Shows.{Profile, Shows, found_at}
 use Rattle.profile.specs.Balance.{WithinLimit, Unbalanced}
 use Rattle.planner.proofs.Causes.{none_unbalanced, some_unbalanced}
+use Rattle.planner.specs.declared.cause.Cause.{Cause}
+use Rattle.planner.specs.declared.cause.Cause.TheVariants.{NoStart, AllowanceSpent, StartBelowClock, EndsLater, AboveLimit, AboveBound, LatenessNotSmaller}
+use Rattle.planner.specs.Causes.{cause_in}
 use Rattle.planner.specs.Judged.{broken}
 
 module _ (y : Limits) (clock : ℕ) (xs : List Load) where
@@ -46,21 +48,32 @@ module _ (y : Limits) (clock : ℕ) (xs : List Load) where
       go true false e f = fails (sound y clock xs) (λ h. true≢false (sym (sound_balance h) ∙ f)) ∙ rw (e, f)
       go false balanced e f = fails (sound y clock xs) (λ h. true≢false (sym (sound_limit h) ∙ e)) ∙ rw e
 
+-- there is no cause
+pub no_cause : (r : Result (Unit {0}) Cause) → is_ok r ≡ eqb (cause_in r) 0
+no_cause (Ok u) = refl
+no_cause (Err NoStart) = refl
+no_cause (Err AllowanceSpent) = refl
+no_cause (Err StartBelowClock) = refl
+no_cause (Err EndsLater) = refl
+no_cause (Err AboveLimit) = refl
+no_cause (Err AboveBound) = refl
+no_cause (Err LatenessNotSmaller) = refl
+
 -- What a profile of the loads says
 
-module _ (y : Limits) (clock : ℕ) (xs : List Load) {size : ℕ} {p : Profile} (shows : ShowsIn size p clock xs) {within : Bool} (kept_by : WithinLimit p y.limit y.site within) where
+module _ (y : Limits) (clock : ℕ) (xs : List Load) {p : Profile} (shows : Shows p clock xs) {within : Bool} (kept_by : WithinLimit p y.limit y.site within) where
   kept : from_on clock xs (limit_at y xs) ≡ within
-  kept = sym (kept_by size clock xs y.bound y.others shows)
+  kept = sym (kept_by clock xs y.bound y.others shows)
 
   pub loads_above : within ≡ false → 5 ≡ broken y clock xs
   loads_above e = rw (kept ∙ e)
 
-  module _ (first : When) (found-by : Unbalanced p y.bound first) where
+  module _ (first : Option ℕ) (found_by : Unbalanced p y.bound first) where
     found : first_unbalanced y clock xs ≡ found_at first
-    found = found-by size clock xs y.limit y.site y.others shows
+    found = found_by clock xs y.limit y.site y.others shows
 
-    pub loads_unbalanced : {t : ℕ} → within ≡ true → first ≡ Minute t → 6 ≡ broken y clock xs
+    pub loads_unbalanced : {t : ℕ} → within ≡ true → first ≡ Some t → 6 ≡ broken y clock xs
     loads_unbalanced {t} e m = rw (kept ∙ e, some_unbalanced y clock xs t (found ∙ ap found_at m))
 
-    pub loads_kept : within ≡ true → first ≡ Never → 0 ≡ broken y clock xs
+    pub loads_kept : within ≡ true → first ≡ None → 0 ≡ broken y clock xs
     loads_kept e n = rw (kept ∙ e, none_unbalanced y clock xs (found ∙ ap found_at n))

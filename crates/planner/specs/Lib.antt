@@ -1,3 +1,5 @@
+pub mod Causes
+pub mod Others
 pub mod Starts
 pub mod Ready
 pub mod Placed

@@ -1,68 +1,36 @@
-// The profile of what stands while a plan is made or tested: what the other feeders draw, and some of the charges held.
-ghost use Rattle.std.specs.Prelude.{length};
+// The profile of what stands while a plan is made or tested: what the other feeders draw, and some of the charges held. It is filled in
+// its place, since a profile that is handed back is copied.
+ghost use Rattle.std.specs.Prelude.{[]};
 ghost use Rattle.rules.specs.Charge.{begun_charges, seen};
 ghost use Rattle.charges.specs.Arrays.{charges_of};
-ghost use Rattle.profile.specs.Shows.{profile_of, ShowsIn};
-ghost use Rattle.charges.specs.Drawn.{rest_of, drawn_of};
-ghost use Rattle.planner.specs.Ready.{around_of, terms_of, Spacious, Others, Profiled};
+ghost use Rattle.charges.specs.Drawn.{loads_lent};
+ghost use Rattle.profile.specs.Shows.{Shows};
+ghost use Rattle.planner.specs.Ready.{terms_of, Spacious, Profiled};
 
 use crate::Beside;
 use charges::Charges;
-use charges::drawn::{ACTIVE_TIMES, LINES, RATES, Rest, STARTS};
-use profile::loads::begin;
-use windows::{Window, add_started};
+use profile::loads::Profile;
+use windows::add_started;
 
-// The profile, from the clock on, of what the other feeders draw. The answer: the number of steps.
-fn others<'a>(at: &mut [u32], counts: &mut [u32], beside: Beside, rest: Rest<'a>) -> usize
-    requires { Spacious (around_of beside rest) at.old counts.old × Others (around_of beside rest) }
-    ensures { ShowsIn (length at.old) (profile_of result at.new counts.new) beside.clock (drawn_of (rest_of beside.held rest.entry)) }
+// What the other feeders draw.
+fn add_others<const N: usize>(profile: &mut Profile<N>, beside: Beside<'_>)
+    requires { Spacious beside N × Shows profile.old beside.clock [] }
+    ensures { Shows profile.new beside.entry.clock (loads_lent beside.entry.others) }
 {
-    begin(at, counts, beside.clock);
     // No start is as late as that: all of them are in the profile.
-    let all = Window {
-        held: beside.held,
-        low: 0,
-        high: 4294967295,
-    };
-    add_started(
-        at,
-        counts,
-        1,
-        rest[LINES],
-        rest[ACTIVE_TIMES],
-        rest[STARTS],
-        rest[RATES],
-        all,
-    )
+    add_started(profile, beside.others, 0..u32::MAX);
 }
 
-// The profile, from the clock on, of what the other feeders draw and of the charges with a start below `before`: of the begun ones,
-// where that is the clock. The answer: the number of steps.
-pub fn standing<'a>(
-    at: &mut [u32],
-    counts: &mut [u32],
-    beside: Beside,
-    rest: Rest<'a>,
-    charges: Charges,
+// What the other feeders draw, and the charges with a start below `before`: the begun ones, where that is the clock.
+pub fn add_standing<const N: usize>(
+    profile: &mut Profile<N>,
+    beside: Beside<'_>,
+    charges: &Charges,
     before: u32,
-) -> usize
-    requires { Spacious (around_of beside rest) at.old counts.old × Others (around_of beside rest) × Profiled charges }
-    ensures { ShowsIn (length at.old) (profile_of result at.new counts.new) beside.clock (seen (terms_of (around_of beside rest.entry)) (begun_charges before (charges_of charges))) }
+)
+    requires { Spacious beside N × Shows profile.old beside.clock [] × Profiled charges.now }
+    ensures { Shows profile.new beside.entry.clock (seen (terms_of beside.entry) (begun_charges before (charges_of charges.now))) }
 {
-    let n = others(at, counts, beside, rest);
-    let own = Window {
-        held: charges.held,
-        low: 0,
-        high: before,
-    };
-    add_started(
-        at,
-        counts,
-        n,
-        &charges.lines,
-        &charges.active_times,
-        &charges.starts,
-        &charges.rates,
-        own,
-    )
+    add_others(profile, beside);
+    add_started(profile, charges.loads(), 0..before);
 }

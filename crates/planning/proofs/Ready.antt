@@ -1,20 +1,20 @@
--- What the planners ask, of a feeder of a valid station, and what a plan of it stands beside.
+-- What the planners ask, of a feeder of a valid station.
 use mathlib.Core.Path.{◌≡◌, ap, sym, subst, ◌∙◌}
 use Prim.Native.Nat.{ℕ, ◌<◌}
 use native.Mathlib.Omega.{arith}
 use Rattle.rules.specs.Site as rules
 use Rattle.rules.proofs.Rounding.{bound_at_most}
-use Rattle.search.specs.declared.limits.Limits.{Limits}
-use Rattle.planner.specs.Ready.{Around, Ready}
+use Rattle.planner.specs.declared.Beside.{Beside}
+use Rattle.planner.specs.Ready.{Ready}
 use Rattle.station.specs.declared.Station.{Station}
 use Rattle.station.specs.declared.One.{One}
-use Rattle.station.specs.View.{feeder_at, Valid, limits_for, Of}
+use Rattle.station.specs.View.{feeder_at, Valid, Of}
 use Rattle.station.specs.Beside.{BesideOf}
 use Rattle.station.proofs.Views.{view_number}
-use Rattle.station.proofs.Held.{valid_listed, valid_others, held_settings, held_charge}
-use Rattle.planning.specs.Answers.{beside_for, CanPlan}
+use Rattle.station.proofs.Held.{valid_listed, held_settings, held_charge}
+use Rattle.planning.specs.Answers.{CanPlan}
 
-module _ (s : Station) (v : Valid s) (p : ℕ) (h : p < s.count) (b : Around) (of : BesideOf s p b) where
+module _ (s : Station) (v : Valid s) (p : ℕ) (h : p < s.count) (b : Beside) (of : BesideOf s p b) where
   own_limit : b.limits.limit ≡ (feeder_at s p).limit
   own_limit = ap (λ y. y.limit) of.terms ∙ ap (λ (g : rules.Feeder). g.limit) (view_number s p h)
 
@@ -39,19 +39,10 @@ module _ (s : Station) (v : Valid s) (p : ℕ) (h : p < s.count) (b : Around) (o
       }
 
 -- a feeder of a valid station can be planned
-pub can_plan : {s : Station} {o : One} {b : Around} → Of s o → BesideOf s o.place b → CanPlan o b
+pub can_plan : {s : Station} {o : One} {b : Beside} → Of s o → BesideOf s o.place b → CanPlan o b
 can_plan {s} {o} {b} f of =
     record {
-      others = valid_others s f.valid o.place f.inside of;
-      few = of.few;
       ready =
           subst (Ready b) (sym (ap (λ (x : One). x.feeder.charges) f.same)) (valid_ready s f.valid o.place f.inside b of);
       clock = of.clock ∙ sym (ap (λ (x : One). x.clock) f.same);
     }
-
--- What a plan stands beside, as the calls make it
-
-pub beside_is :
-    (o : One) {y : Limits} {clock held n : ℕ} → clock ≡ o.clock → y ≡ limits_for o → held ≡ n →
-    record { clock = clock; limits = y; held = held } ≡ beside_for o n
-beside_is o c y h = rw (c, y, h)

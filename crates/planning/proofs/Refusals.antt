@@ -6,7 +6,8 @@ use mathlib.Core.List.{List, [], ◌∷◌}
 use native.Mathlib.Omega.{arith}
 use lib.Dec.{ltb, eqb}
 use lib.ListN.{length}
-use borrow.Author.Tests.{ltb-false, eq-eqb, ne_eqb, lt-ltb, le-ltb}
+use Rattle.std.proofs.lemmas.Bool.Decides.{nat_tests}
+use borrow.Author.Tests.{ltb-false, eq-eqb, ne_eqb, le-ltb}
 use Rattle.rules.specs.Basics.{first_of}
 use Rattle.rules.specs.Charge.{waiting_charges}
 use Rattle.rules.specs.Site.{charges_on}
@@ -96,11 +97,8 @@ module _ {s : Station} {o : One} (f : Of s o) (n : ℕ) (names : Names o n) (the
     refused_so w e =
         refused_leaves f (replan_lines n allowance) (omega arith) (w ∙ sym (row_passed f n (allowance_row allowance ∷ []) there ∙ e))
 
-    pub lines_small : {k : ℕ} → k ≡ 11 → allowance < 1 → Leaves (step (view s) (replan_lines n allowance)) s (refused k) o []
-    lines_small w h = refused_so w (rw (lt-ltb allowance 1 h))
+    pub lines_out : {k : ℕ} → k ≡ 11 → (1 ≤ allowance → allowance ≤ 1000 → ⊥) → Leaves (step (view s) (replan_lines n allowance)) s (refused k) o []
+    lines_out w h = refused_so w (grind (arith, nat_tests))
 
-    pub lines_large : {k : ℕ} → k ≡ 11 → 1 ≤ allowance → 1000 < allowance → Leaves (step (view s) (replan_lines n allowance)) s (refused k) o []
-    lines_large w l h = refused_so w (rw (le-ltb allowance 1 l, lt-ltb 1000 allowance h))
-
-    pub lines_granted : 1 ≤ allowance → allowance ≤ 1000 → 0 ≡ first_of (refusals (view s) (replan_lines n allowance))
-    lines_granted l h = sym (row_passed f n (allowance_row allowance ∷ []) there ∙ rw (le-ltb allowance 1 l, le-ltb 1000 allowance h))
+    pub lines_granted : (1 ≤ allowance) × (allowance ≤ 1000) → 0 ≡ first_of (refusals (view s) (replan_lines n allowance))
+    lines_granted (l, h) = sym (row_passed f n (allowance_row allowance ∷ []) there ∙ rw (le-ltb allowance 1 l, le-ltb 1000 allowance h))

@@ -3,17 +3,18 @@ use mathlib.Core.Path.{◌≡◌, refl, ap, sym, ◌∙◌}
 use Prim.Native.Nat.{ℕ, ◌+◌}
 use mathlib.Core.Bool.{false}
 use mathlib.Core.List.{List, []}
-use lib.ListN.{length, take}
-use lib.Seq.{take-length}
+use Rattle.std.specs.Prelude.{Result}
+use lib.ListN.{length}
 use Rattle.rules.specs.Basics.{first_of}
 use Rattle.rules.specs.Load.{Limits}
 use Rattle.rules.specs.Replan.{starts, latest, Replanned, by_lines}
 use Rattle.rules.specs.Calls.{Answer, tested, offering, replanning_latest, replanning_lines, refusals, offer, replan_latest, replan_lines, step}
 use Rattle.charges.specs.declared.Charges.{Charges}
 use Rattle.charges.specs.Arrays.{charges_of}
-use Rattle.planner.specs.Ready.{Around, terms_of}
+use Rattle.planner.specs.declared.Beside.{Beside}
+use Rattle.planner.specs.declared.cause.Cause.{Cause}
+use Rattle.planner.specs.Ready.{terms_of}
 use Rattle.planner.specs.Starts.{waiting_count}
-use Rattle.planner.specs.declared.Proposed.{Proposed}
 use Rattle.planner.specs.Answers.{proposal_of, Proposes}
 use Rattle.lines.specs.declared.rounds.Replanned.{Replanned as Lined}
 use Rattle.lines.specs.Rounds.{Replans}
@@ -33,7 +34,7 @@ use Rattle.planning.proofs.Refusals.{lacking, number, clock_is, offer_granted, l
 
 module _ {how : How} (y : Limits) (clock : ℕ) (c : Charges) where
   pub latest_made :
-      {rounds : ℕ} {r : Proposed} → how ≡ Latest → rounds ≡ 0 → Proposes clock c (latest y clock (charges_of c)) r →
+      {rounds : ℕ} {r : Result (List ℕ) Cause} → how ≡ Latest → rounds ≡ 0 → Proposes clock c (latest y clock (charges_of c)) r →
       Replans clock c (plan_by how y clock (charges_of c)) (record { proposed = r; rounds = rounds })
   latest_made h w e = record { same = rw (h, w, e.same); filled = e.filled }
 
@@ -50,15 +51,13 @@ module _ {s : Station} {o : One} (f : Of s o) (n : ℕ) (names : Names o n) (the
         {rounds : ℕ} {answer : Answer} {left : One}
         → rounds ≡ 0
         → length ss ≡ count
-        → Tests s (o.place + 1) rounds (starts (take count ss)) answer left
+        → Tests s (o.place + 1) rounds (starts ss) answer left
         → Leaves (step (view s) (offer n ss)) s answer left ss
     unfolding offering
     offer_tested {rounds} w l t =
         record {
           result =
               t.result ss
-              ∙ ap (λ (k : ℕ). tested (view s) (o.place + 1) rounds (starts (take k ss)) ss) (sym l)
-              ∙ ap (λ (xs : List ℕ). tested (view s) (o.place + 1) rounds (starts xs) ss) (take-length ss)
               ∙ rw (w, ← number f n names there)
               (call_granted (view s) (offer n ss) 0 (offer_granted f n names there ss counted l) refl);
           fits = t.fits;
@@ -66,7 +65,7 @@ module _ {s : Station} {o : One} (f : Of s o) (n : ℕ) (names : Names o n) (the
 
   -- Both replans
 
-  module _ {b : Around} (of : BesideOf s o.place b) where
+  module _ {b : Beside} (of : BesideOf s o.place b) where
     beside_clock : b.clock ≡ o.clock
     beside_clock = of.clock ∙ sym (clock_is f n names there)
 

@@ -1,11 +1,12 @@
 -- What an offer and both replans need, and what they answer.
-use Rattle.std.specs.Prelude.{◌≡◌, ℕ, ◌≤◌, List}
+use Rattle.std.specs.Prelude.{◌≡◌, ℕ, List}
 use Rattle.rules.specs.Charge.{Charge}
 use Rattle.rules.specs.Load.{Limits}
 use Rattle.rules.specs.Replan.{Proposal, Replanned, latest, by_lines}
 use Rattle.rules.specs.Calls.{Answer, refused, planned, tested}
+use Rattle.charges.specs.declared.loads.Loads.{Loads}
 use Rattle.planner.specs.declared.Beside.{Beside}
-use Rattle.planner.specs.Ready.{Around, Others, Ready}
+use Rattle.planner.specs.Ready.{Ready}
 use Rattle.station.specs.declared.Station.{Station}
 use Rattle.station.specs.declared.One.{One}
 use Rattle.station.specs.View.{view, LeftOf, state_after, limits_for}
@@ -23,14 +24,14 @@ abbrev pub plan_by : How → Limits → ℕ → List Charge → Replanned
 plan_by Latest y clock held = record { proposal = latest y clock held; rounds = 0 }
 plan_by (Lines allowance) y clock held = by_lines y clock allowance held
 
--- what a plan of the feeder stands beside, where the others hold so many charges
-abbrev pub beside_for : One → ℕ → Beside
-beside_for o n = record { clock = o.clock; limits = limits_for o; held = n }
+-- what a plan of the feeder stands beside, where the others draw this
+pub record BesideFor (o : One) (l : Loads) (b : Beside) : Type 0 where
+  pub clock : b.clock ≡ o.clock
+  pub limits : b.limits ≡ limits_for o
+  pub others : b.others ≡ l
 
 -- the planners take the feeder's charges beside this
-pub record CanPlan (o : One) (b : Around) : Type 0 where
-  pub others : Others b
-  pub few : b.rest.held ≤ 540
+pub record CanPlan (o : One) (b : Beside) : Type 0 where
   pub ready : Ready b o.feeder.charges
   pub clock : b.clock ≡ o.clock
 

@@ -5,9 +5,10 @@ pub mod offer;
 pub mod replan;
 pub mod tested;
 
-ghost use Rattle.std.specs.Prelude.{◌≡◌};
-ghost use Rattle.planning.specs.Answers.{beside_for};
+ghost use Rattle.planner.specs.Others.{Others};
+ghost use Rattle.planning.specs.Answers.{BesideFor};
 
+use charges::loads::Loads;
 use planner::Beside;
 use station::One;
 
@@ -28,13 +29,14 @@ pub struct Planning {
     pub left: One,
 }
 
-// What a plan of the feeder stands beside, where the others hold so many charges.
-pub fn beside(one: One, held: usize) -> Beside
-    ensures { result ≡ beside_for one held }
+// What a plan of the feeder stands beside, where the others draw this.
+pub fn beside<'a>(one: &One, others: Loads<'a>) -> Beside<'a>
+    requires { Others others }
+    ensures { BesideFor one.now others.entry result }
 {
     Beside {
         clock: one.clock,
         limits: one.limits(),
-        held,
+        others,
     }
 }

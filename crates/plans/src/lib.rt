@@ -1,110 +1,70 @@
-// Plans of a feeder, with the lists that their profiles take: for the steps of one feeder where the others draw nothing, and for those of
-// the site else. A list is cleared when it is made, which costs more than a plan of few charges.
+// Plans of a feeder, with a profile for the steps of one feeder where the others draw nothing, and for those of the site else: a profile
+// is cleared when it is made, which costs more than a plan of few charges.
 #![tactic(auto)]
 
-ghost use Rattle.std.specs.Prelude.{◌≡◌, ◌≤◌, length, take};
+ghost use Rattle.std.specs.Prelude.{◌≡◌, length};
 ghost use Rattle.rules.specs.Load.{sound};
 ghost use Rattle.rules.specs.Charge.{seen};
 ghost use Rattle.rules.specs.Replan.{latest as latest_of, by_lines};
 ghost use Rattle.charges.specs.Arrays.{charges_of};
 ghost use Rattle.charges.specs.Held.{Listed};
-ghost use Rattle.planner.specs.Ready.{around_of, terms_of, Others, Profiled, Ready};
+ghost use Rattle.planner.specs.Ready.{terms_of, Profiled, Ready};
 ghost use Rattle.planner.specs.Starts.{waiting_count};
 ghost use Rattle.planner.specs.Answers.{Proposes};
 ghost use Rattle.planner.specs.Judged.{Judges};
 ghost use Rattle.lines.specs.Rounds.{Replans};
 
-use charges::Charges;
-use charges::drawn::Rest;
+use charges::{Charges, PLACES};
 use lines::rounds::Replanned;
+use planner::Beside;
+use planner::cause::Cause;
 use planner::judge::Judgement;
-use planner::{Beside, Proposed};
-use profile::{COLUMNS, FEEDER_STEPS, STEPS};
+use profile::{FEEDER_STEPS, STEPS};
 
 // Replan by latest start.
-pub fn latest<'a>(beside: Beside, rest: Rest<'a>, charges: Charges) -> Proposed
-    requires { Others (around_of beside rest) × (beside.held ≤ 540) × Ready (around_of beside rest) charges }
-    ensures { Proposes beside.clock charges (latest_of (terms_of (around_of beside rest.entry)) beside.clock (charges_of charges)) result }
+pub fn latest(beside: Beside<'_>, charges: &Charges) -> Result<[u32; PLACES], Cause>
+    requires { Ready beside charges.now }
+    ensures { Proposes beside.entry.clock charges.now (latest_of (terms_of beside.entry) beside.entry.clock (charges_of charges.now)) result }
 {
-    if beside.held == 0 {
-        let mut at = [0; FEEDER_STEPS];
-        let mut counts = [0; COLUMNS * FEEDER_STEPS];
-        return planner::latest::latest(&mut at, &mut counts, beside, rest, charges);
+    if beside.others.held == 0 {
+        planner::latest::latest::<FEEDER_STEPS>(beside, charges)
+    } else {
+        planner::latest::latest::<STEPS>(beside, charges)
     }
-    let mut at = [0; STEPS];
-    let mut counts = [0; COLUMNS * STEPS];
-    planner::latest::latest(&mut at, &mut counts, beside, rest, charges)
 }
 
 // Replan by lines.
-pub fn by_lines<'a>(beside: Beside, rest: Rest<'a>, charges: Charges, allowance: u32) -> Replanned
-    requires { Others (around_of beside rest) × (beside.held ≤ 540) × Ready (around_of beside rest) charges }
-    ensures { Replans beside.clock charges (by_lines (terms_of (around_of beside rest.entry)) beside.clock allowance (charges_of charges)) result }
+pub fn by_lines(beside: Beside<'_>, charges: &Charges, allowance: u32) -> Replanned
+    requires { Ready beside charges.now }
+    ensures { Replans beside.entry.clock charges.now (by_lines (terms_of beside.entry) beside.entry.clock allowance (charges_of charges.now)) result }
 {
-    if beside.held == 0 {
-        let mut at = [0; FEEDER_STEPS];
-        let mut counts = [0; COLUMNS * FEEDER_STEPS];
-        let mut plan_at = [0; FEEDER_STEPS];
-        let mut plan_counts = [0; COLUMNS * FEEDER_STEPS];
-        return lines::rounds::by_lines(
-            &mut at,
-            &mut counts,
-            &mut plan_at,
-            &mut plan_counts,
-            beside,
-            rest,
-            charges,
-            allowance,
-        );
+    if beside.others.held == 0 {
+        lines::rounds::by_lines::<FEEDER_STEPS>(beside, charges, allowance)
+    } else {
+        lines::rounds::by_lines::<STEPS>(beside, charges, allowance)
     }
-    let mut at = [0; STEPS];
-    let mut counts = [0; COLUMNS * STEPS];
-    let mut plan_at = [0; STEPS];
-    let mut plan_counts = [0; COLUMNS * STEPS];
-    lines::rounds::by_lines(
-        &mut at,
-        &mut counts,
-        &mut plan_at,
-        &mut plan_counts,
-        beside,
-        rest,
-        charges,
-        allowance,
-    )
 }
 
 // The test that an offer and both replans end with.
-pub fn judged<'a>(
-    beside: Beside,
-    rest: Rest<'a>,
-    charges: Charges,
-    starts: &[u32],
-    count: usize,
-) -> Judgement
-    requires { Others (around_of beside rest) × (beside.held ≤ 540) × Listed charges × (count ≤ length starts.now) × (count ≡ waiting_count beside.clock charges) }
-    ensures { Judges (around_of beside rest.entry) charges (take count starts.now) result }
+pub fn judged(beside: Beside<'_>, charges: &Charges, starts: &[u32]) -> Judgement
+    requires { Listed charges.now × (length starts.now ≡ waiting_count beside.clock charges.now) }
+    ensures { Judges beside.entry charges.now starts.now result }
 {
-    if beside.held == 0 {
-        let mut at = [0; FEEDER_STEPS];
-        let mut counts = [0; COLUMNS * FEEDER_STEPS];
-        return planner::judge::judged(&mut at, &mut counts, beside, rest, charges, starts, count);
+    if beside.others.held == 0 {
+        planner::judge::judged::<FEEDER_STEPS>(beside, charges, starts)
+    } else {
+        planner::judge::judged::<STEPS>(beside, charges, starts)
     }
-    let mut at = [0; STEPS];
-    let mut counts = [0; COLUMNS * STEPS];
-    planner::judge::judged(&mut at, &mut counts, beside, rest, charges, starts, count)
 }
 
 // Whether a plan is sound, and the site within its limit.
-pub fn plan_sound<'a>(beside: Beside, rest: Rest<'a>, charges: Charges) -> bool
-    requires { Others (around_of beside rest) × (beside.held ≤ 540) × Profiled charges }
-    ensures { result ≡ sound (terms_of (around_of beside rest.entry)) beside.clock (seen (terms_of (around_of beside rest.entry)) (charges_of charges)) }
+pub fn plan_sound(beside: Beside<'_>, charges: &Charges) -> bool
+    requires { Profiled charges.now }
+    ensures { result ≡ sound (terms_of beside.entry) beside.entry.clock (seen (terms_of beside.entry) (charges_of charges.now)) }
 {
-    if beside.held == 0 {
-        let mut at = [0; FEEDER_STEPS];
-        let mut counts = [0; COLUMNS * FEEDER_STEPS];
-        return planner::plan::plan_sound(&mut at, &mut counts, beside, rest, charges);
+    if beside.others.held == 0 {
+        planner::plan::plan_sound::<FEEDER_STEPS>(beside, charges)
+    } else {
+        planner::plan::plan_sound::<STEPS>(beside, charges)
     }
-    let mut at = [0; STEPS];
-    let mut counts = [0; COLUMNS * STEPS];
-    planner::plan::plan_sound(&mut at, &mut counts, beside, rest, charges)
 }

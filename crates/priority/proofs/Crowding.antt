@@ -3,14 +3,16 @@ use mathlib.Core.Logic.{⊎_elim}
 use mathlib.Core.Path.{◌≡◌, refl, ◌∙◌, ap}
 use Prim.Native.Nat.{ℕ, zero, suc, ◌+◌, ◌*◌, min, ◌≤◌, ◌<◌}
 use mathlib.Core.List.{List}
+use lib.ListN.{length}
 use native.Mathlib.Omega.{arith}
 use native.Mathlib.Numerals.{add-one}
 use Rattle.rules.specs.Site.{places}
 use Rattle.rules.proofs.Ranges.{below_or_not}
+use Rattle.charges.specs.declared.Charges.{Charges}
 use Rattle.priority.specs.declared.crowd.Span.{Span}
 use Rattle.priority.specs.declared.crowd.Crowd.{Crowd}
-use Rattle.priority.specs.Numbers.{Numbers, number_of, InRange}
-use Rattle.priority.specs.Crowds.{sum_of, Widened, Joined, Found, SpanOf, TimesOf, CrowdOf}
+use Rattle.priority.specs.Numbers.{number_of, InRange}
+use Rattle.priority.specs.Crowds.{sum_of, Widened, Joined, Found, SpanOf, TimesOf, FirstCrowd}
 
 -- The sum
 
@@ -23,7 +25,7 @@ sum_most f n (suc k) h l = omega (arith, sum_most f n k h (omega arith), h k (om
 
 -- The times of a rate
 
-module _ {q : Numbers} {left : List ℕ} {rate : ℕ} where
+module _ {q : Charges} {left : List ℕ} {rate : ℕ} where
   pub span_none : SpanOf q left 0 rate (record { shortest = 0; longest = 0 })
   span_none =
       record {
@@ -48,10 +50,10 @@ module _ {q : Numbers} {left : List ℕ} {rate : ℕ} where
         }
 
     -- a charge of the rate
-    module _ {r : Span} (x : Widened s (number_of q.actives left k) r) (same : rate ≡ number_of q.rates left k)
-        (low : 1 ≤ number_of q.actives left k) (high : number_of q.actives left k ≤ 1445) where
+    module _ {r : Span} (x : Widened s (number_of q.active_times left k) r) (same : rate ≡ number_of q.rates left k)
+        (low : 1 ≤ number_of q.active_times left k) (high : number_of q.active_times left k ≤ 1445) where
       abbrev time : ℕ
-      time = number_of q.actives left k
+      time = number_of q.active_times left k
 
       this : {shortest : ℕ} → shortest ≡ time → Found q left (k + 1) rate shortest
       this e = record { who = k; inside = omega arith; rate_is = same; time_is = e }
@@ -100,9 +102,9 @@ module _ {q : Numbers} {left : List ℕ} {rate : ℕ} where
 -- All of them
 
 pub crowd_none :
-    {q : Numbers} {left : List ℕ} {k : ℕ}
+    {q : Charges} {left : List ℕ} {k : ℕ}
     → k ≡ 0
-    → CrowdOf q left k
+    → FirstCrowd q left k
     (record {
       number = 0;
       total = 0;
@@ -118,16 +120,16 @@ crowd_none e =
       times = record { one = span_none; two = span_none; shortest_low = λ j h. absurd (omega arith) };
     }
 
-module _ {q : Numbers} {left : List ℕ} {n k : ℕ} {c : Crowd} (range : InRange q left n) (w : CrowdOf q left k c) (more : k < n) where
+module _ {q : Charges} {left : List ℕ} {k : ℕ} {c : Crowd} (range : InRange q left) (w : FirstCrowd q left k c) (more : k < length left) where
   pub crowd_fits : (c.number < places) × (c.total ≤ 260100)
   crowd_fits = (
-    omega (arith, w.number, range.can_fit.few),
-    omega (arith, w.total, sum_most (number_of q.times left) n k (λ j h. (range.short j h).1) (omega arith), range.can_fit.few),
+    omega (arith, w.number, range.inside.few),
+    omega (arith, w.total, sum_most (number_of q.times left) (length left) k (λ j h. (range.short j h).1) (omega arith), range.inside.few),
   )
 
   joined-more :
-      {r : Crowd} → Joined c (number_of q.times left k) (number_of q.actives left k) (number_of q.rates left k) r
-      → CrowdOf q left (k + 1) r
+      {r : Crowd} → Joined c (number_of q.times left k) (number_of q.active_times left k) (number_of q.rates left k) r
+      → FirstCrowd q left (k + 1) r
   joined-more {r} x =
       record {
         number = omega (arith, x.number, w.number);
@@ -142,7 +144,7 @@ module _ {q : Numbers} {left : List ℕ} {n k : ℕ} {c : Crowd} (range : InRang
           (λ l. let here : j ≡ k = omega arith in rw here (omega (arith, x.shortest)))
           (below_or_not j k)
 
-      active : (1 ≤ number_of q.actives left k) × (number_of q.actives left k ≤ 1445)
+      active : (1 ≤ number_of q.active_times left k) × (number_of q.active_times left k ≤ 1445)
       active = range.active k more
 
       ones : number_of q.rates left k < 2 → TimesOf q left (k + 1) r
@@ -169,7 +171,7 @@ module _ {q : Numbers} {left : List ℕ} {n k : ℕ} {c : Crowd} (range : InRang
       {time active rate : ℕ} {r : Crowd}
       → Joined c time active rate r
       → time ≡ number_of q.times left k
-      → active ≡ number_of q.actives left k
+      → active ≡ number_of q.active_times left k
       → rate ≡ number_of q.rates left k
-      → CrowdOf q left (k + 1) r
+      → FirstCrowd q left (k + 1) r
   crowd_more x e f g = joined-more (rw (e, f, g) at x)

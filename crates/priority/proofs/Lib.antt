@@ -1,4 +1,3 @@
-pub mod Weighing
-pub mod Passing
-pub mod Choosing
 pub mod Crowding
+pub mod Weighing
+pub mod Choosing

@@ -10,6 +10,7 @@ use native.Mathlib.Nat.{le_of_lt, lt_of_le_of_lt, mul-le-mul, mul-le-mul_left, m
 use lib.Ieee.Nearest.{div_mono}
 use lib.Pow.{pow_pos, pow-add}
 use lib.Seq.{ext_get_or}
+use Rattle.priority.specs.declared.table.TheConstants.{WEIGHTS}
 use Rattle.rules.specs.Site.{places}
 use Rattle.rules.specs.Priority.{fading, weights, weight_of, keeps_the_rule}
 use Rattle.rules.proofs.Ranges.{below_or_not}
@@ -36,15 +37,18 @@ product_fits k {a} {b} ha hb =
     (lt_of_le_of_lt (mul-le-mul_left a (le_of_lt hb)) (mul-lt-mul_of_pos_right ha (pow_pos k)))
 
 -- a table that passes the test of the rules is theirs
-pub table_kept : (table : List ℕ) → keeps_the_rule table ≡ true → table ≡ weights
+table_kept : (table : List ℕ) → keeps_the_rule table ≡ true → table ≡ weights
 unfolding weight_of
 table_kept table e =
     ext_get_or 0 table weights ((keeps_rule table e).size ∙ sym weights_table.size) (λ k h. table_weight table e k)
 
--- the weight stands in the table
-pub table_at : (table : List ℕ) (k : ℕ) → table ≡ weights → get_or table k 0 ≡ weight_of k
+-- the code's table has the weights of the rules: the checker computes the test over all of it
+pub the_weights : WEIGHTS ≡ weights
+the_weights = table_kept WEIGHTS refl
+
+pub table_at : (k : ℕ) → get_or WEIGHTS k 0 ≡ weight_of k
 unfolding weight_of
-table_at table k e = ap (λ (t : List ℕ). get_or t k 0) e
+table_at k = ap (λ (t : List ℕ). get_or t k 0) the_weights
 
 -- E falls
 fading_next : (k : ℕ) → fading (suc k) ≤ fading k

@@ -1,6 +1,7 @@
 -- The charges left on a line, taken together.
-use Rattle.std.specs.Prelude.{◌≡◌, ℕ, zero, suc, ◌+◌, min, max, ◌≤◌, ◌<◌, List}
-use Rattle.priority.specs.Numbers.{Numbers, number_of}
+use Rattle.std.specs.Prelude.{◌≡◌, ℕ, zero, suc, ◌+◌, min, max, ◌≤◌, ◌<◌, List, length}
+use Rattle.charges.specs.declared.Charges.{Charges}
+use Rattle.priority.specs.Numbers.{number_of}
 use Rattle.priority.specs.declared.crowd.Span.{Span}
 use Rattle.priority.specs.declared.crowd.Crowd.{Crowd}
 
@@ -23,36 +24,40 @@ pub record Joined (c : Crowd) (time active rate : ℕ) (r : Crowd) : Type 0 wher
   pub two : (rate ≡ 1 → ⊥) → Widened c.two active r.two × (r.one ≡ c.one)
 
 -- a charge with this rate and active time
-pub record Found (q : Numbers) (left : List ℕ) (n rate time : ℕ) : Type 0 where
+pub record Found (q : Charges) (left : List ℕ) (n rate time : ℕ) : Type 0 where
   pub who : ℕ
   pub inside : who < n
   pub rate_is : rate ≡ number_of q.rates left who
-  pub time_is : time ≡ number_of q.actives left who
+  pub time_is : time ≡ number_of q.active_times left who
 
 -- no charge of the rate is shorter or longer, and one is as short as that; 0 where there is none
-pub record SpanOf (q : Numbers) (left : List ℕ) (n rate : ℕ) (r : Span) : Type 0 where
+pub record SpanOf (q : Charges) (left : List ℕ) (n rate : ℕ) (r : Span) : Type 0 where
   pub most : r.longest ≤ 1445
   pub in_order : r.shortest ≤ r.longest
   pub each :
       (j : ℕ)
       → j < n
       → rate ≡ number_of q.rates left j
-      → (1 ≤ r.shortest) × (r.shortest ≤ number_of q.actives left j) × (number_of q.actives left j ≤ r.longest)
+      → (1 ≤ r.shortest) × (r.shortest ≤ number_of q.active_times left j) × (number_of q.active_times left j ≤ r.longest)
   pub found : 1 ≤ r.longest → Found q left n rate r.shortest
 
--- the times of those left
-pub record TimesOf (q : Numbers) (left : List ℕ) (n : ℕ) (r : Crowd) : Type 0 where
+-- the times of the first n of those left
+pub record TimesOf (q : Charges) (left : List ℕ) (n : ℕ) (r : Crowd) : Type 0 where
   pub one : SpanOf q left n 1 r.one
   pub two : SpanOf q left n 2 r.two
   pub shortest_low : (j : ℕ) → j < n → r.shortest ≤ number_of q.times left j
 
-pub record CrowdOf (q : Numbers) (left : List ℕ) (n : ℕ) (r : Crowd) : Type 0 where
+-- the first n of those left, taken together
+pub record FirstCrowd (q : Charges) (left : List ℕ) (n : ℕ) (r : Crowd) : Type 0 where
   pub number : r.number ≡ n
   pub total : r.total ≡ sum_of (number_of q.times left) n
   pub times : TimesOf q left n r
 
+abbrev pub CrowdOf : Charges → List ℕ → Crowd → Type 0
+CrowdOf q left r = FirstCrowd q left (length left) r
+
 -- number and sum stay, and the times are of those left
-pub record Narrowed (q : Numbers) (left : List ℕ) (n : ℕ) (c r : Crowd) : Type 0 where
+pub record Narrowed (q : Charges) (left : List ℕ) (c r : Crowd) : Type 0 where
   pub number : r.number ≡ c.number
   pub total : r.total ≡ c.total
-  pub times : TimesOf q left n r
+  pub times : TimesOf q left (length left) r

@@ -2,7 +2,6 @@
 #![tactic(auto)]
 
 pub mod choice;
-pub mod columns;
 pub mod crowd;
 pub mod table;
 pub mod weight;

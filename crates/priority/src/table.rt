@@ -1,16 +1,7 @@
 // The table of the weights.
-ghost use Rattle.std.specs.Prelude.{◌≡◌};
-ghost use Rattle.rules.specs.Priority.{weights as weights_of};
-
-// The table, to be lent: a constant array is copied wherever it is read.
-pub fn table() -> [u32; 512]
-    ensures { result ≡ weights_of }
-{
-    WEIGHTS
-}
 
 // "E(0) is 2^30, and E(k + 1) is E(k) × 63 / 64 rounded down; E stands as a table for k from 0 to 511."
-const WEIGHTS: [u32; 512] = [
+pub static WEIGHTS: [u32; 512] = [
     1073741824, 1056964608, 1040449536, 1024192512, 1008189504, 992436543, 976929722, 961665195,
     946639176, 931847938, 917287813, 902955190, 888846515, 874958288, 861287064, 847829453,
     834582117, 821541771, 808705180, 796069161, 783630580, 771386352, 759333440, 747468855,

@@ -8,9 +8,9 @@ use native.Mathlib.Nat.{eq-or-lt_of_le}
 use native.Mathlib.Omega.{arith}
 use borrow.Author.Tests.{le-leb, lt-leb, eqb-true, eqb-false}
 use lib.Dec.{eqb}
-use lib.ListN.{get_or}
-use Rattle.profile.specs.Steps.{level_at, In, Rising}
-use Rattle.profile.specs.Shows.{Profile, line_of, levels, Formed}
+use lib.ListN.{length, get_or}
+use Rattle.profile.specs.Steps.{minutes_of, level_at, In, Rising}
+use Rattle.profile.specs.Shows.{Profile, line_of, levels, first_minute, Formed}
 use Rattle.profile.proofs.Lines.{Respects}
 use Rattle.rules.proofs.Ranges.{below_or_not}
 
@@ -92,9 +92,9 @@ in_more {ats} {n} {i} {t} v r h a b =
 
 -- a test of the lines' levels goes by the counts of the step
 pub level_test :
-    {test : (ℕ → ℕ) → Bool} → Respects test → (p : Profile) {i t : ℕ} → In p.at p.steps i t → test (levels p t) ≡ test (λ l. line_of p l i)
-level_test same p {i} {t} h = same _ _ (λ l hl. level_in p.at (line_of p l) p.steps i t h)
+    {test : (ℕ → ℕ) → Bool} → Respects test → (p : Profile) {i t : ℕ} → In (minutes_of p) (length p) i t → test (levels p t) ≡ test (λ l. line_of p l i)
+level_test same p {i} {t} h = same _ _ (λ l hl. level_in (minutes_of p) (line_of p l) (length p) i t h)
 
 -- the first minute of a step is not below the first
-pub step_from : {p : Profile} {i : ℕ} → Formed p → i < p.steps → get_or p.at 0 0 ≤ get_or p.at i 0
-step_from {p} {i} f h = rising_le p.at p.steps f.rises 0 i (omega arith) h
+pub step_from : {p : Profile} {i : ℕ} → Formed p → i < length p → first_minute p ≤ get_or (minutes_of p) i 0
+step_from {p} {i} f h = rising_le (minutes_of p) (length p) f.rises 0 i (omega arith) h

@@ -1,9 +1,9 @@
 pub mod Lines
 pub mod Levels
-pub mod Shifts
+pub mod Edited
 pub mod Splits
 pub mod Adds
 pub mod Shown
-pub mod Copies
 pub mod Balances
 pub mod Picks
+pub mod Placing

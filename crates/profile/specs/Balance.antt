@@ -1,11 +1,9 @@
 -- Limit and balance of a profile's levels.
-use Rattle.std.specs.Prelude.{ℕ, ◌+◌, ◌%◌, ◌≤◌, ◌≡◌, Bool, true, false, ◌&&◌, List}
+use Rattle.std.specs.Prelude.{ℕ, ◌≡◌, Bool, true, false, ◌&&◌, List, Option, Some, None}
 use Rattle.rules.specs.Load.{Load, limits, limited, within_site, balanced, limit_at, from_on}
 use Rattle.rules.specs.Search.{first_unbalanced}
 use Rattle.profile.specs.Minutes.{Passes, Fails, FirstFails}
-use Rattle.profile.specs.Shows.{Profile, line_of, levels, first_minute, ShowsIn, found_at}
-use Rattle.profile.specs.declared.When.{When}
-use Rattle.profile.specs.declared.When.TheVariants.{Minute, Never}
+use Rattle.profile.specs.Shows.{Profile, levels, first_minute, Shows, found_at}
 
 -- each level of minute t is at most the limit, and all together at most the site's
 abbrev pub limited_in : Profile → ℕ → ℕ → ℕ → Bool
@@ -16,9 +14,9 @@ abbrev pub balanced_in : Profile → ℕ → ℕ → Bool
 balanced_in p bound t = balanced bound (levels p t)
 
 -- the first minute that fails a test, or none
-abbrev pub FirstOrNone : (ℕ → Bool) → ℕ → When → Type 0
-FirstOrNone f from (Minute t) = FirstFails f from t
-FirstOrNone f from Never = Passes f from
+abbrev pub FirstOrNone : (ℕ → Bool) → ℕ → Option ℕ → Type 0
+FirstOrNone f from (Some t) = FirstFails f from t
+FirstOrNone f from None = Passes f from
 
 -- whether every minute passes a test
 abbrev pub PassesIf : (ℕ → Bool) → ℕ → Bool → Type 0
@@ -26,7 +24,7 @@ PassesIf f from true = Passes f from
 PassesIf f from false = Fails f from
 
 -- the first minute out of balance
-pub record FirstUnbalanced (p : Profile) (bound : ℕ) (r : When) : Type 0 where
+pub record FirstUnbalanced (p : Profile) (bound : ℕ) (r : Option ℕ) : Type 0 where
   pub answer : FirstOrNone (balanced_in p bound) (first_minute p) r
 
 -- whether both limits are kept in every minute
@@ -34,18 +32,13 @@ pub record LimitKept (p : Profile) (limit site : ℕ) (r : Bool) : Type 0 where
   pub answer : PassesIf (limited_in p limit site) (first_minute p) r
 
 -- whatever loads p shows, the answer is the rules' first unbalanced minute
-abbrev pub Unbalanced : Profile → ℕ → When → Type 0
+abbrev pub Unbalanced : Profile → ℕ → Option ℕ → Type 0
 Unbalanced p bound r =
-    (size clock : ℕ) (loads : List Load) (limit site : ℕ) (others : List Load) → ShowsIn size p clock loads → first_unbalanced (limits limit bound site others) clock loads ≡ found_at r
+    (clock : ℕ) (loads : List Load) (limit site : ℕ) (others : List Load) → Shows p clock loads → first_unbalanced (limits limit bound site others) clock loads ≡ found_at r
 
 -- whatever loads p shows, the answer is whether both limits are kept in every minute from the clock on
 abbrev pub WithinLimit : Profile → ℕ → ℕ → Bool → Type 0
 WithinLimit p limit site r =
-    (size clock : ℕ) (loads : List Load) (bound : ℕ) (others : List Load)
-    → ShowsIn size p clock loads
+    (clock : ℕ) (loads : List Load) (bound : ℕ) (others : List Load)
+    → Shows p clock loads
     → r ≡ from_on clock loads (limit_at (limits limit bound site others) loads)
-
--- the counts of line l and the next one, 1 after 3, differ by at most d in step i
-abbrev pub Near : Profile → ℕ → ℕ → ℕ → Type 0
-Near p i d l =
-    (line_of p l i ≤ line_of p (l % 3 + 1) i + d) × (line_of p (l % 3 + 1) i ≤ line_of p l i + d)

@@ -1,6 +1,7 @@
--- A step function: n steps, of which step i begins in minute `at` i and has the level `c` i from there on.
-use Rattle.std.specs.Prelude.{ℕ, zero, suc, ◌+◌, ◌-◌, ◌*◌, ◌≤◌, ◌<◌, ◌≡◌, cond, List, leb, length, get_or}
+-- A step function: n steps, of which step i begins in minute `at` i and has the level `c` i from there on. And the steps of the code.
+use Rattle.std.specs.Prelude.{ℕ, zero, suc, ◌+◌, ◌≤◌, ◌<◌, ◌≡◌, cond, List, map, eqb, leb, get_or}
 use Rattle.rules.specs.Load.{IsColumn, share}
+use Rattle.profile.specs.declared.steps.Step.{Step}
 
 -- the level in the last of the n steps that begins at or before t, 0 if none does
 abbrev pub level_at : List ℕ → (ℕ → ℕ) → ℕ → ℕ → ℕ
@@ -11,13 +12,25 @@ level_at ats f (suc i) t = cond (leb (get_or ats i 0) t) (f i) (level_at ats f i
 abbrev pub most_steps : ℕ
 most_steps = 1441
 
--- so many numbers a step: one for each line, and one for the other feeders
-abbrev pub columns : ℕ
-columns = 4
+-- the one of four that belongs to line l, of which the fourth stands for the other feeders
+abbrev pub of_lines : {A : Type 0} → A → A → A → A → ℕ → A
+of_lines a b c d l = cond (eqb l 1) a (cond (eqb l 2) b (cond (eqb l 3) c d))
 
--- the numbers of line l, step by step, in a list of so many numbers a step
-abbrev pub line_in : List ℕ → ℕ → ℕ → ℕ
-line_in counts l = λ i. get_or counts (columns * i + l - 1) 0
+-- the counts of a step, line by line
+abbrev pub counts_of : Step → ℕ → ℕ
+counts_of s = of_lines s.one s.two s.three s.others
+
+-- the minutes in which steps begin
+abbrev pub minutes_of : List Step → List ℕ
+minutes_of p = map (λ (s : Step). s.minute) p
+
+-- a step in which nothing is drawn, from minute t on
+abbrev pub empty_step : ℕ → Step
+empty_step t = record { minute = t; one = 0; two = 0; three = 0; others = 0 }
+
+-- a step from another minute on
+abbrev pub begun_at : ℕ → Step → Step
+begun_at t s = record { minute = t; one = s.one; two = s.two; three = s.three; others = s.others }
 
 -- i is that step
 pub record In (ats : List ℕ) (n i t : ℕ) : Type 0 where
@@ -30,21 +43,9 @@ Rising ats n = (i j : ℕ) → i < j → j < n → get_or ats i 0 < get_or ats j
 
 -- b is a with v put in at place k of the first n
 pub record Inserted (a b : List ℕ) (n k v : ℕ) : Type 0 where
-  pub size : length b ≡ length a
   pub before : (m : ℕ) → m < k → get_or b m 0 ≡ get_or a m 0
   pub here : get_or b k 0 ≡ v
   pub after : (m : ℕ) → k ≤ m → m < n → get_or b (suc m) 0 ≡ get_or a m 0
-
--- c is b with the first n numbers of a
-pub record Copied (a b c : List ℕ) (n : ℕ) : Type 0 where
-  pub size : length c ≡ length b
-  pub same : (m : ℕ) → m < n → get_or c m 0 ≡ get_or a m 0
-
--- b is a with the places from lo up to hi moved w places up
-pub record Shifted (a b : List ℕ) (lo hi w : ℕ) : Type 0 where
-  pub size : length b ≡ length a
-  pub still : (m : ℕ) → m < lo + w → get_or b m 0 ≡ get_or a m 0
-  pub moved : (m : ℕ) → lo ≤ m → m < hi → get_or b (m + w) 0 ≡ get_or a m 0
 
 -- g is f with step i there twice, among the first n
 pub record Doubled (f g : ℕ → ℕ) (n i : ℕ) : Type 0 where
@@ -57,11 +58,11 @@ pub record Raised (f g : ℕ → ℕ) (i j x : ℕ) : Type 0 where
   pub between : (m : ℕ) → i ≤ m → m < j → g m ≡ f m + x
   pub after : (m : ℕ) → j ≤ m → g m ≡ f m
 
--- the same for each line
-pub record DoubledIn (a b : List ℕ) (n i : ℕ) : Type 0 where
-  pub size : length b ≡ length a
-  pub each : (l : ℕ) → IsColumn l → Doubled (line_in a l) (line_in b l) n i
+-- b is a with the rate more on a line
+pub record RaisedOn (a : Step) (line rate : ℕ) (b : Step) : Type 0 where
+  pub minute : b.minute ≡ a.minute
+  pub each : (l : ℕ) → IsColumn l → IsColumn line → counts_of b l ≡ counts_of a l + share line rate l
 
-pub record RaisedIn (a b : List ℕ) (line rate i j : ℕ) : Type 0 where
-  pub size : length b ≡ length a
-  pub each : (l : ℕ) → IsColumn l → Raised (line_in a l) (line_in b l) i j (share line rate l)
+-- the first of lines 1, 2 and 3 that has a count; 3 where the others do not have it
+abbrev pub line_with : Step → ℕ → ℕ
+line_with s count = cond (eqb s.one count) 1 (cond (eqb s.two count) 2 3)

@@ -1,73 +1,116 @@
-// One more load, in the lent lists of a profile.
-ghost use Rattle.std.specs.Prelude.{[], length};
-ghost use Rattle.profile.specs.Shows.{profile_of, Roomy, ShowsIn, CanSplit, Split, CanAdd, LoadAdded};
+// A profile, and one more load in it.
+ghost use Rattle.std.specs.Prelude.{◌≡◌, [], ◌+◌, ◌≤◌, ◌<◌, length};
+ghost use Rattle.profile.specs.Shows.{Shows, CanSplit, Split, CanAdd, LoadAdded};
+ghost use Rattle.profile.specs.Loads.{CanRaise, Raised};
 
-use crate::COLUMNS;
-use crate::counts::larger;
-use crate::steps::{copy, place, raise, shift};
+use crate::steps::{Step, place};
+use std::marker::Model;
 
-// No load: one step, which begins at the clock.
-pub fn begin(at: &mut [u32], counts: &mut [u32], clock: u32)
-    requires { Roomy at.old counts.old }
-    ensures { ShowsIn (length at.old) (profile_of 1 at.new counts.new) clock [] }
-{
-    at[0] = clock;
-    let none = [0; COLUMNS];
-    copy(&none, counts, COLUMNS);
-}
-
-// The number of steps, and the one that begins in the minute asked for.
+// What a charge draws wherever it starts: its rate on a line, for `time` minutes.
 #[derive(Clone, Copy)]
-pub struct Step {
-    pub steps: usize,
-    pub step: usize,
+pub struct Draw {
+    pub line: u32,
+    pub time: u32,
+    pub rate: u32,
 }
 
-// The same levels, with t the beginning of a step.
-pub fn split(at: &mut [u32], counts: &mut [u32], n: usize, t: u32) -> Step
-    requires { CanSplit (profile_of n at.old counts.old) t }
-    ensures { Split (profile_of n at.old counts.old) (profile_of result.steps at.new counts.new) t result.step }
-{
-    let i = place(&*at, n, t);
-    if at[i] == t {
-        return Step { steps: n, step: i };
-    }
-    let k = i + 1;
-    shift(at, k, n, 1);
-    at[k] = t;
-    shift(counts, COLUMNS * i, COLUMNS * n, COLUMNS);
-    Step {
-        steps: n + 1,
-        step: k,
-    }
+// The steps of what is drawn, in rising order of their minutes, with places for N of them.
+#[derive(Drop)]
+pub struct Profile<const N: usize> {
+    list: [Step; N],
+    count: usize,
 }
 
-// One more load, on a line or, as line 4, of another feeder; what lies before the clock is left out. The answer: the number of steps.
-pub fn add(
-    at: &mut [u32],
-    counts: &mut [u32],
-    n: usize,
-    line: u32,
-    time: u32,
-    rate: u32,
-    start: u32,
-) -> usize
-    requires { CanAdd (profile_of n at.old counts.old) time rate start }
-    ensures { LoadAdded (profile_of n at.old counts.old) (profile_of result at.new counts.new) line time rate start }
-{
-    let until = start + time;
-    let from = larger(at[0], start);
-    if until <= from {
-        return n;
+// A contract sees the steps.
+impl<const N: usize> Model for Profile<N> {
+    ghost use Rattle.std.specs.Prelude.{List, ◌≤◌, take};
+    ghost use Rattle.profile.specs.declared.steps.Step.{Step};
+
+    ghost Value = { List Step };
+
+    ghost view = { λ p. take p.count p.list };
+
+    ghost invariant = { λ p. p.count ≤ N };
+}
+
+impl<const N: usize> Profile<N> {
+    // No load: one step, which begins at the clock.
+    pub fn new(clock: u32) -> Profile<N>
+        requires { 1 ≤ N }
+        ensures { Shows result clock [] }
+    {
+        let none = Step {
+            minute: 0,
+            one: 0,
+            two: 0,
+            three: 0,
+            others: 0,
+        };
+        // Zeros first, in the profile itself: any other step N times, or a list moved into it, takes many times as long.
+        let mut profile = Profile {
+            list: [none; N],
+            count: 1,
+        };
+        profile.list[0].minute = clock;
+        profile
     }
-    if line < 1 {
-        return n;
+
+    pub fn steps(&self) -> &[Step]
+        ensures { result.now ≡ self.now }
+    {
+        &self.list[..self.count]
     }
-    if 4 < line {
-        return n;
+
+    // The steps of another profile, whose list is not copied behind them.
+    pub fn copy(&mut self, other: &Profile<N>)
+        ensures { self.new ≡ other.now }
+    {
+        let count = other.count;
+        self.list[..count].copy_from_slice(&other.list[..count]);
+        self.count = count;
     }
-    let a = split(at, counts, n, from);
-    let b = split(at, counts, a.steps, until);
-    raise(counts, line as usize, rate, a.step, b.step);
-    b.steps
+
+    // The same levels, with t the beginning of a step: which one that is.
+    fn split(&mut self, t: u32) -> usize
+        requires { CanSplit self.old N t }
+        ensures { Split self.old self.new t result }
+    {
+        let i = place(self.steps(), t);
+        if self.list[i].minute == t {
+            return i;
+        }
+        let next = i + 1;
+        self.list.copy_within(i..self.count, next);
+        self.list[next].minute = t;
+        self.count += 1;
+        next
+    }
+
+    // The rate more on the line in the steps from i up to j.
+    fn raise(&mut self, line: u32, rate: u32, i: usize, j: usize)
+        requires { CanRaise self.old line rate i j }
+        ensures { Raised self.old line rate i j self.new }
+    {
+        for k in i..j {
+            self.list[k] = self.list[k].raised(line, rate);
+        }
+    }
+
+    // One more load, on a line or, as line 4, of another feeder; what lies before the clock is left out.
+    pub fn add(&mut self, draw: Draw, start: u32)
+        requires { CanAdd self.old N draw start }
+        ensures { LoadAdded self.old self.new draw start }
+    {
+        let until = start + draw.time;
+        let from = self.list[0].minute.max(start);
+        if until <= from {
+            return;
+        }
+        if !(1..=4).contains(&draw.line) {
+            return;
+        }
+        let first = self.split(from);
+        let end = self.split(until);
+        self.raise(draw.line, draw.rate, first, end);
+    }
 }

@@ -1,59 +1,92 @@
-// The places of a list of steps: where a minute lies, one put in, some raised.
-ghost use Rattle.std.specs.Prelude.{◌≡◌, ℕ, ◌+◌, ◌*◌, ◌<◌, ◌≤◌, ◌^◌, length, get_or};
-ghost use Rattle.profile.specs.Steps.{most_steps, columns, line_in, In, Rising, Copied, Shifted, RaisedIn};
-ghost use Rattle.rules.specs.Load.{IsColumn};
+// The steps of a profile: what each has, and in which one a minute lies.
+ghost use Rattle.std.specs.Prelude.{◌≡◌, ◌&&◌, ◌+◌, ◌^◌, ◌<◌, ◌≤◌, max, min, length, get_or};
+ghost use Rattle.rules.specs.Load.{whole_of, limited, within_site, balanced};
+ghost use Rattle.profile.specs.Steps.{In, Rising, minutes_of, counts_of, RaisedOn};
 
-use crate::COLUMNS;
+// A step begins in a minute, and has from there on, up to the next one, the count of each line, and as a fourth what the other feeders draw.
+#[derive(Clone, Copy)]
+pub struct Step {
+    pub minute: u32,
+    pub one: u32,
+    pub two: u32,
+    pub three: u32,
+    pub others: u32,
+}
 
-// The last of the n steps that begins at or before t.
-pub fn place<'a>(at: &'a [u32], n: usize, t: u32) -> usize
-    requires { (1 ≤ n) × (n ≤ length at.now) × (n ≤ most_steps) × (get_or at.now 0 0 ≤ t) × Rising at.now n }
-    ensures { In at.now n result t }
-{
-    let mut low = 0;
-    let mut high = n;
-    while 1 < high - low {
-        let middle = low + (high - low) / 2;
-        if at[middle] <= t {
-            low = middle;
-        } else {
-            high = middle;
+impl Step {
+    // The count of a line; what is no line stands for the other feeders.
+    pub fn count(self, line: u32) -> u32
+        ensures { result ≡ counts_of self line }
+    {
+        match line {
+            1 => self.one,
+            2 => self.two,
+            3 => self.three,
+            _ => self.others,
         }
     }
-    low
-}
 
-// The first n numbers of one list, to the front of another.
-pub fn copy(from: &[u32], to: &mut [u32], n: usize)
-    requires { (n ≤ length from.now) × (n ≤ length to.old) }
-    ensures { Copied from.now to.old to.new n }
-{
-    for i in 0..n {
-        to[i] = from[i];
+    // All that is drawn.
+    pub fn whole(self) -> u64
+        ensures { (result ≡ whole_of (counts_of self)) × (result < 2 ^ 34) }
+    {
+        u64::from(self.one)
+            + (u64::from(self.two) + (u64::from(self.three) + u64::from(self.others)))
+    }
+
+    // The largest count of a line.
+    pub fn largest(self) -> u32
+        ensures { result ≡ max self.one (max self.two self.three) }
+    {
+        self.one.max(self.two.max(self.three))
+    }
+
+    // The smallest count of a line.
+    pub fn smallest(self) -> u32
+        ensures { result ≡ min self.one (min self.two self.three) }
+    {
+        self.one.min(self.two.min(self.three))
+    }
+
+    // Whether no line is above the limit, nor all together above the site's.
+    pub fn is_within(self, limit: u32, site: u32) -> bool
+        ensures { result ≡ (limited limit (counts_of self) && within_site site (counts_of self)) }
+    {
+        self.largest() <= limit && self.whole() <= u64::from(site)
+    }
+
+    // Whether each two lines differ by at most the bound.
+    pub fn is_balanced(self, bound: u32) -> bool
+        ensures { result ≡ balanced bound (counts_of self) }
+    {
+        self.largest() - self.smallest() <= bound
+    }
+
+    // With so much more on a line.
+    pub fn raised(self, line: u32, rate: u32) -> Step
+        requires { counts_of self line + rate < 2 ^ 32 }
+        ensures { RaisedOn self line rate result }
+    {
+        let count = self.count(line) + rate;
+        match line {
+            1 => Step { one: count, ..self },
+            2 => Step { two: count, ..self },
+            3 => Step {
+                three: count,
+                ..self
+            },
+            _ => Step {
+                others: count,
+                ..self
+            },
+        }
     }
 }
 
-// Moves what stands in the places from `low` up to `high` w places up.
-pub fn shift(a: &mut [u32], low: usize, high: usize, w: usize)
-    requires { (low ≤ high) × (high + w ≤ length a.old) × (length a.old ≤ columns * most_steps) }
-    ensures { Shifted a.old a.new low high w }
+// The last step that begins at or before t.
+pub fn place(steps: &[Step], t: u32) -> usize
+    requires { (1 ≤ length steps.now) × (get_or (minutes_of steps.now) 0 0 ≤ t) × Rising (minutes_of steps.now) (length steps.now) }
+    ensures { In (minutes_of steps.now) (length steps.now) result t }
 {
-    let mut j = high;
-    while low < j {
-        a[j + w - 1] = a[j - 1];
-        j -= 1;
-    }
-}
-
-// The rate more on the line in the steps from i up to j.
-pub fn raise(counts: &mut [u32], line: usize, rate: u32, i: usize, j: usize)
-    requires { (columns * j ≤ length counts.old) × IsColumn line × (i ≤ j) × (j ≤ most_steps) × ((m : ℕ) → m < j → line_in counts.old line m + rate < 2 ^ 32) }
-    ensures { RaisedIn counts.old counts.new line rate i j }
-{
-    let mut k = i;
-    while k < j {
-        let p = COLUMNS * k + line - 1;
-        counts[p] = counts[p] + rate;
-        k += 1;
-    }
+    steps.partition_point(|step| step.minute <= t) - 1
 }

@@ -4,6 +4,7 @@ use mathlib.Core.Path.{◌≡◌}
 use mathlib.Core.Bool.{Bool, true, false, cond}
 use mathlib.Core.List.{List, [], ◌∷◌, ◌++◌, map}
 use native.Mathlib.Omega.{arith}
+use lib.ListN.{length, get_or}
 use Rattle.rules.specs.Basics.{Each, tabulate, keep}
 use Rattle.rules.proofs.Ranges.{along}
 use Rattle.rules.proofs.Lists.{each_map, keep_each, each_tabulate, tabulate_each}
@@ -58,6 +59,25 @@ two_places R g n e i j h l = rw (same i, same j) at (two_at R g n 0 e i j h l)
   where
     same : (i : ℕ) → 0 + i ≡ i
     same i = omega arith
+
+-- by the places of a list of numbers
+pub each_get : (P : ℕ → Type 0) (xs : List ℕ) → Each P xs → (j : ℕ) → j < length xs → P (get_or xs j 0)
+each_get P [] e j h = absurd (omega arith)
+each_get P (x ∷ xs) e zero h = e.0
+each_get P (x ∷ xs) e (suc j) h = each_get P xs e.1 j (omega arith)
+
+pub two_get :
+    (R : ℕ → ℕ → Type 0) (xs : List ℕ)
+    → InOrder R xs
+    → (i j : ℕ)
+    → i < j
+    → j < length xs
+    → R (get_or xs i 0) (get_or xs j 0)
+two_get R [] e i j h l = absurd (omega arith)
+two_get R (x ∷ xs) e zero zero h l = absurd (omega arith)
+two_get R (x ∷ xs) e zero (suc j) h l = each_get (R x) xs e.0 j (omega arith)
+two_get R (x ∷ xs) e (suc i) zero h l = absurd (omega arith)
+two_get R (x ∷ xs) e (suc i) (suc j) h l = two_get R xs e.1 i j (omega arith) (omega arith)
 
 each_both : {A : Type 0} (P Q : A → Type 0) (xs : List A) → Each P xs → Each Q xs → Each (λ x. P x × Q x) xs
 each_both P Q [] e d = tt

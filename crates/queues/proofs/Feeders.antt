@@ -4,17 +4,16 @@ use Prim.Native.Nat.{ℕ, zero, suc, ◌+◌, ◌*◌, ◌≤◌}
 use mathlib.Core.Bool.{true}
 use mathlib.Core.List.{List, [], ◌∷◌, ◌++◌, map}
 use native.Mathlib.Omega.{arith}
-use lib.ListN.{length, drop, length-append, length-drop, length-map}
+use lib.ListN.{length, get_or, drop, length-append, length-drop, length-map}
 use Rattle.rules.specs.Charge.{Charge}
 use Rattle.rules.specs.Site.{Feeder, joined}
 use Rattle.rules.specs.Calls.{start_before, reported, pairs, written}
-use Rattle.rules.proofs.Lists.{length_tabulate, map_tabulate, map-append}
+use Rattle.rules.proofs.Lists.{map-append}
 use Rattle.rules.proofs.Sorting.{length-sorted}
 use Rattle.rules.proofs.Queues.{Distinct}
 use Rattle.charges.specs.declared.Charges.{Charges}
-use Rattle.charges.specs.declared.places.Places.{Places}
 use Rattle.charges.specs.Arrays.{charge_at, charges_of, Columns}
-use Rattle.charges.specs.Places.{place_at, places_of}
+use Rattle.charges.proofs.Words.{map_is}
 use Rattle.queues.specs.Queues.{Ordered}
 use Rattle.queues.specs.Reports.{pair_at, pairs_in, together, CanReport}
 use Rattle.queues.proofs.EveryTwo.{two_map, two_left, two_right, two_places}
@@ -35,9 +34,9 @@ pub reports_none : (clock target : ℕ) (entry : List ℕ) → Reports clock tar
 reports_none clock target entry = record { as_many = refl; list_is = refl }
 
 module _
-    {clock target : ℕ} {c : Charges} {p : Places} {cs : List Charge} {entry list : List ℕ} {n : ℕ}
-    (w : Columns c) (o : Ordered c (reported clock target (charges_of c)) p) (d : Distinct (charges_of c ++ cs))
-    (v : Reports clock target cs entry list n) (room : 2 * (n + p.count) ≤ length entry) where
+    {clock target : ℕ} {c : Charges} {is : List ℕ} {cs : List Charge} {entry list : List ℕ} {n : ℕ}
+    (w : Columns c) (o : Ordered c (reported clock target (charges_of c)) is) (d : Distinct (charges_of c ++ cs))
+    (v : Reports clock target cs entry list n) (room : 2 * (n + length is) ≤ length entry) where
   abbrev before : List Charge
   before = reported clock target cs
 
@@ -47,13 +46,13 @@ module _
   size : length (pairs before) ≡ 2 * n
   size = length_pairs before ∙ omega (arith, v.as_many)
 
-  as_many_here : p.count ≡ length here
-  as_many_here = sym (length-map (places_of p) (charge_at c) ∙ length_tabulate (place_at p) p.count 0) ∙ ap length o.charges
+  as_many_here : length is ≡ length here
+  as_many_here = sym (length-map is (charge_at c)) ∙ ap length o.charges
 
   stand : pairs_in list n ≡ map bare before
   stand = rw (v.list_is, v.as_many) (pairs_told before (drop (length (pairs before)) entry))
 
-  pub can_report : CanReport c p list n
+  pub can_report : CanReport c is list n
   can_report =
       record {
         columns = w;
@@ -68,8 +67,8 @@ module _
               length-drop (length (pairs before)) entry,
             );
         here =
-            two_places (λ a b. start_before a b ≡ true) (λ j. charge_at c (place_at p j)) p.count
-            (rw (← (map_tabulate (charge_at c) (place_at p) p.count 0), o.charges)
+            two_places (λ a b. start_before a b ≡ true) (λ j. charge_at c (get_or is j 0)) (length is)
+            (rw (← (map_is (charge_at c) is), o.charges)
             (reported_order_lem clock target (charges_of c) (two_left (λ a b. a.ticket ≡ b.ticket → ⊥) (charges_of c) cs d)));
         before =
             two_places (λ a b. start_before a b ≡ true) (pair_at list) n
@@ -80,8 +79,8 @@ module _
 
   pub reports_join :
       {list' : List ℕ} {n' : ℕ}
-      → list' ≡ written (pairs (together c p list n)) list
-      → n' ≡ n + p.count
+      → list' ≡ written (pairs (together c is list n)) list
+      → n' ≡ n + length is
       → Reports clock target (charges_of c ++ cs) entry list' n'
   reports_join {list'} {n'} e m =
       record {
@@ -94,14 +93,14 @@ module _
             (omega (arith, size, room)));
       }
     where
-      all : length (reported clock target (charges_of c ++ cs)) ≡ n + p.count
+      all : length (reported clock target (charges_of c ++ cs)) ≡ n + length is
       all =
           ap length (sym (reported_together clock target (charges_of c) cs d))
           ∙ length-sorted start_before (here ++ before)
           ∙ length-append here before
           ∙ omega (arith, v.as_many, as_many_here)
 
-      same : pairs (together c p list n) ≡ pairs (reported clock target (charges_of c ++ cs))
+      same : pairs (together c is list n) ≡ pairs (reported clock target (charges_of c ++ cs))
       same =
           rw (o.charges, stand)
           (pairs_sorted (here ++ map bare before) (here ++ before)

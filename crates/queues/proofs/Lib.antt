@@ -1,13 +1,11 @@
-pub mod EveryTwo
 pub mod Inserting
-pub mod Sorting
-pub mod Removing
 pub mod SignedBits
 pub mod Comparing
-pub mod Ordering
+pub mod EveryTwo
 pub mod Merging
 pub mod AnyOrder
+pub mod Together
+pub mod Ordering
 pub mod Pairs
 pub mod Reporting
-pub mod Together
 pub mod Feeders

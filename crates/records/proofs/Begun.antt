@@ -4,7 +4,7 @@ use Prim.Native.Nat.{ℕ, ◌+◌, ◌-◌, ◌≤◌, ◌<◌}
 use mathlib.Core.Logic.{◌⊎◌, inl, inr}
 use mathlib.Core.List.{List}
 use native.Mathlib.Omega.{arith}
-use lib.ListN.{get_or, set, replicate, length-replicate}
+use lib.ListN.{length, get_or, set, replicate, length-replicate}
 use lib.Seq.{get_or-set_other}
 use Rattle.rules.specs.Site.{places}
 use Rattle.rules.proofs.Ranges.{below_or_not}
@@ -12,22 +12,13 @@ use Rattle.charges.proofs.Storing.{zeros}
 use Rattle.layout.specs.Lists.{listed}
 use Rattle.layout.specs.Bytes.{byte_of}
 use Rattle.blocks.specs.Places.{Put}
-use Rattle.blocks.proofs.Filling.{filling_none, filling_at, filling_all, filling_put}
+use Rattle.blocks.proofs.Filling.{filling_none, filling_all, filling_put}
 use Rattle.records.specs.Contents.{record_place}
 use Rattle.records.specs.Rows.{Begun, RowOf}
 
 pub begun_none : (f : ℕ → ℕ) → Begun f 0 (replicate 4572 0)
 begun_none f =
     record { filling = filling_none f 4572 (replicate 4572 0) (length-replicate {A = ℕ} 4572 0); rest = λ m h. zeros 4572 m }
-
--- one byte more, at the next place
-pub begun_at :
-    {f : ℕ → ℕ} {k : ℕ} {xs : List ℕ} → Begun f k xs → (p v m : ℕ) → p ≡ k → m ≡ k + 1 → k < 4572 → v ≡ f k → Begun f m (set xs p v)
-begun_at {f} {k} {xs} r p v m e g h i =
-    record {
-      filling = filling_at r.filling p v m e g h i;
-      rest = λ n l. get_or-set_other xs p n v 0 (λ s. omega arith) ∙ r.rest n (omega arith);
-    }
 
 -- the four bytes of a number
 pub begun_put :
@@ -81,21 +72,10 @@ begun_all r h z = filling_all (begun_skip r 4572 h z).filling (omega arith)
 
 -- Rows
 
-module _ {f : ℕ → ℕ} {column : List ℕ} {held j byte : ℕ} (w : RowOf f column held j byte) (few : held ≤ places) (inside : j < 20) where
-  -- the byte of one record more
-  pub row_more :
-      {q : ℕ} {xs : List ℕ}
-      → q < held
-      → (p v : ℕ)
-      → p ≡ record_place q j
-      → v ≡ byte_of byte (get_or column q 0)
-      → Begun f (record_place q j) xs
-      → Begun f (record_place (q + 1) j) (set xs p v)
-  row_more {q} h p v e g r = begun_at r p v (record_place (q + 1) j) e (omega arith) (omega arith) (g ∙ w.each q h)
-
+module _ {f : ℕ → ℕ} {column : List ℕ} {j byte : ℕ} (w : RowOf f column j byte) (few : length column ≤ places) (inside : j < 20) where
   -- the row of the next byte begins behind the unused records
   pub row_ended :
-      {q : ℕ} {xs : List ℕ} → q ≡ held → Begun f (record_place q j) xs → Begun f (record_place 0 (j + 1)) xs
+      {q : ℕ} {xs : List ℕ} → q ≡ length column → Begun f (record_place q j) xs → Begun f (record_place 0 (j + 1)) xs
   row_ended {q} e r = begun_skip r (record_place 0 (j + 1)) (omega arith) unused
     where
       unused : (i : ℕ) → record_place q j ≤ i → i < record_place 0 (j + 1) → f i ≡ 0

@@ -3,11 +3,13 @@ use mathlib.Core.Path.{◌≡◌, ap, sym, ◌∙◌}
 use Prim.Native.Nat.{ℕ, zero, suc, ◌+◌, ◌-◌, ◌*◌, ◌/◌, ◌%◌, ◌≤◌, ◌<◌}
 use mathlib.Core.List.{List, [], ◌∷◌}
 use native.Mathlib.Omega.{arith}
-use lib.ListN.{length, get_or}
+use lib.ListN.{length, get_or, take}
+use Rattle.std.proofs.lemmas.List.{length-take-le, get_or-take}
 use borrow.Author.Tests.{lt-ltb, le-ltb}
 use Rattle.rules.specs.Site.{State}
-use Rattle.charges.specs.Arrays.{charge_at, Columns}
+use Rattle.charges.specs.Arrays.{charge_at, Filled, Columns}
 use Rattle.station.specs.declared.One.{One}
+use Rattle.validity.specs.declared.ranges.Header.{Header}
 use Rattle.validity.specs.Settled.{held_by, single}
 use Rattle.layout.specs.Bytes.{byte_of, packed_from, packed}
 use Rattle.layout.specs.Arrangement.{per_block, number_of}
@@ -16,7 +18,7 @@ use Rattle.layout.proofs.Contents.{record_held, record_none, numbered_in, number
 use Rattle.layout.proofs.Laying.{record_back, byte_back}
 use Rattle.validity.proofs.Settling.{held_count, held_at_lem}
 use Rattle.records.specs.Contents.{content_byte, record_place}
-use Rattle.records.specs.Rows.{RowOf}
+use Rattle.records.specs.Rows.{RowOf, HeaderOf}
 
 -- Where they come from
 
@@ -49,6 +51,22 @@ module _ (s : State) where
 
 -- Block 0
 
+abbrev numbers_in : Header → List ℕ
+numbers_in h = h.limit ∷ h.percent ∷ h.tail ∷ h.clock ∷ h.next ∷ h.held ∷ h.site ∷ []
+
+-- what a feeder and its station have there, with so many charges
+abbrev pub header_with : One → ℕ → Header
+header_with o n =
+    record {
+      limit = o.feeder.limit;
+      percent = o.feeder.percent;
+      tail = o.feeder.tail;
+      clock = o.clock;
+      next = o.next;
+      held = n;
+      site = o.site;
+    }
+
 abbrev header_numbers : State → List ℕ
 header_numbers s =
     (only s).limit ∷ (only s).percent ∷ (only s).tail ∷ s.clock ∷ s.next ∷ length (only s).charges ∷ s.site ∷ []
@@ -78,37 +96,55 @@ module _ (s : State) where
       first_content s i h
       ∙ rw (le-ltb i 4 (omega arith), le-ltb i 8 (omega arith), le-ltb i 12 (omega arith), le-ltb i 16 (omega arith), le-ltb i 20 (omega arith), le-ltb i 24 (omega arith), le-ltb i 28 l)
 
--- the numbers of a feeder and its station, with so many charges
-abbrev pub numbers_of : One → ℕ → List ℕ
-numbers_of o n = o.feeder.limit ∷ o.feeder.percent ∷ o.feeder.tail ∷ o.clock ∷ o.next ∷ n ∷ o.site ∷ []
+module _ (o : One) where
+  number_of_lem : (w j : ℕ) → w < 7 → j < 4 → byte_of j (get_or (numbers_in (header_with o (held_by o).held)) w 0) ≡ content_byte (single o) (4 * w + j)
+  number_of_lem w j h l =
+      ap (λ n. byte_of j (get_or (numbers_in (header_with o n)) w 0)) (sym (held_count o)) ∙ header_content (single o) w j h l
 
-pub header_of_lem :
-    (o : One) (w j : ℕ) → w < 7 → j < 4 → byte_of j (get_or (numbers_of o (held_by o).held) w 0) ≡ content_byte (single o) (4 * w + j)
-header_of_lem o w j h l =
-    ap (λ n. byte_of j (get_or (numbers_of o n) w 0)) (sym (held_count o)) ∙ header_content (single o) w j h l
+  -- block 0 of a station has the numbers of its only feeder
+  pub header_of_lem : HeaderOf (content_byte (single o)) (header_with o (held_by o).held)
+  header_of_lem =
+      record {
+        limit = λ j h. number_of_lem 0 j (omega arith) h;
+        percent = λ j h. number_of_lem 1 j (omega arith) h;
+        tail = λ j h. number_of_lem 2 j (omega arith) h;
+        clock = λ j h. number_of_lem 3 j (omega arith) h;
+        next = λ j h. number_of_lem 4 j (omega arith) h;
+        held = λ j h. number_of_lem 5 j (omega arith) h;
+        site = λ j h. number_of_lem 6 j (omega arith) h;
+      }
 
 -- Records
 
 module _ (o : One) (k : Columns (held_by o)) where
-  -- byte `byte` of a column'o numbers as byte j of the records
+  abbrev held : List ℕ → List ℕ
+  held column = take (held_by o).held column
+
+  -- byte `byte` of a column's numbers as byte j of the records
   abbrev pub SameByte : List ℕ → ℕ → ℕ → Type 0
   SameByte column j byte = (q : ℕ) → byte_of byte (get_or column q 0) ≡ packed (fields_of (charge_at (held_by o) q)) j
 
+  pub held_long : (column : List ℕ) → Filled (held_by o).held column → length (held column) ≡ (held_by o).held
+  held_long column f = length-take-le (held_by o).held column (omega (arith, k.few, f.full))
+
   pub row_of_lem :
-      (column : List ℕ) (j byte : ℕ) → j < 20 → SameByte column j byte → RowOf (content_byte (single o)) column (held_by o).held j byte
-  row_of_lem column j byte h e =
+      (column : List ℕ) (j byte : ℕ) → Filled (held_by o).held column → j < 20 → SameByte column j byte → RowOf (content_byte (single o)) (held column) j byte
+  row_of_lem column j byte f h e =
       record {
         each = λ q l.
-            e q
-            ∙ ap (λ c. packed (fields_of c) j) (sym (held_at_lem o q l))
+            let m : q < (held_by o).held = omega (arith, held_long column f) in
+            ap (byte_of byte) (get_or-take (held_by o).held column q 0 m)
+            ∙ e q
+            ∙ ap (λ c. packed (fields_of c) j) (sym (held_at_lem o q m))
             ∙ sym (record_held (single o) q j (omega (arith, held_count o)))
             ∙ sym (record_content (single o) q j (omega (arith, k.few)) h);
-        none = λ q l m. record_content (single o) q j m h ∙ record_none (single o) q j (omega (arith, held_count o));
+        none = λ q l m. record_content (single o) q j m h ∙ record_none (single o) q j (omega (arith, held_count o, held_long column f));
       }
 
   -- the four bytes of a field from byte `from` on
   pub column_of_lem :
       (column : List ℕ) (from : ℕ)
+      → Filled (held_by o).held column
       → from + 4 ≤ 20
       → SameByte column from 0
       → SameByte column (from + 1) 1
@@ -116,9 +152,9 @@ module _ (o : One) (k : Columns (held_by o)) where
       → SameByte column (from + 3) 3
       → (byte : ℕ)
       → byte < 4
-      → RowOf (content_byte (single o)) column (held_by o).held (from + byte) byte
-  column_of_lem column from h a b c d zero l = let z : from + 0 ≡ from = omega arith in rw z (row_of_lem column from 0 (omega arith) a)
-  column_of_lem column from h a b c d (suc zero) l = row_of_lem column (from + 1) 1 (omega arith) b
-  column_of_lem column from h a b c d (suc (suc zero)) l = row_of_lem column (from + 2) 2 (omega arith) c
-  column_of_lem column from h a b c d (suc (suc (suc zero))) l = row_of_lem column (from + 3) 3 (omega arith) d
-  column_of_lem column from h a b c d (suc (suc (suc (suc n)))) l = absurd (omega arith)
+      → RowOf (content_byte (single o)) (held column) (from + byte) byte
+  column_of_lem column from f h a b c d zero l = let z : from + 0 ≡ from = omega arith in rw z (row_of_lem column from 0 f (omega arith) a)
+  column_of_lem column from f h a b c d (suc zero) l = row_of_lem column (from + 1) 1 f (omega arith) b
+  column_of_lem column from f h a b c d (suc (suc zero)) l = row_of_lem column (from + 2) 2 f (omega arith) c
+  column_of_lem column from f h a b c d (suc (suc (suc zero))) l = row_of_lem column (from + 3) 3 f (omega arith) d
+  column_of_lem column from f h a b c d (suc (suc (suc (suc n)))) l = absurd (omega arith)

@@ -1,57 +1,90 @@
 -- The only feeder of the station that is read from contents.
-use mathlib.Core.Path.{◌≡◌, refl, ap, sym, ◌∙◌}
-use Prim.Native.Nat.{ℕ, ◌+◌, ◌*◌}
+use mathlib.Core.Path.{◌≡◌, refl, ap, sym, subst, ◌∙◌}
+use Prim.Native.Nat.{ℕ, ◌+◌, ◌*◌, ◌≤◌}
 use mathlib.Core.Bool.{true}
 use mathlib.Core.List.{List, [], ◌∷◌}
 use native.Mathlib.Omega.{arith}
+use lib.Dec.{leb}
+use borrow.Author.Tests.{leb-true}
 use Rattle.rules.specs.Charge.{Charge}
 use Rattle.rules.specs.Basics.{tabulate}
-use Rattle.rules.specs.Site.{State}
+use Rattle.rules.specs.Site.{places, State}
 use Rattle.rules.specs.Calls.{bound_of, nearest_hundreds}
+use Rattle.rules.proofs.Ranges.{and_left, and_right}
 use Rattle.rules.proofs.Lists.{tabulate_same}
 use Rattle.charges.specs.declared.Charges.{Charges}
 use Rattle.charges.specs.Arrays.{charge_at, charges_of}
-use Rattle.station.specs.declared.Feeder.{Feeder}
 use Rattle.station.specs.declared.One.{One}
 use Rattle.layout.specs.Reading.{header_at}
-use Rattle.records.specs.Contents.{charge_from, state_from, header_right}
+use Rattle.layout.specs.Validity.{settings_ranged}
+use Rattle.validity.specs.declared.ranges.Header.{Header}
+use Rattle.validity.proofs.Ranging.{ranged, product_fits, valid_ranged}
+use Rattle.records.specs.Contents.{charge_from, state_from, header_in, settings_in, header_right}
 use Rattle.records.specs.Columns.{HoldsFrom, ReadFrom}
-use Rattle.records.proofs.Columning.{settings_right}
 
-abbrev pub feeder_with : ℕ → ℕ → ℕ → ℕ → Charges → Feeder
-feeder_with limit percent bound tail c = record { limit = limit; percent = percent; bound = bound; tail = tail; charges = c }
-
-abbrev pub only_with : Feeder → ℕ → ℕ → ℕ → One
-only_with feeder site clock next = record { count = 1; site = site; clock = clock; next = next; place = 0; feeder = feeder }
-
+-- what passes its test
 module _ (xs : List ℕ) (right : header_right xs ≡ true) where
+  held_few : header_at xs 20 ≤ places
+  unfolding header_right
+  held_few = leb-true (header_at xs 20) places (and_left (leb (header_at xs 20) places) (settings_in xs) right)
+
+  settings_right : settings_in xs ≡ true
+  unfolding header_right
+  settings_right = and_right (leb (header_at xs 20) places) (settings_in xs) right
+
+  settings_ranged_lem :
+      settings_ranged (header_at xs 0) (header_at xs 4) (header_at xs 8) (header_at xs 12) (header_at xs 16) (header_at xs 24) ≡ true
+  settings_ranged_lem =
+      valid_ranged (header_at xs 0) (header_at xs 4) (header_at xs 8) (header_at xs 12) (header_at xs 16) (header_at xs 24) settings_right
+
+  tail_few : header_at xs 8 ≤ 5
+  tail_few =
+      (ranged (header_at xs 0) (header_at xs 4) (header_at xs 8) (header_at xs 12) (header_at xs 16) (header_at xs 24) settings_ranged_lem).tail_high
+
+  product_few : header_at xs 4 * header_at xs 0 ≤ 6000
+  product_few =
+      product_fits (header_at xs 0) (header_at xs 4) (header_at xs 8) (header_at xs 12) (header_at xs 16) (header_at xs 24) settings_ranged_lem
+
+  -- the same of the numbers that were read
+  pub record Small (h : Header) : Type 0 where
+    pub held : h.held ≤ places
+    pub tail : h.tail ≤ 5
+    pub product : h.percent * h.limit ≤ 6000
+
+  pub header_small : (h : Header) → h ≡ header_in xs → Small h
+  header_small h e = subst Small (sym e) (record { held = held_few; tail = tail_few; product = product_few })
+
   charges_in_lem :
       (c : Charges) → HoldsFrom xs (header_at xs 20) (header_at xs 8) c → charges_of c ≡ tabulate (charge_from xs (header_at xs 8)) (header_at xs 20) 0
   charges_in_lem c h =
       rw h.held_is
       (tabulate_same (charge_at c) (charge_from xs (header_at xs 8)) (header_at xs 20) 0 (λ q p l. h.each q (omega arith)))
 
-  pub read_from :
-      (limit percent bound tail site clock next held : ℕ) (c : Charges)
-      → limit ≡ header_at xs 0
-      → percent ≡ header_at xs 4
-      → tail ≡ header_at xs 8
-      → clock ≡ header_at xs 12
-      → next ≡ header_at xs 16
-      → held ≡ header_at xs 20
-      → site ≡ header_at xs 24
-      → bound ≡ nearest_hundreds (percent * limit)
-      → HoldsFrom xs held tail c
-      → ReadFrom xs (only_with (feeder_with limit percent bound tail c) site clock next)
-  unfolding state_from
-  read_from limit percent bound tail site clock next held c a b t e f g w i h =
+  abbrev only_with : Header → ℕ → Charges → One
+  only_with h bound c =
       record {
-        state = rw (i, a, b, t, e, f, w) (ap state_with (charges_in_lem c (rw (g, t) at h)));
+        count = 1;
+        site = h.site;
+        clock = h.clock;
+        next = h.next;
+        place = 0;
+        feeder = record { limit = h.limit; percent = h.percent; bound = bound; tail = h.tail; charges = c };
+      }
+
+  read_in :
+      (bound : ℕ) (c : Charges)
+      → bound ≡ bound_of (header_at xs 0) (header_at xs 4)
+      → HoldsFrom xs (header_at xs 20) (header_at xs 8) c
+      → ReadFrom xs (only_with (header_in xs) bound c)
+  unfolding state_from
+  read_in bound c b h =
+      record {
+        state = rw b (ap state_with (charges_in_lem c h));
         settled =
             record {
               columns = h.columns;
-              settings = rw (a, b, t, e, f, w) (settings_right xs right);
-              bound_is = i;
+              settings = settings_right;
+              bound_is = b;
               active = λ q l. active_in q (h.each q (omega (arith, h.held_is)));
             };
         single = refl;
@@ -75,5 +108,16 @@ module _ (xs : List ℕ) (right : header_right xs ≡ true) where
             next = header_at xs 16;
           }
 
-      active_in : (q : ℕ) → charge_at c q ≡ charge_from xs tail q → (charge_at c q).active_time ≡ (charge_at c q).time + tail
-      active_in q z = ap (λ (x : Charge). x.active_time) z ∙ sym (ap (λ (x : Charge). x.time + tail) z)
+      active_in : (q : ℕ) → charge_at c q ≡ charge_from xs (header_at xs 8) q → (charge_at c q).active_time ≡ (charge_at c q).time + header_at xs 8
+      active_in q z = ap (λ (x : Charge). x.active_time) z ∙ sym (ap (λ (x : Charge). x.time + header_at xs 8) z)
+
+  pub read_from :
+      (h : Header) (bound : ℕ) (c : Charges)
+      → h ≡ header_in xs
+      → bound ≡ nearest_hundreds (h.percent * h.limit)
+      → HoldsFrom xs h.held h.tail c
+      → ReadFrom xs (only_with h bound c)
+  read_from h bound c e =
+      let P : Header → Type 0 =
+      λ g. bound ≡ nearest_hundreds (g.percent * g.limit) → HoldsFrom xs g.held g.tail c → ReadFrom xs (only_with g bound c) in
+      subst P (sym e) (read_in bound c)

@@ -1,5 +1,5 @@
 -- What is read from contents, column by column.
-use Rattle.std.specs.Prelude.{ℕ, zero, suc, ◌+◌, ◌*◌, ◌<◌, ◌≡◌, List, get_or}
+use Rattle.std.specs.Prelude.{ℕ, zero, suc, ◌+◌, ◌*◌, ◌<◌, ◌≡◌, List, length, get_or}
 use Rattle.charges.specs.declared.Charges.{Charges}
 use Rattle.charges.specs.Arrays.{charge_at, Filled, Columns}
 use Rattle.station.specs.declared.One.{One}
@@ -18,10 +18,10 @@ pub record ColumnTo (f : ℕ → ℕ) (q : ℕ) (xs : List ℕ) : Type 0 where
   pub each : (i : ℕ) → i < q → get_or xs i 0 ≡ f i
 
 -- byte j of each record joined to the numbers of a column
-pub record RowJoined (contents : List ℕ) (held j : ℕ) (before after : List ℕ) : Type 0 where
-  pub filled : Filled held after
-  pub each : (q : ℕ) → q < held → get_or after q 0 ≡ 256 * get_or before q 0 + record_in contents q j
-  pub small : (q : ℕ) → q < held → record_in contents q j < 256
+pub record RowJoined (contents : List ℕ) (j : ℕ) (before after : List ℕ) : Type 0 where
+  pub long : length after ≡ length before
+  pub each : (q : ℕ) → q < length before → get_or after q 0 ≡ 256 * get_or before q 0 + record_in contents q j
+  pub small : (q : ℕ) → q < length before → record_in contents q j < 256
 
 -- the column of a field
 pub record ColumnRead (contents : List ℕ) (from width held : ℕ) (column : List ℕ) : Type 0 where

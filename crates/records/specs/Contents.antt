@@ -10,6 +10,7 @@ use Rattle.layout.specs.Bytes.{number_at}
 use Rattle.layout.specs.Arrangement.{per_block, number_of}
 use Rattle.layout.specs.Image.{content}
 use Rattle.layout.specs.Reading.{header_at}
+use Rattle.validity.specs.declared.ranges.Header.{Header}
 use Rattle.validity.specs.Settled.{settings_valid}
 
 -- byte m of the contents of a station
@@ -53,6 +54,19 @@ state_from contents =
       site = header_at contents 24;
       clock = header_at contents 12;
       next = header_at contents 16;
+    }
+
+-- the numbers of block 0
+abbrev pub header_in : List ℕ → Header
+header_in contents =
+    record {
+      limit = header_at contents 0;
+      percent = header_at contents 4;
+      tail = header_at contents 8;
+      clock = header_at contents 12;
+      next = header_at contents 16;
+      held = header_at contents 20;
+      site = header_at contents 24;
     }
 
 -- the settings of block 0 pass their test

@@ -2,8 +2,7 @@
 ghost use Rattle.std.specs.Prelude.{◌≡◌, ◌<◌};
 ghost use Rattle.records.specs.Contents.{record_place};
 
-// How many bytes a block has of the contents.
-const PER_BLOCK: usize = 508;
+use blocks::contents::PER_BLOCK;
 
 // The place of byte j of record q: behind block 0 the bytes of the records stand in the order of their numbers.
 pub fn place_of(q: usize, j: usize) -> usize

@@ -62,7 +62,7 @@ fn ask(one: One, call: Call, numbers: &[u32], from: usize, places: u32, list: &m
     let lent = requests::places_lent(places);
     let read = &numbers[from..];
     let asked = read.len();
-    let answer = calls::alone::ask(one, call, read, &mut list[..lent]);
+    let answer = calls::alone::ask(&one, call, read, &mut list[..lent]);
     Said::Call {
         answer,
         asked,

@@ -5,18 +5,20 @@ use mathlib.Core.Bool.{true, false, true≢false}
 use mathlib.Core.List.{[]}
 use mathlib.Core.Logic.{⊎_elim}
 use native.Mathlib.Omega.{arith}
-use lib.ListN.{get_or}
+use lib.ListN.{length, get_or}
+use Rattle.std.specs.Prelude.{Result, Ok, Err}
+use Rattle.rules.specs.Candidate.{Tested, tested_by}
 use Rattle.rules.proofs.Ranges.{below_or_not}
 use Rattle.rules.proofs.TestedStarts.{LookedTo, tested_told, tested_stops}
-use Rattle.profile.specs.Steps.{In}
-use Rattle.profile.specs.Shows.{Profile, last_minute}
+use Rattle.profile.specs.Steps.{minutes_of, In}
+use Rattle.profile.specs.Shows.{Profile, line_of, last_minute}
+use Rattle.profile.specs.declared.loads.Draw.{Draw}
 use Rattle.profile.proofs.Levels.{at_step, in_more, rising_le}
-use Rattle.search.specs.Rooms.{counts_of, Least}
+use Rattle.search.specs.Rooms.{Least}
 use Rattle.search.specs.Starts.{CanStart}
-use Rattle.search.specs.Candidates.{fits_in, CanTest, TestedAs, CanFit, FailsBelow, FirstFitting}
+use Rattle.search.specs.Candidates.{tested_of, fits_in, CanTest, MissIn, TestedAs, CanFit, FailsBelow, FirstFitting}
 use Rattle.search.specs.declared.limits.Limits.{Limits}
-use Rattle.search.specs.declared.limits.Draw.{Draw}
-use Rattle.search.specs.declared.candidate.Tested.{Tested}
+use Rattle.search.specs.declared.candidate.Miss.{Miss}
 use Rattle.search.proofs.Sounds.{alone_sound}
 use Rattle.search.proofs.Within.{step_with}
 use Rattle.search.proofs.Candidates.{step_same}
@@ -25,10 +27,11 @@ use Rattle.search.proofs.Candidates.{step_same}
 pub record Fitting (p : Profile) (y : Limits) (a : Draw) (start until i s : ℕ) : Type 0 where
   pub low : start ≤ s
   pub high : s ≤ max start (last_minute p)
-  pub here : s + a.time ≤ until → In p.at p.steps i s
+  pub here : s + a.time ≤ until → In (minutes_of p) (length p) i s
   pub failed : (j : ℕ) → start ≤ j → j < s → FailsBelow (fits_in p y a) a.time j until
 
-pub fitting_begin : {p : Profile} (y : Limits) (a : Draw) {start i : ℕ} (until : ℕ) → In p.at p.steps i start → Fitting p y a start until i start
+pub fitting_begin :
+    {p : Profile} (y : Limits) (a : Draw) {start i : ℕ} (until : ℕ) → In (minutes_of p) (length p) i start → Fitting p y a start until i start
 fitting_begin y a until h =
     record { low = omega arith; high = omega arith; here = λ c. h; failed = λ j c d. absurd (omega arith) }
 
@@ -44,50 +47,54 @@ module _ {p : Profile} {y : Limits} {a : Draw} {start until i s : ℕ} (can : Ca
         ends_fit = omega (arith, w.high, can.can.ends_fit, can.ends_fit);
       }
 
-  module _ {r : Tested} (h : TestedAs p y a s r) where
-    pub fitting_done : r.fits ≡ true → FirstFitting p y a start until s × (s ≤ max start (last_minute p))
+  module _ {r : Result (Unit {0}) Miss} (h : TestedAs p y a s r) where
+    pub fitting_done : {x : Unit {0}} → r ≡ Ok x → FirstFitting p y a start until s × (s ≤ max start (last_minute p))
     fitting_done e = (
       record {
         low = w.low;
         failed = w.failed;
-        fits = λ c. tested_told (fits_in p y a) a.time s (sym (ap (λ x. x.fits) h.same) ∙ e);
+        fits = λ c. tested_told (fits_in p y a) a.time s (ap (λ (x : Tested). x.fits) (sym h.same ∙ ap (tested_of a.time) e));
       },
       w.high,
     )
 
-    module _ (e : r.fits ≡ false) where
-      stops : LookedTo (fits_in p y a) a.time s r.looked
+    -- a minute fails
+    module _ (m : Miss) (e : r ≡ Err m) where
+      told : tested_by (fits_in p y a) a.time s ≡ record { fits = false; looked = m.looked }
+      told = sym h.same ∙ ap (tested_of a.time) e
+
+      stops : LookedTo (fits_in p y a) a.time s m.looked
       stops =
-          subst (λ (x : ℕ). LookedTo (fits_in p y a) a.time s x) (sym (ap (λ x. x.looked) h.same))
-          (tested_stops (fits_in p y a) a.time s (sym (ap (λ x. x.fits) h.same) ∙ e))
+          subst (λ (x : ℕ). LookedTo (fits_in p y a) a.time s x) (ap (λ (x : Tested). x.looked) told)
+          (tested_stops (fits_in p y a) a.time s (ap (λ (x : Tested). x.fits) told))
 
       -- the failing minute lies in the step that is told
-      inside : In p.at p.steps r.step stops.minute
-      inside = subst (λ (x : ℕ). In p.at p.steps r.step x) last (h.inside e)
+      inside : In (minutes_of p) (length p) m.step stops.minute
+      inside = subst (λ (x : ℕ). In (minutes_of p) (length p) m.step x) last (subst (MissIn p s) e h.inside)
         where
-          last : s + r.looked - 1 ≡ stops.minute
+          last : s + m.looked - 1 ≡ stops.minute
           last = omega (arith, stops.number, stops.first.low)
 
       -- past the last step the charge is alone
-      pub fitting_below : r.step + 1 < p.steps
-      fitting_below = ⊎_elim (λ c. c) (λ c. absurd (true≢false (sym (alone c) ∙ stops.first.fails))) (below_or_not (r.step + 1) p.steps)
+      pub fitting_below : m.step + 1 < length p
+      fitting_below = ⊎_elim (λ c. c) (λ c. absurd (true≢false (sym (alone c) ∙ stops.first.fails))) (below_or_not (m.step + 1) (length p))
         where
-          alone : p.steps ≤ r.step + 1 → fits_in p y a stops.minute ≡ true
+          alone : length p ≤ m.step + 1 → fits_in p y a stops.minute ≡ true
           alone c =
-              let q : r.step ≡ p.steps - 1 = omega (arith, inside.below) in
-              step_with p y a stops.minute (subst (λ (x : ℕ). In p.at p.steps x stops.minute) q inside)
-              ∙ alone_sound [] (counts_of p.counts (p.steps - 1)) can.alone can.can.empty
+              let q : m.step ≡ length p - 1 = omega (arith, inside.below) in
+              step_with p y a stops.minute (subst (λ (x : ℕ). In (minutes_of p) (length p) x stops.minute) q inside)
+              ∙ alone_sound [] (λ l. line_of p l (length p - 1)) can.alone can.can.empty
 
-      pub fitting_order : i ≤ r.step
+      pub fitting_order : i ≤ m.step
       fitting_order =
           ⊎_elim
           (λ c. absurd (omega (arith, inside.later i c (w.here more).below, (w.here more).begun, stops.first.low)))
           (λ c. c)
-          (below_or_not r.step i)
+          (below_or_not m.step i)
 
       -- every start up to the end of the failing step, as far as `until`, covers a failing minute
       pub next_skips_none :
-          (j : ℕ) → s ≤ j → j < get_or p.at (r.step + 1) 0 → j < until → FailsBelow (fits_in p y a) a.time j until
+          (j : ℕ) → s ≤ j → j < get_or (minutes_of p) (m.step + 1) 0 → j < until → FailsBelow (fits_in p y a) a.time j until
       next_skips_none j low high below =
           ⊎_elim
           (λ c.
@@ -109,16 +116,16 @@ module _ {p : Profile} {y : Limits} {a : Draw} {start until i s : ℕ} (can : Ca
           (below_or_not stops.minute j)
 
       pub fitting_on :
-          {k u : ℕ} → k ≡ r.step + 1 → u ≡ min (get_or p.at (r.step + 1) 0) until → Fitting p y a start until k u
+          {k u : ℕ} → k ≡ m.step + 1 → u ≡ min (get_or (minutes_of p) (m.step + 1) 0) until → Fitting p y a start until k u
       fitting_on {k} {u} ek eu =
-          let next : stops.minute < get_or p.at (r.step + 1) 0 = inside.later (r.step + 1) (omega arith) fitting_below in
-          let last = rising_le p.at p.steps can.can.formed.rises (r.step + 1) (p.steps - 1) (omega (arith, fitting_below)) (omega (arith, fitting_below)) in
+          let next : stops.minute < get_or (minutes_of p) (m.step + 1) 0 = inside.later (m.step + 1) (omega arith) fitting_below in
+          let last = rising_le (minutes_of p) (length p) can.can.formed.rises (m.step + 1) (length p - 1) (omega (arith, fitting_below)) (omega (arith, fitting_below)) in
           record {
             low = omega (arith, w.low, stops.first.low, stops.first.high);
             high = omega (arith, last);
             here = λ c.
-                let q : u ≡ get_or p.at (r.step + 1) 0 = omega (arith, can.some) in
-                rw (ek, q) (at_step p.at p.steps (r.step + 1) can.can.formed.rises fitting_below);
+                let q : u ≡ get_or (minutes_of p) (m.step + 1) 0 = omega (arith, can.some) in
+                rw (ek, q) (at_step (minutes_of p) (length p) (m.step + 1) can.can.formed.rises fitting_below);
             failed = λ j c d.
                 ⊎_elim (λ b. w.failed j c b) (λ b. next_skips_none j b (omega arith) (omega arith)) (below_or_not j s);
           }
@@ -142,11 +149,4 @@ module _ {p : Profile} (y : Limits) (a : Draw) {start r : ℕ} (can : CanStart p
       failed = λ s c d. let x = h.0.failed s c d in record { minute = x.minute; low = x.low; high = x.high; fails = x.fails };
     },
     omega (arith, h.1),
-  )
-
-  -- a charge of no minutes
-  pub none_least : a.time < 1 → r ≡ start → Least (fits_in p y a) a.time start r × (r ≤ last_minute p)
-  none_least none same = (
-    record { low = omega arith; passes = λ t c d. absurd (omega arith); failed = λ s c d. absurd (omega arith) },
-    omega arith,
   )

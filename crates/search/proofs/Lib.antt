@@ -1,3 +1,5 @@
+pub mod Places
+pub mod Walks
 pub mod Rooms
 pub mod Sounds
 pub mod Within

@@ -1,130 +1,89 @@
 -- Caps as lists of minutes, and a cap lowered.
-use Prim.Native.Nat.{ℕ, ◌+◌, ◌-◌, ◌*◌, ◌≤◌, ◌<◌, min}
+use Prim.Native.Nat.{ℕ, ◌+◌, ◌-◌, ◌≤◌, ◌<◌, min}
 use mathlib.Core.Path.{◌≡◌, refl, sym, ◌∙◌, ap, subst}
-use mathlib.Core.Bool.{Bool, cond, true≢false}
-use mathlib.Core.List.{List}
+use mathlib.Core.Bool.{Bool, true, false, cond, true≢false}
+use mathlib.Core.List.{List, ◌++◌}
 use mathlib.Core.Logic.{◌⊎◌, inl, inr, ⊎_elim}
 use native.Mathlib.Omega.{arith}
 use borrow.Author.Tests.{lt-ltb, le-ltb, lt-leb, le-leb, eq-eqb, ne_eqb}
-use lib.Dec.{ltb, leb}
-use lib.ListN.{length, get_or, set, length-set, get_or-eq_default}
+use lib.Dec.{ltb, leb, eqb}
+use lib.ListN.{length, get_or, set, take, drop, replicate, length-set, get_or-eq_default}
 use lib.Seq.{get_or-set_same, get_or-set_other}
+use Rattle.std.proofs.lemmas.List.{get_or_append_left, get_or-append_right, get_or-drop, get_or-replicate, length-replicate, length-take}
 use Rattle.rules.specs.Load.{IsLine}
 use Rattle.rules.specs.Search.{Caps}
 use Rattle.rules.specs.Replan.{lowered}
 use Rattle.rules.proofs.Ranges.{below_or_not}
-use Rattle.profile.specs.Steps.{columns, line_in}
 use Rattle.profile.proofs.Levels.{same_or_not}
+use Rattle.profile.proofs.Lines.{each_line}
 use Rattle.search.specs.Rooms.{has_room}
-use Rattle.search.specs.Caps.{cap_places, caps_of, CapsShown, Unlowered, Lowered, CapLowered, LoweredAt, Whole, CanCap}
+use Rattle.search.specs.Caps.{list_of, caps_of, CapsShown, Unlowered, Lowered, CapLowered, LoweredAt, CanCap}
 use Rattle.search.specs.declared.caps.LineCaps.{LineCaps}
 use Rattle.search.proofs.Rooms.{room_before, room_after, room_cond}
 
-pub past_end : (a : List ℕ) (l k : ℕ) → length a ≡ columns * cap_places → IsLine l → cap_places ≤ k → line_in a l k ≡ 0
-past_end a l k h hl j = get_or-eq_default a 0 (omega (arith, hl.low))
-
--- the number of a line at a place
-pub place_read : (a : List ℕ) (l k : ℕ) {p x : ℕ} → x ≡ get_or a p 0 → p ≡ columns * k + l - 1 → x ≡ line_in a l k
-place_read a l k e same = e ∙ ap (λ (p : ℕ). get_or a p 0) same
-
 -- A cap in every minute
 
-pub unlowered_none : (a : List ℕ) → length a ≡ columns * cap_places → ((k : ℕ) → k < columns * cap_places → get_or a k 0 ≡ 0) → Unlowered 0 a
-unlowered_none a h z =
+-- n of the m places are filled, and the others have room for nothing
+pub unlowered_filled :
+    {n k v : ℕ} (m : ℕ) {front : List ℕ} → k ≤ m → k ≡ n → v ≡ 4294967295 → front ≡ replicate (length (take k (replicate {A = ℕ} m 0))) v
+    → Unlowered n (front ++ drop k (replicate {A = ℕ} m 0))
+unlowered_filled {n} {k} {v} m {front} few same top e =
     record {
-      size = h;
-      each = λ k.
-          ⊎_elim (λ b. z k b) (λ b. get_or-eq_default a 0 (omega arith)) (below_or_not k (columns * cap_places))
-          ∙ sym (ap (λ (b : Bool). cond b 4294967295 0) (le-ltb k 0 (omega arith)));
-    }
-
-pub unlowered_more : {a : List ℕ} {n v : ℕ} → Unlowered n a → n < columns * cap_places → v ≡ 4294967295 → Unlowered (n + 1) (set a n v)
-unlowered_more {a} {n} {v} w h e =
-    record {
-      size = length-set a n v ∙ w.size;
-      each = λ k.
+      each = λ i.
           ⊎_elim
-          (λ q.
-          rw q
-          (get_or-set_same a n v 0 (omega (arith, w.size)) ∙ e
-          ∙ sym (ap (λ (b : Bool). cond b 4294967295 0) (lt-ltb n (n + 1) (omega arith)))))
-          (λ ne.
-          get_or-set_other a n k v 0 ne ∙ w.each k
-          ∙ ap (λ (b : Bool). cond b 4294967295 0) (same k ne (below_or_not k n)))
-          (same_or_not k n);
+          (λ b.
+          get_or_append_left front (drop k zeros) 0 i (omega (arith, size)) ∙ filled i (omega arith)
+          ∙ sym (ap (λ (t : Bool). cond t 4294967295 0) (lt-ltb i n b)))
+          (λ b.
+          get_or-append_right front (drop k zeros) k i 0 size (omega arith) ∙ get_or-drop k zeros (i - k) 0 ∙ none (k + (i - k))
+          ∙ sym (ap (λ (t : Bool). cond t 4294967295 0) (le-ltb i n b)))
+          (below_or_not i n);
     }
   where
-    same : (k : ℕ) → (k ≡ n → ⊥) → (k < n) ⊎ (n ≤ k) → ltb k n ≡ ltb k (n + 1)
-    same k ne (inl b) = lt-ltb k n b ∙ sym (lt-ltb k (n + 1) (omega arith))
-    same k ne (inr b) = le-ltb k n b ∙ sym (le-ltb k (n + 1) (omega (arith, ne)))
+    zeros : List ℕ
+    zeros = replicate m 0
 
-pub unlowered_shown : (c : LineCaps) (n : ℕ) {m : ℕ} → Unlowered m c.caps → m ≡ columns * (n + 1) → CapsShown c (λ l t. n)
-unlowered_shown c n {m} w e =
+    none : (i : ℕ) → get_or zeros i 0 ≡ 0
+    none i = ⊎_elim (λ b. get_or-replicate m i 0 0 b) (λ b. get_or-eq_default zeros 0 (omega (arith, length-replicate {A = ℕ} m 0))) (below_or_not i m)
+
+    taken : length (take k zeros) ≡ k
+    taken = omega (arith, length-take k zeros, length-replicate {A = ℕ} m 0)
+
+    size : length front ≡ k
+    size = ap length e ∙ length-replicate (length (take k zeros)) v ∙ taken
+
+    filled : (i : ℕ) → i < k → get_or front i 0 ≡ 4294967295
+    filled i b = rw e (get_or-replicate (length (take k zeros)) i v 0 (omega (arith, taken)) ∙ top)
+
+pub unlowered_shown :
+    (a : List ℕ) (site n : ℕ) {m : ℕ} → Unlowered m a → m ≡ n + 1 → CapsShown (record { one = a; two = a; three = a; site = site }) site (λ l t. n)
+unlowered_shown a site n {m} w e =
     record {
-      size = w.size;
+      within = refl;
       rooms = λ l h k t.
-          ap (λ (x : ℕ). has_room x t) (w.each (columns * k + l - 1) ∙ ap (λ (b : Bool). cond b 4294967295 0) (same l h k (below_or_not n k))) ∙ room_cond (leb k n) t;
+          ap (λ (x : ℕ). has_room x t) (same l k ∙ w.each k ∙ ap (λ (b : Bool). cond b 4294967295 0) (test k (below_or_not n k))) ∙ room_cond (leb k n) t;
     }
   where
-    same : (l : ℕ) → IsLine l → (k : ℕ) → (n < k) ⊎ (k ≤ n) → ltb (columns * k + l - 1) m ≡ leb k n
-    same l h k (inl b) = le-ltb (columns * k + l - 1) m (omega (arith, h.low, h.high)) ∙ sym (lt-leb k n b)
-    same l h k (inr b) = lt-ltb (columns * k + l - 1) m (omega (arith, h.low, h.high)) ∙ sym (le-leb k n b)
+    same : (l k : ℕ) → get_or (cond (eqb l 1) a (cond (eqb l 2) a a)) k 0 ≡ get_or a k 0
+    same l k = either (eqb l 1) (eqb l 2)
+      where
+        either : (x y : Bool) → get_or (cond x a (cond y a a)) k 0 ≡ get_or a k 0
+        either true y = refl
+        either false true = refl
+        either false false = refl
 
--- A line of the list lowered
+    test : (k : ℕ) → (n < k) ⊎ (k ≤ n) → ltb k m ≡ leb k n
+    test k (inl b) = le-ltb k m (omega arith) ∙ sym (lt-leb k n b)
+    test k (inr b) = lt-ltb k m (omega arith) ∙ sym (le-leb k n b)
 
-pub record Lowering (a b : List ℕ) (line v t k : ℕ) : Type 0 where
-  pub low : v ≤ k
-  pub size : length b ≡ columns * cap_places
-  pub before : (m : ℕ) → m < v → line_in b line m ≡ line_in a line m
-  pub between : (m : ℕ) → v ≤ m → m < k → line_in b line m ≡ min (line_in a line m) t
-  pub after : (m : ℕ) → k ≤ m → line_in b line m ≡ line_in a line m
-  pub other : (l : ℕ) → IsLine l → (l ≡ line → ⊥) → (m : ℕ) → line_in b l m ≡ line_in a l m
+-- A list lowered
 
-pub lowering_none : (a : List ℕ) (line v t : ℕ) → length a ≡ columns * cap_places → Lowering a a line v t v
-lowering_none a line v t h =
-    record {
-      low = omega arith;
-      size = h;
-      before = λ m b. refl;
-      between = λ m b c. absurd (omega arith);
-      after = λ m b. refl;
-      other = λ l hl ne m. refl;
-    }
-
-pub lowering_more :
-    {a b : List ℕ} {line v t k x p : ℕ} → Lowering a b line v t k → IsLine line → k < cap_places → p ≡ columns * k + line - 1 → x ≡ min (get_or b p 0) t →
-    Lowering a (set b p x) line v t (k + 1)
-lowering_more {a} {b} {line} {v} {t} {k} {x} {p} w hl h ep e =
-    record {
-      low = omega (arith, w.low);
-      size = length-set b p x ∙ w.size;
-      before = λ m c. get_or-set_other b p (columns * m + line - 1) x 0 (λ q. omega (arith, w.low, hl.low)) ∙ w.before m c;
-      between = λ m c d.
-          ⊎_elim
-          (λ q.
-          let pl : columns * m + line - 1 ≡ p = omega arith in
-          rw pl (get_or-set_same b p x 0 inside ∙ e ∙ ap (λ (y : ℕ). min y t) here))
-          (λ ne. get_or-set_other b p (columns * m + line - 1) x 0 (λ q. ne (omega (arith, hl.low))) ∙ w.between m c (omega (arith, ne)))
-          (same_or_not m k);
-      after = λ m c. get_or-set_other b p (columns * m + line - 1) x 0 (λ q. omega (arith, hl.low)) ∙ w.after m (omega arith);
-      other = λ l j ne m. get_or-set_other b p (columns * m + l - 1) x 0 (λ q. ne (omega (arith, hl.low, hl.high, j.low, j.high))) ∙ w.other l j ne m;
-    }
-  where
-    inside : p < length b
-    inside = omega (arith, w.size, hl.low, hl.high)
-
-    here : get_or b p 0 ≡ get_or a p 0
-    here = rw ep (w.after k (omega arith))
-
-pub lowering_done : {a b : List ℕ} {line v t k : ℕ} → Lowering a b line v t k → IsLine line → length a ≡ columns * cap_places → cap_places ≤ k → Lowered a b line t v
-lowering_done {a} {b} {line} {v} {t} {k} w hl h j =
-    record {
-      size = w.size;
-      before = w.before;
-      after = λ m c.
-          ⊎_elim (λ d. w.between m c d) (λ d. omega (arith, w.after m d, past_end a line m h hl (omega arith))) (below_or_not m k);
-      other = w.other;
-    }
+-- b is a with the places from v up to k at most t
+pub record Lowering (a b : List ℕ) (v t k : ℕ) : Type 0 where
+  pub size : length b ≡ length a
+  pub before : (m : ℕ) → m < v → get_or b m 0 ≡ get_or a m 0
+  pub between : (m : ℕ) → v ≤ m → m < k → get_or b m 0 ≡ min (get_or a m 0) t
+  pub after : (m : ℕ) → k ≤ m → get_or b m 0 ≡ get_or a m 0
 
 -- The cap of a line lowered
 
@@ -138,32 +97,60 @@ smaller_room p t u h =
     kept : p ≤ u → min p t ≡ p
     kept a = omega arith
 
-pub caps_other : (c : LineCaps) (line t v : ℕ) → Whole c → (IsLine line → ⊥) → CapLowered c c line t v
-caps_other c line t v size not = record { size = size; gone = λ h. absurd (not h); kept = λ l h k u n. refl }
-
-pub caps_lowered : {c d : LineCaps} {line t v on above : ℕ} → t < 4294967295 → Lowered c.caps d.caps on t above → on ≡ line → above ≡ v + 1 → CapLowered c d line t v
-caps_lowered {c} {d} {line} {t} {v} small done same next =
+-- line `line` is lowered from `above` on, the others stay
+pub caps_lowered :
+    {c d : LineCaps} {line t v above : ℕ} → t < 4294967295 → d.site ≡ c.site → Lowered (list_of c line) (list_of d line) t above
+    → ((l : ℕ) → IsLine l → (l ≡ line → ⊥) → list_of d l ≡ list_of c l) → above ≡ v + 1 → CapLowered c d line t v
+caps_lowered {c} {d} {line} {t} {v} small site done others next =
     record {
-      size = x.size;
+      same_site = site;
       gone = λ h k u a b. ap (λ (y : ℕ). has_room y u) (x.after k (omega arith)) ∙ room_after (min (caps_of c line k) t) u (omega arith) (omega arith);
       kept = λ l h k u n.
           ⊎_elim
           (λ e. rw e (own k u (λ a b. n e a b) (below_or_not v k) (below_or_not u t)))
-          (λ ne. ap (λ (y : ℕ). has_room y u) (x.other l h ne k))
+          (λ ne. ap (λ (y : List ℕ). has_room (get_or y k 0) u) (others l h ne))
           (same_or_not l line);
     }
   where
-    x : Lowered c.caps d.caps line t (v + 1)
-    x = rw (← same, ← next) done
+    x : Lowered (list_of c line) (list_of d line) t (v + 1)
+    x = rw (← next) done
 
     own : (k u : ℕ) → (v < k → t ≤ u → ⊥) → (v < k) ⊎ (k ≤ v) → (u < t) ⊎ (t ≤ u) → has_room (caps_of d line k) u ≡ has_room (caps_of c line k) u
     own k u n (inr a) b = ap (λ (y : ℕ). has_room y u) (x.before k (omega arith))
     own k u n (inl a) (inl b) = ap (λ (y : ℕ). has_room y u) (x.after k (omega arith)) ∙ smaller_room (caps_of c line k) t u b
     own k u n (inl a) (inr b) = absurd (n a b)
 
+-- the line that is lowered is one of three
+pub lowered_one :
+    {c : LineCaps} {b : List ℕ} {line t v above : ℕ} → t < 4294967295 → Lowered c.one b t above → line ≡ 1 → above ≡ v + 1
+    → CapLowered c (record { one = b; two = c.two; three = c.three; site = c.site }) line t v
+lowered_one small done e next =
+    rw e
+    (caps_lowered small refl done
+    (each_line _ (λ ne. absurd (ne refl)) (λ ne. refl) (λ ne. refl))
+    next)
+
+pub lowered_two :
+    {c : LineCaps} {b : List ℕ} {line t v above : ℕ} → t < 4294967295 → Lowered c.two b t above → line ≡ 2 → above ≡ v + 1
+    → CapLowered c (record { one = c.one; two = b; three = c.three; site = c.site }) line t v
+lowered_two small done e next =
+    rw e
+    (caps_lowered small refl done
+    (each_line _ (λ ne. refl) (λ ne. absurd (ne refl)) (λ ne. refl))
+    next)
+
+pub lowered_three :
+    {c : LineCaps} {b : List ℕ} {line t v above : ℕ} → t < 4294967295 → Lowered c.three b t above → line ≡ 3 → above ≡ v + 1
+    → CapLowered c (record { one = c.one; two = c.two; three = b; site = c.site }) line t v
+lowered_three small done e next =
+    rw e
+    (caps_lowered small refl done
+    (each_line _ (λ ne. refl) (λ ne. refl) (λ ne. absurd (ne refl)))
+    next)
+
 -- whatever caps c shows, d shows them lowered
 pub lowered_shows : {c d : LineCaps} {line t v : ℕ} → CapLowered c d line t v → LoweredAt c d line t v
-lowered_shows {c} {d} {line} {t} {v} x cap s = record { size = x.size; rooms = λ l h k u. room l h k u (same_or_not l line) }
+lowered_shows {c} {d} {line} {t} {v} x site cap s = record { within = x.same_site ∙ s.within; rooms = λ l h k u. room l h k u (same_or_not l line) }
   where
     smaller : (m k : ℕ) → k ≤ v → (m < k) ⊎ (k ≤ m) → leb k m ≡ leb k (min m v)
     smaller m k a (inl b) = lt-leb k m b ∙ sym (lt-leb k (min m v) (omega arith))
@@ -181,10 +168,9 @@ lowered_shows {c} {d} {line} {t} {v} x cap s = record { size = x.size; rooms = �
     room l h k u (inr ne) = x.kept l h k u (λ e f g. ne e) ∙ s.rooms l h k u ∙ rw (ne_eqb l line ne) refl
 
 -- caps that are never below the rate meet what a search for a start asks
-pub can_cap : (c : LineCaps) (cap : Caps) (site l rate : ℕ) → CapsShown c cap → IsLine l → ((t : ℕ) → rate ≤ cap l t) → rate ≤ site → CanCap c site l rate
-can_cap c cap site l rate s h enough within =
+pub can_cap : (c : LineCaps) (site : ℕ) (cap : Caps) (l rate : ℕ) → CapsShown c site cap → IsLine l → ((t : ℕ) → rate ≤ cap l t) → rate ≤ site → CanCap c l rate
+can_cap c site cap l rate s h enough within =
     record {
-      size = s.size;
       some =
           ⊎_elim
           (λ a.
@@ -194,5 +180,5 @@ can_cap c cap site l rate s h enough within =
           ∙ room_after (caps_of c l rate) 4294967295 a (omega arith))))
           (λ a. a)
           (below_or_not (caps_of c l rate) 4294967295);
-      within_site_lem = within;
+      within_site_lem = omega (arith, s.within);
     }

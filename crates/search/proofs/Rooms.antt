@@ -1,19 +1,20 @@
--- Room in a minute, walks over the steps, and the search over the answers of `first_failing`.
+-- Room in a minute, the walk up to the first minute without room, and the search over the answers of `first_failing`.
 use Prim.Native.Nat.{ℕ, ◌+◌, ◌-◌, ◌^◌, ◌≤◌, ◌<◌, max}
 use mathlib.Core.Path.{◌≡◌, refl, sym, ◌∙◌, ap, subst}
 use mathlib.Core.Bool.{Bool, true, false, cond, ◌||◌, or-true, true≢false}
-use mathlib.Core.List.{List}
 use mathlib.Core.Logic.{⊎_elim}
 use native.Mathlib.Omega.{arith}
 use borrow.Author.Tests.{lt-ltb, le-ltb, le-leb, lt-leb}
 use lib.Dec.{ltb}
-use lib.ListN.{get_or}
+use lib.ListN.{length, get_or}
+use Rattle.std.specs.Prelude.{Option, Some, None}
 use Rattle.rules.proofs.Ranges.{below_or_not}
-use Rattle.profile.specs.Steps.{In, Rising}
+use Rattle.profile.specs.Steps.{minutes_of, In, Rising}
+use Rattle.profile.specs.Shows.{Profile, last_minute}
+use Rattle.profile.proofs.Levels.{at_step, in_more, rising_le}
 use Rattle.search.specs.Rooms.{has_room, End, FailsAt, FirstFailing, Misses, Least}
 use Rattle.search.specs.declared.walk.Failing.{Failing}
-use Rattle.search.specs.declared.walk.Failing.TheVariants.{At, Nothing}
-use Rattle.profile.proofs.Levels.{at_step, in_more, rising_le}
+use Rattle.search.proofs.Walks.{Walk, walk_inside, walk_passed, walk_on}
 
 -- Room
 
@@ -36,105 +37,80 @@ room_cond false t = room_after 0 t (omega arith) (omega arith)
 
 -- The walk
 
--- every minute before t passes the test, and t lies in step i unless all has been looked at
-pub record Walk (f : ℕ → Bool) (ats : List ℕ) (n from until i t : ℕ) : Type 0 where
-  pub low : from ≤ t
-  pub here : t < until → In ats n i t
-  pub passed : (v : ℕ) → from ≤ v → v < t → f v ≡ true
-
-pub walk_start : (f : ℕ → Bool) {ats : List ℕ} {n from until i : ℕ} → In ats n i from → Walk f ats n from until i from
-walk_start f h = record { low = omega arith; here = λ l. h; passed = λ v a b. absurd (omega arith) }
-
--- in step i there is room up to, and without, the minute `room`
-module _ {f : ℕ → Bool} {ats : List ℕ} {n from until i t end m : ℕ} (room : ℕ) (r : Rising ats n)
-    (same : (v : ℕ) → In ats n i v → f v ≡ has_room room v) (w : Walk f ats n from until i t) (more : t < until)
-    (e : End ats n i until end) (top : m ≡ max t room) where
-  inside : (v : ℕ) → t ≤ v → v < end → In ats n i v
-  inside v a b = in_more v r (w.here more) a (λ h. omega (arith, e.within h))
-
-  passed_here : (v : ℕ) → from ≤ v → v < m → v < end → f v ≡ true
-  passed_here v a b d =
-      ⊎_elim
-      (λ c. w.passed v a c)
-      (λ c. same v (inside v c d) ∙ room_before room v (omega arith))
-      (below_or_not v t)
-
+-- in step i, whose minutes are looked at from t on, there is room up to, and without, the minute `room`
+module _ {f : ℕ → Bool} {p : Profile} {from until step i end m : ℕ} (room : ℕ) (r : Rising (minutes_of p) (length p))
+    (same : (v : ℕ) → In (minutes_of p) (length p) i v → f v ≡ has_room room v) (w : Walk f p from until step i)
+    (t : ℕ) (begins : t ≡ max (get_or (minutes_of p) i 0) from) (below : i < length p) (more : t < until) (e : End p i until end)
+    (top : m ≡ max t room) where
   -- it fails in this step
-  pub walk_fails : until < 2 ^ 32 → m < end → FailsAt f ats n from until m i
+  pub walk_fails : until < 2 ^ 32 → m < end → FailsAt f p from until m i
   walk_fails small h =
       record {
-        low = omega (arith, w.low);
+        low = omega arith;
         high = omega (arith, e.most);
-        passed = λ v a b. passed_here v a b (omega arith);
+        passed = λ v a b.
+            ⊎_elim
+            (λ c. walk_passed r w t begins v a (omega (arith, e.most)) c)
+            (λ c. same v (inside v c (omega arith)) ∙ room_before room v (omega arith))
+            (below_or_not v t);
         inside = inside m (omega arith) h;
         fails = λ v a b. same v b ∙ room_after room v (omega (arith, e.most)) (omega arith);
       }
+    where
+      inside : (v : ℕ) → t ≤ v → v < end → In (minutes_of p) (length p) i v
+      inside v a b = in_more v r (walk_inside r w t begins below) a (λ h. omega (arith, e.within h))
 
   -- it does not
-  pub walk_on : {x : ℕ} → end ≤ m → x ≡ end → Walk f ats n from until (i + 1) x
-  walk_on h ex =
-      rw ex
-      (record {
-        low = ⊎_elim (λ c. absurd (back c)) (λ c. omega (arith, w.low)) (below_or_not end t);
-        here = λ c.
-            let k = e.next c in
-            subst (λ (x : ℕ). In ats n (i + 1) x) (sym k.1) (at_step ats n (i + 1) r k.0);
-        passed = λ v a b. passed_here v a (omega arith) b;
-      })
-    where
-      back : end < t → ⊥
-      back c =
-          let k = e.next (omega arith) in
-          omega (arith, (w.here more).later (i + 1) (omega arith) k.0, k.1)
+  pub walk_rooms : {k : ℕ} → end ≤ m → k ≡ i + 1 → Walk f p from until step k
+  walk_rooms h next =
+      walk_on r w t begins below next
+      (λ v a b c.
+      same v c
+      ∙ room_before room v
+      (⊎_elim
+      (λ d. let k = e.next d in omega (arith, c.later (i + 1) (omega arith) k.0, k.1))
+      (λ d. omega arith)
+      (below_or_not end until)))
 
 -- what an answer says
 pub told_at :
-    (f : ℕ → Bool) (ats : List ℕ) (n from until : ℕ) (r : Failing) (m i : ℕ) → FirstFailing f ats n from until r → r ≡ At m i → FailsAt f ats n from until m i
-told_at f ats n from until r m i h e = subst (λ (r : Failing). FirstFailing f ats n from until r) e h
+    (f : ℕ → Bool) (p : Profile) (from until : ℕ) (r : Option Failing) (x : Failing) → FirstFailing f p from until r → r ≡ Some x
+    → FailsAt f p from until x.minute x.step
+told_at f p from until r x h e = subst (λ (r : Option Failing). FirstFailing f p from until r) e h
 
 pub told_nothing :
-    (f : ℕ → Bool) (ats : List ℕ) (n from until : ℕ) (r : Failing) → FirstFailing f ats n from until r → r ≡ Nothing →
-    (t : ℕ) → from ≤ t → t < until → f t ≡ true
-told_nothing f ats n from until r h e = subst (λ (r : Failing). FirstFailing f ats n from until r) e h
+    (f : ℕ → Bool) (p : Profile) (from until : ℕ) (r : Option Failing) → FirstFailing f p from until r → r ≡ None → (t : ℕ) → from ≤ t → t < until
+    → f t ≡ true
+told_nothing f p from until r h e = subst (λ (r : Option Failing). FirstFailing f p from until r) e h
 
 -- The search
 
 -- no start below s will do
-pub record Seek (f : ℕ → Bool) (ats : List ℕ) (n time start i s : ℕ) : Type 0 where
+pub record Seek (f : ℕ → Bool) (p : Profile) (time start i s : ℕ) : Type 0 where
   pub low : start ≤ s
-  pub high : s ≤ get_or ats (n - 1) 0
-  pub here : In ats n i s
+  pub high : s ≤ last_minute p
+  pub here : In (minutes_of p) (length p) i s
   pub failed : (j : ℕ) → start ≤ j → j < s → Misses f time j
 
-pub seek_start :
-    (f : ℕ → Bool) {ats : List ℕ} {n : ℕ} (time : ℕ) {start i : ℕ} → start ≤ get_or ats (n - 1) 0 → In ats n i start → Seek f ats n time start i start
-seek_start f time high h = record { low = omega arith; high = high; here = h; failed = λ j a b. absurd (omega arith) }
-
 -- in the last step every minute passes the test, and of those from s on minute m of step k fails it
-module _ {f : ℕ → Bool} {ats : List ℕ} {n time start i s until m k : ℕ} (r : Rising ats n)
-    (rests : (t : ℕ) → In ats n (n - 1) t → f t ≡ true) (w : Seek f ats n time start i s) (h : FailsAt f ats n s until m k) where
-  pub seek_below : k + 1 < n
-  seek_below = ⊎_elim (λ a. a) (λ a. absurd (true≢false (last a))) (below_or_not (k + 1) n)
+module _ {f : ℕ → Bool} {p : Profile} {time start i s until m k : ℕ} (r : Rising (minutes_of p) (length p))
+    (rests : (t : ℕ) → In (minutes_of p) (length p) (length p - 1) t → f t ≡ true) (w : Seek f p time start i s) (h : FailsAt f p s until m k) where
+  pub seek_below : k + 1 < length p
+  seek_below = ⊎_elim (λ a. a) (λ a. absurd (true≢false (last a))) (below_or_not (k + 1) (length p))
     where
-      last : n ≤ k + 1 → true ≡ false
+      last : length p ≤ k + 1 → true ≡ false
       last a =
-          let e : k ≡ n - 1 = omega (arith, h.inside.below) in
-          sym (rests m (subst (λ (x : ℕ). In ats n x m) e h.inside)) ∙ h.fails m (omega arith) h.inside
+          let e : k ≡ length p - 1 = omega (arith, h.inside.below) in
+          sym (rests m (subst (λ (x : ℕ). In (minutes_of p) (length p) x m) e h.inside)) ∙ h.fails m (omega arith) h.inside
 
-  pub seek_order : i ≤ k
-  seek_order =
-      ⊎_elim
-      (λ a. absurd (omega (arith, h.inside.later i a w.here.below, w.here.begun, h.low)))
-      (λ a. a)
-      (below_or_not k i)
-
-  pub seek_on : until ≡ s + time → Seek f ats n time start (k + 1) (get_or ats (k + 1) 0)
-  seek_on all =
-      let next : m < get_or ats (k + 1) 0 = h.inside.later (k + 1) (omega arith) seek_below in
-      record {
-        low = omega (arith, w.low, h.low);
-        high = rising_le ats n r (k + 1) (n - 1) (omega (arith, seek_below)) (omega (arith, seek_below));
-        here = at_step ats n (k + 1) r seek_below;
+  -- the next start is the beginning u of the next step
+  pub seek_on : {j u : ℕ} → until ≡ s + time → j ≡ k + 1 → u ≡ get_or (minutes_of p) (k + 1) 0 → Seek f p time start j u
+  seek_on {j} {u} all next begins =
+      rw (next, begins)
+      (record {
+        low = omega (arith, w.low, h.low, end);
+        high = rising_le (minutes_of p) (length p) r (k + 1) (length p - 1) (omega (arith, seek_below)) (omega (arith, seek_below));
+        here = at_step (minutes_of p) (length p) (k + 1) r seek_below;
         failed = λ j a b.
             ⊎_elim
             (λ x. w.failed j a x)
@@ -149,10 +125,13 @@ module _ {f : ℕ → Bool} {ats : List ℕ} {n time start i s until m k : ℕ} 
             (λ y. record { minute = m; low = y; high = omega (arith, h.high); fails = h.fails m (omega arith) h.inside })
             (below_or_not m j))
             (below_or_not j s);
-      }
+      })
+    where
+      end : m < get_or (minutes_of p) (k + 1) 0
+      end = h.inside.later (k + 1) (omega arith) seek_below
 
 pub seek-done :
-    {f : ℕ → Bool} {ats : List ℕ} {n time start i s until r : ℕ} → Seek f ats n time start i s → r ≡ s → until ≡ s + time →
-    ((t : ℕ) → s ≤ t → t < until → f t ≡ true) → Least f time start r × (r ≤ get_or ats (n - 1) 0)
+    {f : ℕ → Bool} {p : Profile} {time start i s until r : ℕ} → Seek f p time start i s → r ≡ s → until ≡ s + time →
+    ((t : ℕ) → s ≤ t → t < until → f t ≡ true) → Least f time start r × (r ≤ last_minute p)
 seek-done w e all h =
     rw e (record { low = w.low; passes = λ t a b. h t a (omega arith); failed = w.failed }, w.high)

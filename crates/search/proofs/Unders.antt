@@ -6,16 +6,18 @@ use mathlib.Core.List.{List}
 use native.Mathlib.Omega.{arith}
 use borrow.Author.Tests.{le-leb, lt-leb}
 use lib.Dec.{leb}
+use lib.ListN.{length, get_or}
 use Rattle.rules.specs.Basics.{run_of}
 use Rattle.rules.specs.Load.{draw, Load, IsLine, whole_of, counts}
 use Rattle.rules.specs.Search.{Caps, room_for, fits_under}
 use Rattle.rules.proofs.Ranges.{fails, throughout_at}
 use Rattle.rules.proofs.Fitting.{run_is, fits_run_lem}
-use Rattle.profile.specs.Steps.{In, line_in}
-use Rattle.profile.specs.Shows.{Profile, line_of, level_of, levels, first_minute, last_minute, ShowsIn}
+use Rattle.profile.specs.Steps.{minutes_of, counts_of, empty_step, In}
+use Rattle.profile.specs.Shows.{Profile, line_of, level_of, levels, first_minute, last_minute, Shows}
+use Rattle.profile.specs.declared.steps.Step.{Step}
 use Rattle.profile.proofs.Lines.{line_column}
 use Rattle.profile.proofs.Levels.{level_in}
-use Rattle.search.specs.Rooms.{has_room, counts_of, FailsAt, Misses, Least}
+use Rattle.search.specs.Rooms.{has_room, FailsAt, Misses, Least}
 use Rattle.search.specs.Starts.{CanStart}
 use Rattle.search.specs.Caps.{caps_of, CapsShown, under_in, room_under, CanRun, CanCap, EarliestStartUnder}
 use Rattle.search.specs.declared.caps.LineCaps.{LineCaps}
@@ -24,77 +26,63 @@ use Rattle.search.proofs.Rooms.{room_after, room_always}
 
 -- The room of a step
 
--- by all that is drawn in step i
-module _ (numbers caps : List ℕ) (site line rate i : ℕ) {r : ℕ} where
-  -- the site would pass its limit
-  pub under_none : site < whole_of (counts_of numbers i) + rate → r ≡ 0 → r ≡ under_in numbers caps site line rate i
-  under_none h z =
-      z ∙ sym (ap (λ (b : Bool). cond b (line_in caps line (line_in numbers line i + rate)) 0) (lt-leb (whole_of (counts_of numbers i) + rate) site h))
-
-  -- it would not, and k is the line's count with the load
-  pub under_some : {k : ℕ} → whole_of (counts_of numbers i) + rate ≤ site → k ≡ line_in numbers line i + rate → r ≡ line_in caps line k → r ≡ under_in numbers caps site line rate i
-  under_some h same z =
-      z
-      ∙ ap (line_in caps line) same
-      ∙ sym (ap (λ (b : Bool). cond b (line_in caps line (line_in numbers line i + rate)) 0) (le-leb (whole_of (counts_of numbers i) + rate) site h))
-
 room_and : (b : Bool) (room t : ℕ) → has_room (cond b room 0) t ≡ has_room room t && b
 room_and true room t = sym (and-true (has_room room t))
 room_and false room t = room_after 0 t (omega arith) (omega arith) ∙ sym (and-false (has_room room t))
 
 -- in a step the room is that of its counts
 pub step_room :
-    (p : Profile) (site : ℕ) (c : LineCaps) (line rate i : ℕ) {x : ℕ} → x ≡ under_in p.counts c.caps site line rate i
-    → (v : ℕ) → In p.at p.steps i v → room_under p site c line rate v ≡ has_room x v
-step_room p site c line rate i e v h =
-    ap (λ (x : ℕ). has_room (caps_of c line (x + rate)) v && leb (whole_of (levels p v) + rate) site) (level_in p.at (line_of p line) p.steps i v h)
-    ∙ ap (λ (x : ℕ). has_room (caps_of c line (line_of p line i + rate)) v && leb (x + rate) site)
-    (whole_columns (levels p v) (counts_of p.counts i) (λ l j. level_in p.at (line_of p l) p.steps i v h))
-    ∙ sym (room_and (leb (whole_of (counts_of p.counts i) + rate) site) (caps_of c line (line_of p line i + rate)) v)
+    (p : Profile) (c : LineCaps) (line rate i : ℕ) {x : ℕ} → x ≡ under_in c line rate (get_or p i (empty_step 0))
+    → (v : ℕ) → In (minutes_of p) (length p) i v → room_under p c line rate v ≡ has_room x v
+step_room p c line rate i e v h =
+    ap (λ (x : ℕ). has_room (caps_of c line (x + rate)) v && leb (whole_of (levels p v) + rate) c.site)
+    (level_in (minutes_of p) (line_of p line) (length p) i v h)
+    ∙ ap (λ (x : ℕ). has_room (caps_of c line (line_of p line i + rate)) v && leb (x + rate) c.site)
+    (whole_columns (levels p v) (λ l. line_of p l i) (λ l j. level_in (minutes_of p) (line_of p l) (length p) i v h))
+    ∙ sym (room_and (leb (whole_of (λ l. line_of p l i) + rate) c.site) (caps_of c line (line_of p line i + rate)) v)
     ∙ ap (λ (x : ℕ). has_room x v) (sym e)
 
 -- The smallest start
 
-module _ {p : Profile} {site : ℕ} {c : LineCaps} {line time rate : ℕ} (can : CanStart p time) (h : IsLine line) (full : CanCap c site line rate) where
+module _ {p : Profile} {c : LineCaps} {line time rate : ℕ} (can : CanStart p time) (h : IsLine line) (full : CanCap c line rate) where
   -- in the last step one more load is alone
-  pub under_rests : (t : ℕ) → In p.at p.steps (p.steps - 1) t → room_under p site c line rate t ≡ true
-  under_rests t i = step_room p site c line rate (p.steps - 1) alone t i ∙ room_always (caps_of c line rate) t full.some
+  pub under_rests : (t : ℕ) → In (minutes_of p) (length p) (length p - 1) t → room_under p c line rate t ≡ true
+  under_rests t i = step_room p c line rate (length p - 1) alone t i ∙ room_always (caps_of c line rate) t full.some
     where
-      alone : caps_of c line rate ≡ under_in p.counts c.caps site line rate (p.steps - 1)
-      alone =
-          under_some p.counts c.caps site line rate (p.steps - 1)
-          (omega (arith, whole_none (counts_of p.counts (p.steps - 1)) can.empty, full.within_site_lem))
-          (omega (arith, can.empty line (line_column line h))) refl
+      last : ℕ
+      last = length p - 1
 
-  -- the minutes from s on can be looked at
-  pub under_run : {s minutes : ℕ} → first_minute p ≤ s → s ≤ last_minute p → minutes ≤ time → CanRun p c line minutes s
-  under_run low high short =
-      record { formed = can.formed; whole = full.size; on_line = h; low = low; ends_fit = omega (arith, can.ends_fit) }
+      alone : caps_of c line rate ≡ under_in c line rate (get_or p last (empty_step 0))
+      alone =
+          ap (caps_of c line) (omega (arith, can.empty line (line_column line h)))
+          ∙ sym
+          (ap (λ (b : Bool). cond b (caps_of c line (line_of p line last + rate)) 0)
+          (le-leb (whole_of (λ l. line_of p l last) + rate) c.site (omega (arith, whole_none (λ l. line_of p l last) can.empty, full.within_site_lem))))
 
 -- the search began with the smaller one of `from` and the last change
 pub under_earliest :
-    {p : Profile} {site : ℕ} {c : LineCaps} {line time rate : ℕ} (from : ℕ) {start r : ℕ} → start ≡ min from (last_minute p)
-    → Least (room_under p site c line rate) time start r × (r ≤ last_minute p) → EarliestStartUnder p site c line time rate (min from (last_minute p)) r
+    {p : Profile} {c : LineCaps} {line time rate : ℕ} (from : ℕ) {start r : ℕ} → start ≡ min from (last_minute p)
+    → Least (room_under p c line rate) time start r × (r ≤ last_minute p) → EarliestStartUnder p c line time rate (min from (last_minute p)) r
 under_earliest from cut m = rw (← cut) (record { least = m.0; high = m.1 })
 
 -- The run of minutes with room
 
-module _ (p : Profile) (site : ℕ) (c : LineCaps) (line rate most : ℕ) {from until : ℕ} (ends : until ≡ from + most) where
+module _ (p : Profile) (c : LineCaps) (line rate most : ℕ) {from until : ℕ} (ends : until ≡ from + most) where
   pub run_ends :
-      {r : ℕ} → ((t : ℕ) → from ≤ t → t < until → room_under p site c line rate t ≡ true) → r ≡ most
-      → r ≡ run_of (room_under p site c line rate) most from
+      {r : ℕ} → ((t : ℕ) → from ≤ t → t < until → room_under p c line rate t ≡ true) → r ≡ most
+      → r ≡ run_of (room_under p c line rate) most from
   run_ends w e =
       e
       ∙ sym
-      (run_is (room_under p site c line rate) most from most
+      (run_is (room_under p c line rate) most from most
       (record { high = omega arith; passes = λ t a b. w t a (omega arith); stops = λ l. absurd (omega arith) }))
 
   pub run_fails :
-      {i m r : ℕ} → FailsAt (room_under p site c line rate) p.at p.steps from until m i → r ≡ m - from
-      → r ≡ run_of (room_under p site c line rate) most from
+      {i m r : ℕ} → FailsAt (room_under p c line rate) p from until m i → r ≡ m - from
+      → r ≡ run_of (room_under p c line rate) most from
   run_fails {i} {m} {r} w e =
       sym
-      (run_is (room_under p site c line rate) most from r
+      (run_is (room_under p c line rate) most from r
       (record {
         high = omega (arith, w.high);
         passes = λ t a b. w.passed t a (omega (arith, w.low));
@@ -107,11 +95,12 @@ pub run_same : (f g : ℕ → Bool) (k a : ℕ) → ((t : ℕ) → a ≤ t → f
 run_same f g zero a h = refl
 run_same f g (suc k) a h = rw (h a (omega arith), run_same f g k (suc a) (λ t i. h t (omega arith)))
 
-module _ {size : ℕ} {p : Profile} {c : LineCaps} {line : ℕ} (h : IsLine line) {clock : ℕ} {xs : List Load} {cap : Caps} (s : ShowsIn size p clock xs)
-    (w : CapsShown c cap) (site rate : ℕ) where
-  room_shows : (t : ℕ) → clock ≤ t → room_under p site c line rate t ≡ room_for site cap xs line rate t
+module _ {p : Profile} {c : LineCaps} {line : ℕ} (h : IsLine line) {clock : ℕ} {xs : List Load} {site : ℕ} {cap : Caps} (s : Shows p clock xs)
+    (w : CapsShown c site cap) (rate : ℕ) where
+  room_shows : (t : ℕ) → clock ≤ t → room_under p c line rate t ≡ room_for site cap xs line rate t
   room_shows t a =
-      ap (λ (b : Bool). b && leb (whole_of (levels p t) + rate) site) (w.rooms line h (level_of p line t + rate) t)
+      ap (λ (x : ℕ). has_room (caps_of c line (level_of p line t + rate)) t && leb (whole_of (levels p t) + rate) x) w.within
+      ∙ ap (λ (b : Bool). b && leb (whole_of (levels p t) + rate) site) (w.rooms line h (level_of p line t + rate) t)
       ∙ ap (λ (x : ℕ). leb (x + rate) (cap line t) && leb (whole_of (levels p t) + rate) site) (s.counted line (line_column line h) t a)
       ∙ ap (λ (x : ℕ). leb (counts xs t line + rate) (cap line t) && leb (x + rate) site)
       (whole_columns (levels p t) (counts xs t) (λ l j. s.counted l j t a))
@@ -119,14 +108,14 @@ module _ {size : ℕ} {p : Profile} {c : LineCaps} {line : ℕ} (h : IsLine line
   -- a charge fits exactly when it is no longer than the run
   pub run_shows :
       (time most from : ℕ) → clock ≤ from → time ≤ most
-      → fits_under site cap xs (draw line time rate) from ≡ leb time (run_of (room_under p site c line rate) most from)
+      → fits_under site cap xs (draw line time rate) from ≡ leb time (run_of (room_under p c line rate) most from)
   run_shows time most from low enough =
       fits_run_lem site cap xs (draw line time rate) most from enough
       ∙ ap (leb time)
-      (run_same (room_for site cap xs line rate) (room_under p site c line rate) most from (λ t a. sym (room_shows t (omega arith))))
+      (run_same (room_for site cap xs line rate) (room_under p c line rate) most from (λ t a. sym (room_shows t (omega arith))))
 
   -- it does not fit where one of its minutes has no room
-  pub misses_fails : (time u : ℕ) → clock ≤ u → Misses (room_under p site c line rate) time u → fits_under site cap xs (draw line time rate) u ≡ false
+  pub misses_fails : (time u : ℕ) → clock ≤ u → Misses (room_under p c line rate) time u → fits_under site cap xs (draw line time rate) u ≡ false
   misses_fails time u a x =
       fails (fits_under site cap xs (draw line time rate) u)
       (λ e.

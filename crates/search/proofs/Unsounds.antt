@@ -1,117 +1,111 @@
--- The walk of `unsound_minutes` over the steps.
-use Prim.Native.Nat.{ℕ, ◌+◌, ◌-◌, ◌≤◌, ◌<◌, min}
-use mathlib.Core.Path.{◌≡◌, sym, ◌∙◌}
-use mathlib.Core.Bool.{Bool, true, false}
+-- The minutes that are not sound, by the first and the last step that is not.
+use Prim.Native.Nat.{ℕ, ◌+◌, ◌-◌, ◌≤◌, ◌<◌}
+use mathlib.Core.Path.{◌≡◌, refl, sym, ◌∙◌, ap, subst}
+use mathlib.Core.Bool.{Bool, true, false, true≢false}
 use mathlib.Core.List.{[]}
 use mathlib.Core.Logic.{⊎_elim}
 use native.Mathlib.Omega.{arith}
-use lib.ListN.{get_or}
-use Rattle.rules.specs.Load.{sound_counts}
+use lib.ListN.{length, get_or}
+use Rattle.std.specs.Prelude.{Some, None}
 use Rattle.rules.proofs.Ranges.{below_or_not}
 use Rattle.rules.proofs.Counts.{sound_all}
-use Rattle.profile.specs.Shows.{Profile, of_lines, line_of, first_minute, last_minute, Formed}
+use Rattle.rules.specs.Load.{sound_counts}
+use Rattle.profile.specs.Steps.{minutes_of, counts_of, empty_step, In}
+use Rattle.profile.specs.Shows.{Profile, line_of, first_minute, last_minute, Formed}
+use Rattle.profile.specs.declared.steps.Step.{Step}
 use Rattle.profile.proofs.Lines.{line_column, sound_tests}
-use Rattle.profile.proofs.Levels.{at_step, last_step, in_more, step_from, level_test}
+use Rattle.profile.proofs.Levels.{at_step, in_more, rising_le, step_of, step_from, level_test}
 use Rattle.search.specs.Numbers.{limits_beside}
-use Rattle.search.specs.Rooms.{counts_of}
-use Rattle.search.specs.Starts.{EndsEmpty, sound_in, UnsoundWithin}
+use Rattle.search.specs.Starts.{EndsEmpty, sound_in, UnsoundMinutes}
 use Rattle.search.specs.declared.limits.Limits.{Limits}
-use Rattle.search.proofs.Sounds.{whole_none, sound_four}
+use Rattle.search.specs.declared.start.Unsound.{Unsound}
+use Rattle.search.proofs.Places.{FirstAt, LastAt, AllPass}
+use Rattle.search.proofs.Sounds.{whole_none}
 
--- so far as step i, the unsound minutes lie from `first` on and before `end`
-pub record Scanned (p : Profile) (y : Limits) (first end i : ℕ) : Type 0 where
-  pub below : i < p.steps
-  pub low : first_minute p ≤ end
-  pub high : end ≤ get_or p.at i 0
-  pub before : (t : ℕ) → first_minute p ≤ t → t < first → t < get_or p.at i 0 → sound_in p y t ≡ true
-  pub after : (t : ℕ) → end ≤ t → t < get_or p.at i 0 → sound_in p y t ≡ true
-  pub first_fails : first < 4294967295 → (first_minute p ≤ first) × (sound_in p y first ≡ false)
-  pub last_fails : first_minute p < end → sound_in p y (end - 1) ≡ false
+-- a step is sound
+abbrev pub is_sound : Limits → Step → Bool
+is_sound y s = sound_counts (limits_beside y []) (counts_of s)
 
-pub scanned_none : (p : Profile) (y : Limits) → Formed p → Scanned p y 4294967295 (first_minute p) 0
-scanned_none p y f =
-    record {
-      below = omega (arith, f.some);
-      low = omega arith;
-      high = omega arith;
-      before = λ t a b c. absurd (omega arith);
-      after = λ t a b. absurd (omega arith);
-      first_fails = λ a. absurd (omega arith);
-      last_fails = λ a. absurd (omega arith);
-    }
+abbrev sound_step : Profile → Limits → ℕ → Bool
+sound_step p y i = is_sound y (get_or p i (empty_step 0))
 
-module _ {p : Profile} {y : Limits} {first end i a b c d : ℕ} {r : Bool} (f : Formed p) (s : Scanned p y first end i) (more : i + 1 < p.steps)
-    (ea : a ≡ line_of p 1 i) (eb : b ≡ line_of p 2 i) (ec : c ≡ line_of p 3 i) (ed : d ≡ line_of p 4 i)
-    (e : r ≡ sound_counts (limits_beside y []) (of_lines a b c d)) where
-  rises : get_or p.at i 0 < get_or p.at (i + 1) 0
-  rises = f.rises i (i + 1) (omega arith) more
+module _ {p : Profile} (y : Limits) (f : Formed p) where
+  -- a minute is as sound as its step
+  minute_step : (i t : ℕ) → In (minutes_of p) (length p) i t → sound_in p y t ≡ sound_step p y i
+  minute_step i t h = level_test (sound_tests (limits_beside y [])) p h
 
-  here : (t : ℕ) → get_or p.at i 0 ≤ t → t < get_or p.at (i + 1) 0 → sound_in p y t ≡ r
-  here t x z =
-      level_test (sound_tests (limits_beside y [])) p (in_more t f.rises (at_step p.at p.steps i f.rises s.below) x (λ k. z))
-      ∙ sym (sound_four (limits_beside y []) (counts_of p.counts i) ea eb ec ed e)
+  -- the steps from step i up to k are sound, and so are their minutes
+  minutes_sound :
+      (i k : ℕ) → i < length p → ((j : ℕ) → i ≤ j → j < k → j < length p → sound_step p y j ≡ true)
+      → (t : ℕ) → get_or (minutes_of p) i 0 ≤ t → (k < length p → t < get_or (minutes_of p) k 0) → sound_in p y t ≡ true
+  minutes_sound i k below all t a b =
+      let s = step_of (minutes_of p) (length p) t f.some (omega (arith, step_from f below)) in
+      minute_step s.step t s.inside
+      ∙ all s.step
+      (⊎_elim (λ c. absurd (omega (arith, s.inside.later i c below))) (λ c. c) (below_or_not s.step i))
+      (⊎_elim
+      (λ c. c)
+      (λ c. ⊎_elim
+      (λ d. absurd (omega (arith, b d, s.inside.begun, rising_le (minutes_of p) (length p) f.rises k s.step c s.inside.below)))
+      (λ d. absurd (omega (arith, s.inside.below)))
+      (below_or_not k (length p)))
+      (below_or_not s.step k))
+      s.inside.below
 
-  -- step i is sound
-  pub scanned_sound : {x z : ℕ} → r ≡ true → x ≡ first → z ≡ end → Scanned p y x z (i + 1)
-  scanned_sound on ex ez =
-      rw (ex, ez)
+  -- the last step is sound, since nothing is drawn in it
+  last_sound : EndsEmpty p → sound_step p y (length p - 1) ≡ true
+  last_sound z =
+      sound_all (limits_beside y []) (λ l. line_of p l (length p - 1))
       (record {
-        below = more;
-        low = s.low;
-        high = omega (arith, s.high, rises);
-        before = λ t x k z. ⊎_elim (λ lt. s.before t x k lt) (λ ge. here t ge z ∙ on) (below_or_not t (get_or p.at i 0));
-        after = λ t x z. ⊎_elim (λ lt. s.after t x lt) (λ ge. here t ge z ∙ on) (below_or_not t (get_or p.at i 0));
-        first_fails = s.first_fails;
-        last_fails = s.last_fails;
+        limit = λ l j. omega (arith, z l (line_column l j));
+        site = omega (arith, whole_none (λ l. line_of p l (length p - 1)) z);
+        balance = λ l m j k. omega (arith, z l (line_column l j));
       })
 
-  -- it is not
-  pub scanned_unsound : {x z : ℕ} → r ≡ false → x ≡ min first (get_or p.at i 0) → z ≡ get_or p.at (i + 1) 0 → Scanned p y x z (i + 1)
-  scanned_unsound {x} {z} not ex ez =
-      rw ez
-      (record {
-        below = more;
-        low = step_from f more;
-        high = omega arith;
-        before = λ t k z v. s.before t k (omega arith) (omega arith);
-        after = λ t k z. absurd (omega arith);
-        first_fails = λ k. ⊎_elim (λ lt. old k lt) (λ ge. new ge) (below_or_not first (get_or p.at i 0));
-        last_fails = λ k. here (get_or p.at (i + 1) 0 - 1) (omega (arith, rises)) (omega (arith, rises)) ∙ not;
-      })
+  -- a step that is not sound is not the last one
+  pub unsound_below : {k : ℕ} → EndsEmpty p → LastAt (is_sound y) (empty_step 0) p k → k + 1 < length p
+  unsound_below {k} z h =
+      ⊎_elim
+      (λ c. c)
+      (λ c.
+      let e : k ≡ length p - 1 = omega (arith, h.inside) in
+      absurd (true≢false (sym (last_sound z) ∙ sym (ap (sound_step p y) e) ∙ h.fails)))
+      (below_or_not (k + 1) (length p))
+
+  -- every step is sound
+  pub unsound_nowhere : AllPass (is_sound y) (empty_step 0) p → UnsoundMinutes p y None
+  unsound_nowhere all =
+      record { answer = λ t a. minutes_sound 0 (length p) f.some (λ j b c d. all j d) t a (λ d. absurd (omega arith)) }
+
+  -- i is the first step that is not, and k the last
+  pub unsound_from :
+      {i k : ℕ} {u : Unsound} → EndsEmpty p → FirstAt (is_sound y) (empty_step 0) p i → LastAt (is_sound y) (empty_step 0) p k
+      → u.first ≡ get_or (minutes_of p) i 0 → u.end ≡ get_or (minutes_of p) (k + 1) 0 → UnsoundMinutes p y (Some u)
+  unsound_from {i} {k} {u} z first last begins ends =
+      record {
+        answer =
+            record {
+              low = omega (arith, begins, step_from f first.inside);
+              order = omega (arith, begins, ends, rises, order);
+              high = omega (arith, ends, rising_le (minutes_of p) (length p) f.rises (k + 1) (length p - 1) (omega (arith, next)) (omega (arith, next)));
+              before = λ t a b. minutes_sound 0 i f.some (λ j c d e. first.passed j d) t a (λ c. omega (arith, begins));
+              after = λ t a. minutes_sound (k + 1) (length p) next (λ j c d e. last.passed j (omega arith) e) t (omega (arith, ends)) (λ c. absurd (omega arith));
+              first_fails =
+                  rw begins (minute_step i (get_or (minutes_of p) i 0) (at_step (minutes_of p) (length p) i f.rises first.inside) ∙ first.fails);
+              last_fails = minute_step k (u.end - 1) inside ∙ last.fails;
+            };
+      }
     where
-      old : x < 4294967295 → first < get_or p.at i 0 → (first_minute p ≤ x) × (sound_in p y x ≡ false)
-      old k lt = let q : x ≡ first = omega arith in rw q (s.first_fails (omega arith))
+      next : k + 1 < length p
+      next = unsound_below z last
 
-      new : get_or p.at i 0 ≤ first → (first_minute p ≤ x) × (sound_in p y x ≡ false)
-      new ge =
-          let q : x ≡ get_or p.at i 0 = omega arith in
-          rw q (step_from f s.below, here (get_or p.at i 0) (omega arith) rises ∙ not)
+      order : get_or (minutes_of p) i 0 ≤ get_or (minutes_of p) k 0
+      order =
+          rising_le (minutes_of p) (length p) f.rises i k
+          (⊎_elim (λ c. absurd (true≢false (sym (first.passed k c) ∙ last.fails))) (λ c. c) (below_or_not k i)) last.inside
 
--- the last step is sound, since nothing is drawn in it
-pub scanned_done :
-    {p : Profile} {y : Limits} {first end i : ℕ} → EndsEmpty p → Scanned p y first end i → p.steps ≤ i + 1 → UnsoundWithin p y first end
-scanned_done {p} {y} {first} {end} {i} z s h =
-    record {
-      low = s.low;
-      high = omega (arith, s.high, ends);
-      before = λ t a b. ⊎_elim (λ lt. s.before t a b lt) (λ ge. rest t ge) (below_or_not t (get_or p.at i 0));
-      after = λ t a. ⊎_elim (λ lt. s.after t a lt) (λ ge. rest t ge) (below_or_not t (get_or p.at i 0));
-      first_fails = s.first_fails;
-      last_fails = s.last_fails;
-    }
-  where
-    last : i ≡ p.steps - 1
-    last = omega (arith, s.below)
+      rises : get_or (minutes_of p) k 0 < get_or (minutes_of p) (k + 1) 0
+      rises = f.rises k (k + 1) (omega arith) next
 
-    ends : get_or p.at i 0 ≡ last_minute p
-    ends = rw last
-
-    rest : (t : ℕ) → get_or p.at i 0 ≤ t → sound_in p y t ≡ true
-    rest t ge =
-        level_test (sound_tests (limits_beside y [])) p (last_step p.at p.steps t (omega (arith, s.below)) (omega (arith, ends)))
-        ∙ sound_all (limits_beside y []) (λ l. line_of p l (p.steps - 1))
-        (record {
-          limit = λ l j. omega (arith, z l (line_column l j));
-          site = omega (arith, whole_none (counts_of p.counts (p.steps - 1)) z);
-          balance = λ l m j k. omega (arith, z l (line_column l j));
-        })
+      inside : In (minutes_of p) (length p) k (u.end - 1)
+      inside = in_more (u.end - 1) f.rises (at_step (minutes_of p) (length p) k f.rises last.inside) (omega (arith, ends, rises)) (λ c. omega (arith, ends, rises))

@@ -1,19 +1,19 @@
 -- The test of a candidate start and the first start that fits, by the levels of a profile.
-use Rattle.std.specs.Prelude.{ℕ, ◌+◌, ◌-◌, ◌^◌, ◌≤◌, ◌<◌, ◌≡◌, Bool, true, false, List, []}
+use Rattle.std.specs.Prelude.{ℕ, ◌+◌, ◌-◌, ◌^◌, ◌≤◌, ◌<◌, ◌≡◌, Bool, true, false, List, [], length, Result, Ok, Err}
 use Rattle.rules.specs.Load.{Load, IsRate, sound_counts}
-use Rattle.rules.specs.Candidate as tests
-use Rattle.rules.specs.Candidate.{tested_by, candidate}
-use Rattle.profile.specs.Steps.{In}
-use Rattle.profile.specs.Shows.{Profile, levels, first_minute, Formed, Small, ShowsIn}
-use Rattle.search.specs.Numbers.{limits_beside, draw_of, with_draw, SoundAlone}
+use Rattle.rules.specs.Candidate.{Tested, tested_by, candidate}
+use Rattle.profile.specs.Steps.{minutes_of, In}
+use Rattle.profile.specs.Shows.{Profile, draw_of, levels, first_minute, Formed, Small, Shows}
+use Rattle.profile.specs.declared.loads.Draw.{Draw}
+use Rattle.search.specs.Numbers.{limits_beside, with_draw, SoundAlone}
 use Rattle.search.specs.Starts.{CanStart}
 use Rattle.search.specs.declared.limits.Limits.{Limits}
-use Rattle.search.specs.declared.limits.Draw.{Draw}
-use Rattle.search.specs.declared.candidate.Tested.{Tested}
+use Rattle.search.specs.declared.candidate.Miss.{Miss}
 
--- the code's answer as the rules have it
-abbrev pub tested_of : Tested → tests.Tested
-tested_of r = record { fits = r.fits; looked = r.looked }
+-- the code's answer as the rules have it: where no minute fails, all `time` of them were looked at
+abbrev pub tested_of : ℕ → Result (Unit {0}) Miss → Tested
+tested_of time (Ok x) = record { fits = true; looked = time }
+tested_of time (Err m) = record { fits = false; looked = m.looked }
 
 -- the levels in minute t and what a charge draws are within both limits and the bound
 abbrev pub fits_in : Profile → Limits → Draw → ℕ → Bool
@@ -24,21 +24,26 @@ pub record CanTest (p : Profile) (a : Draw) (start step : ℕ) : Type 0 where
   pub formed : Formed p
   pub small : Small p
   pub is_rate : IsRate a.rate
-  pub inside : In p.at p.steps step start
+  pub inside : In (minutes_of p) (length p) step start
   pub ends_fit : start + a.time < 2 ^ 32
 
+-- the last minute that was looked at lies in the step that is told, where it fails
+abbrev pub MissIn : Profile → ℕ → Result (Unit {0}) Miss → Type 0
+MissIn p start (Ok x) = Unit {0}
+MissIn p start (Err m) = In (minutes_of p) (length p) m.step (start + m.looked - 1)
+
 -- the answer has the verdict and the number of minutes of the rules' test, and the step of the minute that fails
-pub record TestedAs (p : Profile) (y : Limits) (a : Draw) (start : ℕ) (r : Tested) : Type 0 where
-  pub same : tested_of r ≡ tested_by (fits_in p y a) a.time start
-  pub inside : r.fits ≡ false → In p.at p.steps r.step (start + r.looked - 1)
+pub record TestedAs (p : Profile) (y : Limits) (a : Draw) (start : ℕ) (r : Result (Unit {0}) Miss) : Type 0 where
+  pub same : tested_of a.time r ≡ tested_by (fits_in p y a) a.time start
+  pub inside : MissIn p start r
 
 -- whatever loads p shows, the answer is that of the rules' test
-abbrev pub TestShows : Profile → Limits → Draw → ℕ → Tested → Type 0
+abbrev pub TestShows : Profile → Limits → Draw → ℕ → Result (Unit {0}) Miss → Type 0
 TestShows p y a start r =
-    (size clock : ℕ) (loads others : List Load)
-    → ShowsIn size p clock loads
+    (clock : ℕ) (loads others : List Load)
+    → Shows p clock loads
     → clock ≤ start
-    → tested_of r ≡ candidate (limits_beside y others) loads (draw_of a) start
+    → tested_of a.time r ≡ candidate (limits_beside y others) loads (draw_of a) start
 
 -- what a search over candidates asks: the last step has room
 pub record CanFit (p : Profile) (y : Limits) (a : Draw) (start : ℕ) : Type 0 where

@@ -1,16 +1,13 @@
--- The code's limits and draws as the rules have them.
+-- The code's limits as the rules have them, and a load beside counts and limits.
 use Rattle.std.specs.Prelude.{ℕ, ◌+◌, ◌≤◌, List}
 use Rattle.rules.specs.Load as rules
-use Rattle.rules.specs.Load.{Load, IsRate, share, limits, draw}
+use Rattle.rules.specs.Load.{Load, IsRate, share, limits}
+use Rattle.profile.specs.declared.loads.Draw.{Draw}
 use Rattle.search.specs.declared.limits.Limits.{Limits}
-use Rattle.search.specs.declared.limits.Draw.{Draw}
 
 -- what a plan has to keep to, beside what the other feeders draw
 abbrev pub limits_beside : Limits → List Load → rules.Limits
 limits_beside y others = limits y.limit y.bound y.site others
-
-abbrev pub draw_of : Draw → rules.Draw
-draw_of a = draw a.line a.time a.rate
 
 -- the counts f, with one more load
 abbrev pub with_draw : (ℕ → ℕ) → Draw → ℕ → ℕ

@@ -1,18 +1,17 @@
 -- The smallest start of one more load, by the levels of a profile.
-use Rattle.std.specs.Prelude.{ℕ, ◌+◌, ◌-◌, ◌^◌, ◌≤◌, ◌<◌, ◌≡◌, Bool, true, false, List, []}
+use Rattle.std.specs.Prelude.{ℕ, ◌+◌, ◌-◌, ◌^◌, ◌≤◌, ◌<◌, ◌≡◌, Bool, true, false, List, [], length, Option, Some, None}
 use Rattle.rules.specs.Load.{Load, load_from, IsColumn, draws, sound_counts}
 use Rattle.rules.specs.Search.{earliest}
 use Rattle.profile.specs.Minutes.{Passes, Fails}
-use Rattle.profile.specs.Shows.{Profile, line_of, level_of, levels, first_minute, last_minute, Formed, Small, ShowsIn, found_at}
-use Rattle.profile.specs.declared.When.{When}
-use Rattle.profile.specs.declared.When.TheVariants.{Minute, Never}
-use Rattle.search.specs.Numbers.{limits_beside, draw_of}
+use Rattle.profile.specs.Shows.{Profile, draw_of, line_of, level_of, levels, first_minute, last_minute, Formed, Small, Shows, found_at}
+use Rattle.profile.specs.declared.loads.Draw.{Draw}
+use Rattle.search.specs.Numbers.{limits_beside}
 use Rattle.search.specs.declared.limits.Limits.{Limits}
-use Rattle.search.specs.declared.limits.Draw.{Draw}
+use Rattle.search.specs.declared.start.Unsound.{Unsound}
 
 -- in the last step nothing is drawn
 abbrev pub EndsEmpty : Profile → Type 0
-EndsEmpty p = (l : ℕ) → IsColumn l → line_of p l (p.steps - 1) ≡ 0
+EndsEmpty p = (l : ℕ) → IsColumn l → line_of p l (length p - 1) ≡ 0
 
 -- what a search for a start asks: from the last step on nothing is drawn, and no count and no end is too large
 pub record CanStart (p : Profile) (time : ℕ) : Type 0 where
@@ -29,14 +28,23 @@ sound_in p y t = sound_counts (limits_beside y []) (levels p t)
 abbrev pub sound_with : Profile → Limits → Draw → ℕ → ℕ → Bool
 sound_with p y a s t = sound_counts (limits_beside y []) (λ l. level_of p l t + draws (load_from (draw_of a) s) l t)
 
--- every minute before `first` is sound, and every minute from `end` on; `first` is not, if it is a minute at all, and neither is the minute before `end`
+-- every minute before `first` is sound, and every minute from `end` on; `first` is not, and neither is the minute before `end`
 pub record UnsoundWithin (p : Profile) (y : Limits) (first end : ℕ) : Type 0 where
-  pub low : first_minute p ≤ end
+  pub low : first_minute p ≤ first
+  pub order : first < end
   pub high : end ≤ last_minute p
   pub before : (t : ℕ) → first_minute p ≤ t → t < first → sound_in p y t ≡ true
   pub after : Passes (sound_in p y) end
-  pub first_fails : first < 4294967295 → (first_minute p ≤ first) × (sound_in p y first ≡ false)
-  pub last_fails : first_minute p < end → sound_in p y (end - 1) ≡ false
+  pub first_fails : sound_in p y first ≡ false
+  pub last_fails : sound_in p y (end - 1) ≡ false
+
+-- those minutes, or every minute is sound
+abbrev pub UnsoundIf : Profile → Limits → Option Unsound → Type 0
+UnsoundIf p y (Some u) = UnsoundWithin p y u.first u.end
+UnsoundIf p y None = Passes (sound_in p y) (first_minute p)
+
+pub record UnsoundMinutes (p : Profile) (y : Limits) (r : Option Unsound) : Type 0 where
+  pub answer : UnsoundIf p y r
 
 -- r is the smallest start, from the first minute on, with which every minute is sound
 pub record StartsAt (p : Profile) (y : Limits) (a : Draw) (r : ℕ) : Type 0 where
@@ -46,16 +54,16 @@ pub record StartsAt (p : Profile) (y : Limits) (a : Draw) (r : ℕ) : Type 0 whe
   pub least : (s : ℕ) → first_minute p ≤ s → s < r → Fails (sound_with p y a s) (first_minute p)
 
 -- that start, or there is none
-abbrev pub StartsIf : Profile → Limits → Draw → When → Type 0
-StartsIf p y a (Minute r) = StartsAt p y a r
-StartsIf p y a Never = (s : ℕ) → first_minute p ≤ s → Fails (sound_with p y a s) (first_minute p)
+abbrev pub StartsIf : Profile → Limits → Draw → Option ℕ → Type 0
+StartsIf p y a (Some r) = StartsAt p y a r
+StartsIf p y a None = (s : ℕ) → first_minute p ≤ s → Fails (sound_with p y a s) (first_minute p)
 
 -- the answer is the smallest start with which the levels and one more load are within both limits and the bound in every minute
-pub record EarliestStart (p : Profile) (y : Limits) (a : Draw) (r : When) : Type 0 where
+pub record EarliestStart (p : Profile) (y : Limits) (a : Draw) (r : Option ℕ) : Type 0 where
   pub answer : StartsIf p y a r
 
 -- whatever loads p shows, the answer is the rules' earliest start; what the other feeders draw stands among the loads, so that
 -- the limits say nothing of it
-abbrev pub Earliest : Profile → Limits → Draw → When → Type 0
+abbrev pub Earliest : Profile → Limits → Draw → Option ℕ → Type 0
 Earliest p y a r =
-    (size clock : ℕ) (loads others : List Load) → ShowsIn size p clock loads → earliest (limits_beside y others) clock loads (draw_of a) ≡ found_at r
+    (clock : ℕ) (loads others : List Load) → Shows p clock loads → earliest (limits_beside y others) clock loads (draw_of a) ≡ found_at r

@@ -1,71 +1,96 @@
-// The caps of the lines: for line l the number at COLUMNS * k + l - 1 has the first minute from which on the cap is below k, 4294967295 where it never is.
-ghost use Rattle.std.specs.Prelude.{◌≡◌, ◌*◌, ◌<◌, ◌≤◌, length};
-ghost use Rattle.profile.specs.Steps.{columns};
-ghost use Rattle.rules.specs.Load.{IsLine};
-ghost use Rattle.search.specs.Caps.{cap_places, CapsShown, Unlowered, Lowered, CapLowered, Whole};
+// The caps of a feeder's lines, beside the site's limit: place k of a line has the first minute from which on its cap is below k.
+ghost use Rattle.std.specs.Prelude.{◌≡◌, ◌<◌, ◌≤◌};
+ghost use Rattle.search.specs.Caps.{cap_places, caps_of, under_in, CapsShown, Unlowered, Lowered, CapLowered};
 
-use profile::COLUMNS;
-use profile::counts::smaller;
+use crate::limits::Limits;
+use profile::loads::Draw;
+use profile::steps::Step;
 
-// So many places a line has among the caps, one for each count from 0 to the largest limit, 60.
+// So many places a line has, one for each count from 0 to the largest limit, 60.
 pub const CAP_PLACES: usize = 61;
 
+// Where the cap is never below k the place has the largest minute, so that the search compares minutes alone.
+const NEVER: u32 = u32::MAX;
+
+// The cap of each line, and the site's limit W over all of them.
 #[derive(Clone, Copy)]
 pub struct LineCaps {
-    pub caps: [u32; COLUMNS * CAP_PLACES],
+    pub one: [u32; CAP_PLACES],
+    pub two: [u32; CAP_PLACES],
+    pub three: [u32; CAP_PLACES],
+    pub site: u32,
 }
 
-// Counts below n are at or below the cap of each line in every minute.
-pub fn unlowered(n: usize) -> [u32; COLUMNS * CAP_PLACES]
+// Counts below n are at or below the cap of the line in every minute.
+fn unlowered(n: usize) -> [u32; CAP_PLACES]
     requires { n ≤ cap_places }
-    ensures { Unlowered (columns * n) result }
+    ensures { Unlowered n result }
 {
-    let mut caps = [0u32; COLUMNS * CAP_PLACES];
-    let mut k = 0;
-    while k < COLUMNS * n {
-        caps[k] = 4294967295;
-        k += 1;
-    }
+    let mut caps = [0; CAP_PLACES];
+    caps[..n].fill(NEVER);
     caps
 }
 
-// From t on counts of v and more are above the cap of the line.
-pub fn lower(caps: &mut [u32; COLUMNS * CAP_PLACES], line: usize, v: usize, t: u32)
-    requires { (length caps.old ≡ columns * cap_places) × IsLine line }
-    ensures { Lowered caps.old caps.new line t v }
+// From t on counts of n and more are above the cap of the line.
+fn lower_from(caps: &mut [u32; CAP_PLACES], n: usize, t: u32)
+    ensures { Lowered caps.old caps.new t n }
 {
-    let mut k = v;
-    while k < CAP_PLACES {
-        let p = COLUMNS * k + line - 1;
-        let held = caps[p];
-        caps[p] = smaller(held, t);
-        k += 1;
+    for k in n..CAP_PLACES {
+        caps[k] = caps[k].min(t);
     }
 }
 
 impl LineCaps {
     // Each line's cap is the limit in every minute.
-    pub fn new(limit: u32) -> LineCaps
-        requires { limit < cap_places }
-        ensures { CapsShown result (λ l t. limit) }
+    pub fn new(limits: Limits) -> LineCaps
+        requires { limits.limit < cap_places }
+        ensures { CapsShown result limits.site (λ l t. limits.limit) }
     {
-        let n = limit as usize;
+        let n = limits.limit as usize;
         let caps = unlowered(n + 1);
-        LineCaps { caps }
+        LineCaps {
+            one: caps,
+            two: caps,
+            three: caps,
+            site: limits.site,
+        }
     }
 
     // The line's cap from t on becomes the smaller of itself and v.
-    pub fn lower(mut self, line: u32, t: u32, v: u32) -> LineCaps
-        requires { Whole self × (t < 4294967295) }
-        ensures { CapLowered self result line t v }
+    pub fn lower(&mut self, line: u32, t: u32, v: u32)
+        requires { t < 4294967295 }
+        ensures { CapLowered self.old self.new line t v }
     {
-        if line < 1 {
-            return self;
+        let above = v as usize + 1;
+        match line {
+            1 => lower_from(&mut self.one, above, t),
+            2 => lower_from(&mut self.two, above, t),
+            3 => lower_from(&mut self.three, above, t),
+            _ => {}
         }
-        if 3 < line {
-            return self;
+    }
+
+    // Up to which minute a count is at or below the cap of its line.
+    pub fn under(&self, line: u32, count: usize) -> u32
+        ensures { result ≡ caps_of self.now line count }
+    {
+        let caps = match line {
+            1 => &self.one,
+            2 => &self.two,
+            _ => &self.three,
+        };
+        if count < CAP_PLACES { caps[count] } else { 0 }
+    }
+
+    // Up to which minute a step has room for one more load under its line's cap: not at all, where the site would pass its limit.
+    pub fn under_in(&self, step: Step, draw: Draw) -> u32
+        ensures { result ≡ under_in self.now draw.line draw.rate step }
+    {
+        let all = step.whole() + u64::from(draw.rate);
+        if u64::from(self.site) < all {
+            return 0;
         }
-        lower(&mut self.caps, line as usize, v as usize + 1, t);
-        self
+        let count = step.count(draw.line) as usize + draw.rate as usize;
+        self.under(draw.line, count)
     }
 }

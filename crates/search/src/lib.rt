@@ -5,6 +5,5 @@ pub mod candidate;
 pub mod caps;
 pub mod fit;
 pub mod limits;
-pub mod room;
 pub mod start;
 pub mod walk;

@@ -1,4 +1,12 @@
-// What a plan of a feeder has to keep to, and what a charge draws.
+// What a plan of a feeder has to keep to, and whether the counts of a step do.
+ghost use Rattle.std.specs.Prelude.{◌≡◌, []};
+ghost use Rattle.rules.specs.Load.{IsRate, sound_counts};
+ghost use Rattle.profile.specs.Steps.{counts_of};
+ghost use Rattle.search.specs.Numbers.{limits_beside, with_draw};
+ghost use Rattle.search.specs.Rooms.{SmallStep};
+
+use profile::loads::Draw;
+use profile::steps::Step;
 
 // The limit N, the bound D, and the site's limit W.
 #[derive(Clone, Copy)]
@@ -8,10 +16,23 @@ pub struct Limits {
     pub site: u32,
 }
 
-// What a charge draws wherever it starts: its rate on a line, for `time` minutes.
-#[derive(Clone, Copy)]
-pub struct Draw {
-    pub line: u32,
-    pub time: u32,
-    pub rate: u32,
+impl Limits {
+    // Whether the counts of a step are within both limits and the bound.
+    pub fn allow(self, step: Step) -> bool
+        ensures { result ≡ sound_counts (limits_beside self []) (counts_of step) }
+    {
+        step.is_within(self.limit, self.site) && step.is_balanced(self.bound)
+    }
+
+    // The same with one more load, on a line or, as line 4, of another feeder; on any other line it is not counted.
+    pub fn allow_with(self, step: Step, draw: Draw) -> bool
+        requires { SmallStep step × IsRate draw.rate }
+        ensures { result ≡ sound_counts (limits_beside self []) (with_draw (counts_of step) draw) }
+    {
+        let drawn = match draw.line {
+            1..=4 => step.raised(draw.line, draw.rate),
+            _ => step,
+        };
+        self.allow(drawn)
+    }
 }

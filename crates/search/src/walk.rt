@@ -1,60 +1,53 @@
 // Walks over the steps: where a step ends, and the first minute without room for one more load under the cap of its line.
-ghost use Rattle.std.specs.Prelude.{◌+◌, ◌<◌, ◌≤◌, length};
-ghost use Rattle.profile.specs.Steps.{most_steps, In};
-ghost use Rattle.profile.specs.Shows.{profile_of};
+ghost use Rattle.std.specs.Prelude.{◌+◌, ◌<◌, length};
+ghost use Rattle.profile.specs.Steps.{minutes_of, In};
 ghost use Rattle.search.specs.Rooms.{End, FirstFailing};
-ghost use Rattle.search.specs.Caps.{caps_in, room_under, CanRun};
+ghost use Rattle.search.specs.Caps.{room_under, CanRun};
 
-use crate::caps::CAP_PLACES;
-use crate::limits::Draw;
-use crate::room::under_in;
-use profile::COLUMNS;
-use profile::counts::{larger, smaller};
+use crate::caps::LineCaps;
+use profile::loads::Draw;
+use profile::steps::Step;
 
 // Where step i ends, or what is looked at.
-pub fn end_of<'a>(at: &'a [u32], n: usize, i: usize, until: u32) -> u32
-    requires { (i < n) × (n ≤ length at.now) × (n ≤ most_steps) }
-    ensures { End at.now n i until result }
+pub fn end_of(steps: &[Step], i: usize, until: u32) -> u32
+    requires { i < length steps.now }
+    ensures { End steps.now i until result }
 {
-    if i + 1 < n {
-        return smaller(at[i + 1], until);
+    if i + 1 < steps.len() {
+        return steps[i + 1].minute.min(until);
     }
     until
 }
 
 // The first minute without room, and its step.
 #[derive(Clone, Copy)]
-pub enum Failing {
-    At { minute: u32, step: usize },
-    Nothing,
+pub struct Failing {
+    pub minute: u32,
+    pub step: usize,
 }
 
 // The first of the load's minutes from `from` on without room for it, looked for from the step of `from` on. The room of a step is
 // asked for when the walk comes to it: a search looks at no step twice, and so needs no list of rooms.
-pub fn first_failing<'a>(
-    at: &'a [u32],
-    counts: &'a [u32],
-    n: usize,
-    caps: &'a [u32; COLUMNS * CAP_PLACES],
-    site: u32,
+pub fn first_failing(
+    steps: &[Step],
+    caps: &LineCaps,
     draw: Draw,
     step: usize,
     from: u32,
-) -> Failing
-    requires { CanRun (profile_of n at.now counts.now) (caps_in caps.now) draw.line draw.time from × In at.now n step from }
-    ensures { FirstFailing (room_under (profile_of n at.now counts.now) site (caps_in caps.now) draw.line draw.rate) at.now n from (from + draw.time) result }
+) -> Option<Failing>
+    requires { CanRun steps.now draw.time from × In (minutes_of steps.now) (length steps.now) step from }
+    ensures { FirstFailing (room_under steps.now caps.now draw.line draw.rate) steps.now from (from + draw.time) result }
 {
     let until = from + draw.time;
-    let mut i = step;
-    let mut t = from;
-    while t < until {
-        let end = end_of(at, n, i, until);
-        let minute = larger(t, under_in(counts, i, caps, site, draw));
-        if minute < end {
-            return Failing::At { minute, step: i };
+    for i in step..steps.len() {
+        let t = steps[i].minute.max(from);
+        if until <= t {
+            break;
         }
-        i += 1;
-        t = end;
+        let minute = t.max(caps.under_in(steps[i], draw));
+        if minute < end_of(steps, i, until) {
+            return Some(Failing { minute, step: i });
+        }
     }
-    Failing::Nothing
+    None
 }

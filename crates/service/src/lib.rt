@@ -33,7 +33,7 @@ pub fn serve(image: &mut [u8], call: Call, numbers: &[u32], list: &mut [u32]) ->
         return told;
     }
     let left = made.left;
-    let saved = save_only(left, image);
+    let saved = save_only(&left, image);
     Numbers {
         blocks: saved.blocks,
         ..told

@@ -2,22 +2,19 @@
 -- many there may be.
 use mathlib.Core.Path.{◌≡◌, ap, sym, subst, ◌∙◌}
 use Prim.Native.Nat.{ℕ, suc, ◌+◌, ◌-◌, ◌*◌, ◌≤◌, ◌<◌}
+use mathlib.Core.Bool.{not}
 use mathlib.Core.List.{List, [], ◌++◌, map}
 use native.Mathlib.Omega.{arith}
 use native.Mathlib.Numerals.{add-one}
-use lib.ListN.{length, drop, length-append, length-map}
+use lib.ListN.{length, drop, length-append}
 use lib.Seq.{drop-cons, drop-length}
-use Rattle.rules.specs.Charge.{Charge, unfinished_charges}
+use Rattle.rules.specs.Charge.{Charge, is_finished, unfinished_charges}
 use Rattle.rules.specs.Site as rules
 use Rattle.rules.specs.Site.{no_feeder, joined, site_charges}
 use Rattle.rules.specs.Calls.{moved_to}
-use Rattle.rules.proofs.Lists.{length_tabulate}
+use Rattle.rules.proofs.Lists.{length_tabulate, length_keep}
 use Rattle.charges.specs.declared.Charges.{Charges}
-use Rattle.charges.specs.declared.places.Places.{Places}
-use Rattle.charges.specs.declared.places.Which.TheVariants.{Unfinished}
 use Rattle.charges.specs.Arrays.{charge_at, charges_of, Holds}
-use Rattle.charges.specs.Places.{place_at, Lists, meant_places}
-use Rattle.charges.proofs.Collecting.{meant_few, meant_charges}
 use Rattle.charges.proofs.Feeders.{joined_from, joined-none}
 use Rattle.station.specs.declared.Station.{Station}
 use Rattle.station.specs.View.{feeder_at, view, Formed}
@@ -77,16 +74,11 @@ abbrev pub Unpassed : Charges → ℕ → ℕ → Type 0
 Unpassed c target m = (m ≡ length (unfinished_charges target (charges_of c))) × (m ≤ c.held)
 
 module _ (c : Charges) (target : ℕ) where
-  as_many : length (meant_places (Unfinished target) c) ≡ length (unfinished_charges target (charges_of c))
-  as_many = sym (length-map (meant_places (Unfinished target) c) (charge_at c)) ∙ ap length (meant_charges (Unfinished target) c)
+  pub unpassed : {m : ℕ} → m ≡ length (unfinished_charges target (charges_of c)) → Unpassed c target m
+  unpassed e =
+      (e, omega (arith, e, length_keep (λ x. not (is_finished target x)) (charges_of c), length_tabulate (charge_at c) c.held 0))
 
-  unpassed : {m : ℕ} → m ≡ length (unfinished_charges target (charges_of c)) → Unpassed c target m
-  unpassed e = (e, omega (arith, e, as_many, meant_few (Unfinished target) c))
-
-  -- by their places, and by the charges that are kept
-  pub meant_left : {p : Places} → Lists (meant_places (Unfinished target) c) p → Unpassed c target p.count
-  meant_left {p} l = unpassed (sym (length_tabulate (place_at p) p.count 0) ∙ ap length l.listed ∙ as_many)
-
+  -- by the charges that are kept
   pub kept_left : {r : Charges} → Holds (unfinished_charges target (charges_of c)) r → Unpassed c target r.held
   kept_left {r} h = unpassed (sym (length_tabulate (charge_at r) r.held 0) ∙ ap length h.charges)
 

@@ -9,7 +9,6 @@ use Rattle.rules.specs.Charge.{Charge, unfinished_charges}
 use Rattle.rules.specs.Site.{State, site_charges, with_charges}
 use Rattle.rules.specs.Calls.{Answer, refused, moved, reported, pairs, written, moved_to, move, step}
 use Rattle.charges.specs.declared.Charges.{Charges}
-use Rattle.charges.specs.declared.places.Places.{Places}
 use Rattle.charges.specs.Arrays.{charges_of, Holds}
 use Rattle.queues.specs.Queues.{Ordered}
 use Rattle.queues.specs.Reports.{together, CanReport}
@@ -41,17 +40,17 @@ module _ (o : One) (a : Alone o) (target : ℕ) (entry : List ℕ) where
           first = a.first;
         })
 
-    module _ (z : k ≡ 0) {p : Places} (w : Ordered own (reported o.clock target (charges_of own)) p) where
+    module _ (z : k ≡ 0) {is : List ℕ} (w : Ordered own (reported o.clock target (charges_of own)) is) where
       room : 360 ≤ length entry
       room = omega (arith, (movable (station_of o) target entry e z).list_long)
 
       -- no other feeder is reported before it
-      pub alone_can : CanReport own p entry 0
+      pub alone_can : CanReport own is entry 0
       alone_can = feeder_can (station_of o) a.valid target room (reported_none (station_of o) target entry refl refl) (omega arith) w
 
       pub alone_reported :
-          {list : List ℕ} → list ≡ written (pairs (together own p entry 0)) entry → length list ≡ length entry →
-          AllReported (station_of o) target entry list p.count
+          {list : List ℕ} → list ≡ written (pairs (together own is entry 0)) entry → length list ≡ length entry →
+          AllReported (station_of o) target entry list (length is)
       alone_reported r l =
           reported_all
           (reported_on (station_of o) a.valid target room (reported_none (station_of o) target entry refl refl) (omega arith) w r l
@@ -70,9 +69,9 @@ module _ (o : One) (a : Alone o) (target : ℕ) (entry : List ℕ) where
 
         pub alone_moved :
             {list : List ℕ} {n d : ℕ} {l : One}
-            → list ≡ written (pairs (together own p entry 0)) entry
+            → list ≡ written (pairs (together own is entry 0)) entry
             → length list ≡ length entry
-            → n ≡ p.count
+            → n ≡ length is
             → d ≡ own.held - kept.held
             → l ≡ clocked_at (keeping o kept) target
             → LeavesAlone (step (view (station_of o)) (move target entry)) (moved n d) l list
@@ -80,7 +79,7 @@ module _ (o : One) (a : Alone o) (target : ℕ) (entry : List ℕ) where
             rw (same, many)
             (record {
               result =
-                  ap (λ (cs : List Charge). giving (moved p.count d) (after cs) list) h.charges
+                  ap (λ (cs : List Charge). giving (moved (length is) d) (after cs) list) h.charges
                   ∙ moved_is (station_of o) target entry e z (alone_reported r l) (alone_dropped q);
               columns = h.columns;
               single = a.single;

@@ -9,7 +9,6 @@ use Rattle.rules.specs.Calls.{reported, pairs, written}
 use Rattle.rules.proofs.Queues.{Distinct}
 use Rattle.rules.proofs.Distinct.{site_distinct}
 use Rattle.charges.specs.declared.Charges.{Charges}
-use Rattle.charges.specs.declared.places.Places.{Places}
 use Rattle.charges.specs.Arrays.{charges_of}
 use Rattle.queues.specs.Queues.{Ordered}
 use Rattle.queues.specs.Reports.{together, CanReport}
@@ -50,28 +49,28 @@ reported_all {s} {target} {entry} {list} {n} {k} r e =
 module _
     (s : Station) (v : Valid s) (target : ℕ) {entry list : List ℕ} {n k : ℕ} (room : 360 * s.count ≤ length entry)
     (r : ReportedFrom s target entry list n k) (pos : 0 < k)
-    {p : Places} (o : Ordered (feeder_at s (k - 1)).charges (reported s.clock target (charges_of (feeder_at s (k - 1)).charges)) p) where
+    {is : List ℕ} (o : Ordered (feeder_at s (k - 1)).charges (reported s.clock target (charges_of (feeder_at s (k - 1)).charges)) is) where
   abbrev here : Charges
   here = (feeder_at s (k - 1)).charges
 
   apart : Distinct (charges_of here ++ held_from s k)
   apart = subst Distinct (from_on s k pos r.turns) (distinct_from (view s).feeders (k - 1) (site_distinct (view s) v.state))
 
-  pub report_few : n + p.count ≤ 180 * (s.count - (k - 1))
+  pub report_few : n + length is ≤ 180 * (s.count - (k - 1))
   report_few =
       omega (arith, r.turns, r.few, o.places.few, (v.formed.columns (k - 1) (omega (arith, r.turns))).few)
 
-  fits : 2 * (n + p.count) ≤ length entry
+  fits : 2 * (n + length is) ≤ length entry
   fits = omega (arith, report_few, room, r.turns)
 
-  pub feeder_can : CanReport here p list n
+  pub feeder_can : CanReport here is list n
   feeder_can = can_report (v.formed.columns (k - 1) (omega (arith, r.turns))) o apart r.reports fits
 
   pub reported_on :
       {list' : List ℕ} {n' k' : ℕ}
-      → list' ≡ written (pairs (together here p list n)) list
+      → list' ≡ written (pairs (together here is list n)) list
       → length list' ≡ length list
-      → n' ≡ n + p.count
+      → n' ≡ n + length is
       → k' ≡ k - 1
       → ReportedFrom s target entry list' n' k'
   reported_on {list'} {n'} {k'} w l m e =

@@ -20,7 +20,9 @@ use Rattle.rules.proofs.Withdrawing.{distinct_not_begun}
 use Rattle.charges.specs.declared.Charges.{Charges}
 use Rattle.charges.specs.Arrays.{charge_at, charges_of, Holds}
 use Rattle.charges.specs.Held.{Listed}
-use Rattle.planner.specs.Ready.{Around, terms_of, Plannable, Profiled}
+use Rattle.planner.specs.declared.Beside.{Beside}
+use Rattle.planner.specs.Others.{Plannable}
+use Rattle.planner.specs.Ready.{terms_of, Profiled}
 use Rattle.planner.proofs.Showing.{listed_profiled}
 use Rattle.station.specs.declared.Feeder.{Feeder}
 use Rattle.station.specs.declared.Station.{Station}
@@ -120,7 +122,7 @@ module _ (s : Station) (o : One) (ticket : ℕ) (f : Of s o) (n : Holding s tick
 
     module _
         {kept : Charges} (r : Holds (without_ticket ticket (charges_of own)) kept) (h : o.clock ≤ (charge_at own k).start)
-        {b : Around} (y : BesideOf s o.place b) {test : Bool} (q : test ≡ sound (terms_of b) b.clock (seen (terms_of b) (charges_of kept))) where
+        {b : Beside} (y : BesideOf s o.place b) {test : Bool} (q : test ≡ sound (terms_of b) b.clock (seen (terms_of b) (charges_of kept))) where
       not_begun : some (λ c. has_ticket ticket c && is_begun s.clock c) (site_charges (view s)) ≡ false
       not_begun =
           distinct_not_begun s.clock ticket (site_charges (view s)) (site_distinct (view s) f.valid.state)

@@ -17,43 +17,37 @@ pub enum BoardAnswer {
 }
 
 // Looks at all feeders, from the last one to the first. The answer: at how many charges.
-fn board_feeders(station: Station, asked: &[u32], answers: &mut [u32]) -> usize
-    requires { Valid station × (rises_from 0 asked.now ≡ true) × (length asked.now ≤ length answers.old) }
-    ensures { Boarded (site_charges (view station)) asked.now (written (replicate (length asked.now) not_held) answers.old) answers.new result }
+fn board_feeders(station: &Station, asked: &[u32], answers: &mut [u32]) -> usize
+    requires { Valid station.now × (rises_from 0 asked.now ≡ true) × (length asked.now ≤ length answers.old) }
+    ensures { Boarded (site_charges (view station.now)) asked.now (written (replicate (length asked.now) not_held) answers.old) answers.new result }
 {
     let mut looked = 0;
     none_held(answers, asked.len());
-    let mut i = station.count;
-    while 0 < i {
-        i -= 1;
-        let feeder = station.feeders[i];
-        let held = feeder.charges;
-        let here = boards::board(held, asked, answers);
-        looked += here;
+    for i in (0..station.count).rev() {
+        let feeder = &station.feeders[i];
+        looked += boards::board(&feeder.charges, asked, answers);
     }
     looked
 }
 
 // Of the only feeder.
-pub fn board_alone(one: One, asked: &[u32], answers: &mut [u32]) -> BoardAnswer
-    requires { Alone one }
-    ensures { Keeps (step (view (station_of one)) (board_call asked.now answers.old)) (station_of one) (board_answer result) answers.new }
+pub fn board_alone(one: &One, asked: &[u32], answers: &mut [u32]) -> BoardAnswer
+    requires { Alone one.now }
+    ensures { Keeps (step (view (station_of one.now)) (board_call asked.now answers.old)) (station_of one.now) (board_answer result) answers.new }
 {
     let number = board_refusal(asked, &*answers);
     if 0 < number {
         return BoardAnswer::Refused(number);
     }
     none_held(answers, asked.len());
-    let feeder = one.feeder;
-    let held = feeder.charges;
-    let count = boards::board(held, asked, answers);
+    let count = boards::board(&one.feeder.charges, asked, answers);
     BoardAnswer::Looked(count)
 }
 
 // Writes the start of each ticket asked for, or 4,294,967,295, to the front of a lent list.
-pub fn board(station: Station, asked: &[u32], answers: &mut [u32]) -> BoardAnswer
-    requires { Valid station }
-    ensures { Keeps (step (view station) (board_call asked.now answers.old)) station (board_answer result) answers.new }
+pub fn board(station: &Station, asked: &[u32], answers: &mut [u32]) -> BoardAnswer
+    requires { Valid station.now }
+    ensures { Keeps (step (view station.now) (board_call asked.now answers.old)) station.now (board_answer result) answers.new }
 {
     let refusal = board_refusal(asked, &*answers);
     if 0 < refusal {

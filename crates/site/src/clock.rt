@@ -8,7 +8,6 @@ ghost use Rattle.station.specs.Given.{Leaves, LeavesAlone};
 ghost use Rattle.site.specs.Answers.{move_rows, move_answer};
 
 use charges::PLACES;
-use charges::places::Which;
 use queues::by_start;
 use queues::reports::report;
 use station::{One, Station};
@@ -47,36 +46,30 @@ fn move_refusal(count: usize, clock: u32, target: u32, list: &[u32]) -> u32
 }
 
 // The report of all feeders, from the last one to the first. The answer: how many charges were reported.
-fn report_feeders(station: Station, target: u32, list: &mut [u32]) -> usize
-    requires { Valid station × (360 * station.count ≤ length list.old) }
-    ensures { (result ≡ length (reported_by station.clock target (site_charges (view station)))) × (list.new ≡ written (pairs (reported_by station.clock target (site_charges (view station)))) list.old) }
+fn report_feeders(station: &Station, target: u32, list: &mut [u32]) -> usize
+    requires { Valid station.now × (360 * station.now.count ≤ length list.old) }
+    ensures { (result ≡ length (reported_by station.now.clock target (site_charges (view station.now)))) × (list.new ≡ written (pairs (reported_by station.now.clock target (site_charges (view station.now)))) list.old) }
 {
     let mut reported = 0;
-    let mut i = station.count;
-    while 0 < i {
-        i -= 1;
-        let feeder = station.feeders[i];
-        let held = feeder.charges;
-        let passed = by_start(held, station.clock, target);
-        report(held, passed, list, reported);
-        reported += passed.count;
+    for i in (0..station.count).rev() {
+        let feeder = &station.feeders[i];
+        let passed = by_start(&feeder.charges, station.clock, target);
+        report(&feeder.charges, &passed, list, reported);
+        reported += passed.len();
     }
     reported
 }
 
 // How many charges of all feeders are finished at the target.
-fn dropped_at(station: Station, target: u32) -> usize
-    requires { Formed station }
-    ensures { result ≡ length (site_charges (view station)) - length (site_charges (moved_to (view station) target)) }
+fn dropped_at(station: &Station, target: u32) -> usize
+    requires { Formed station.now }
+    ensures { result ≡ length (site_charges (view station.now)) - length (site_charges (moved_to (view station.now) target)) }
 {
     let mut dropped = 0;
-    let mut k = station.count;
-    while 0 < k {
-        k -= 1;
-        let feeder = station.feeders[k];
-        let held = feeder.charges;
-        let left = held.meant(Which::Unfinished(target));
-        dropped += held.held - left.count;
+    for k in (0..station.count).rev() {
+        let feeder = &station.feeders[k];
+        let left = feeder.charges.unfinished_count(target);
+        dropped += feeder.charges.held - left;
     }
     dropped
 }
@@ -95,17 +88,14 @@ pub fn move_alone(one: One, target: u32, list: &mut [u32]) -> Moving
             left: one,
         };
     }
-    let mut feeder = one.feeder;
-    let held = feeder.charges;
-    let passed = by_start(held, one.clock, target);
-    report(held, passed, list, 0);
-    let kept = held.unfinished(target);
-    let reported = passed.count;
-    let dropped = held.held - kept.held;
-    feeder.charges = kept;
+    let passed = by_start(&one.feeder.charges, one.clock, target);
+    report(&one.feeder.charges, &passed, list, 0);
+    let kept = one.feeder.charges.unfinished(target);
+    let reported = passed.len();
+    let dropped = one.feeder.charges.held - kept.held;
     let mut moved = one;
     moved.clock = target;
-    moved.feeder = feeder;
+    moved.feeder.charges = kept;
     Moving {
         answer: MoveAnswer::Moved { reported, dropped },
         left: moved,
@@ -113,9 +103,9 @@ pub fn move_alone(one: One, target: u32, list: &mut [u32]) -> Moving
 }
 
 // Of all feeders: what is left has the next clock, and the finished charges are dropped when it is put back.
-pub fn move_clock(station: Station, target: u32, report: &mut [u32]) -> Moving
-    requires { Valid station }
-    ensures { Leaves (step (view station) (move_call target report.old)) station (move_answer result.answer) result.left report.new }
+pub fn move_clock(station: &Station, target: u32, report: &mut [u32]) -> Moving
+    requires { Valid station.now }
+    ensures { Leaves (step (view station.now) (move_call target report.old)) station.now (move_answer result.answer) result.left report.new }
 {
     let refusal = move_refusal(station.count, station.clock, target, &*report);
     if 0 < refusal {

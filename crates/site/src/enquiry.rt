@@ -7,8 +7,7 @@ ghost use Rattle.station.specs.View.{view, Valid, station_of, Alone};
 ghost use Rattle.station.specs.Given.{Keeps};
 ghost use Rattle.site.specs.Answers.{enquiry_answer};
 
-use charges::{Charges, Place, find};
-use station::holder::Holder;
+use charges::Charges;
 use station::{One, Station};
 
 // An enquiry is refused for one reason alone, so that its refusal needs no number: it is 15 (specs/Answers.antt).
@@ -20,11 +19,11 @@ pub enum EnquiryAnswer {
 }
 
 // What is told by the charges of one feeder. A start equal to the clock still waits.
-pub fn told(held: Charges, clock: u32, ticket: u32) -> EnquiryAnswer
-    requires { Listed held }
-    ensures { enquiry_answer result ≡ told_of clock (charges_of held) ticket }
+pub fn told(held: &Charges, clock: u32, ticket: u32) -> EnquiryAnswer
+    requires { Listed held.now }
+    ensures { enquiry_answer result ≡ told_of clock (charges_of held.now) ticket }
 {
-    let Place::At(i) = find(&held.tickets, held.held, ticket) else {
+    let Some(i) = held.place_of(ticket) else {
         return EnquiryAnswer::Refused;
     };
     let start = held.starts[i];
@@ -38,28 +37,21 @@ pub fn told(held: Charges, clock: u32, ticket: u32) -> EnquiryAnswer
 }
 
 // Of the only feeder.
-pub fn enquire_alone(one: One, ticket: u32) -> EnquiryAnswer
-    requires { Alone one }
-    ensures { Keeps (step (view (station_of one)) (enquire_call ticket)) (station_of one) (enquiry_answer result) [] }
+pub fn enquire_alone(one: &One, ticket: u32) -> EnquiryAnswer
+    requires { Alone one.now }
+    ensures { Keeps (step (view (station_of one.now)) (enquire_call ticket)) (station_of one.now) (enquiry_answer result) [] }
 {
-    let feeder = one.feeder;
-    let held = feeder.charges;
-    told(held, one.clock, ticket)
+    told(&one.feeder.charges, one.clock, ticket)
 }
 
 // Of the feeder that holds the ticket.
-pub fn enquire(station: Station, ticket: u32) -> EnquiryAnswer
-    requires { Valid station }
-    ensures { Keeps (step (view station) (enquire_call ticket)) station (enquiry_answer result) [] }
+pub fn enquire(station: &Station, ticket: u32) -> EnquiryAnswer
+    requires { Valid station.now }
+    ensures { Keeps (step (view station.now) (enquire_call ticket)) station.now (enquiry_answer result) [] }
 {
-    let Holder::At {
-        feeder: k,
-        place: _,
-    } = station.holder(ticket)
-    else {
+    let Some(holder) = station.holder(ticket) else {
         return EnquiryAnswer::Refused;
     };
-    let feeder = station.feeders[k];
-    let held = feeder.charges;
-    told(held, station.clock, ticket)
+    let feeder = &station.feeders[holder.feeder];
+    told(&feeder.charges, station.clock, ticket)
 }

@@ -1,8 +1,7 @@
 // Withdrawing an order: a waiting charge is removed where the rest of its feeder's plan is sound.
-ghost use Rattle.std.specs.Prelude.{[], ◌≤◌};
+ghost use Rattle.std.specs.Prelude.{[]};
 ghost use Rattle.rules.specs.Calls.{withdraw as withdraw_call, step};
 ghost use Rattle.charges.specs.Held.{Listed};
-ghost use Rattle.planner.specs.Ready.{around_of, Others};
 ghost use Rattle.station.specs.declared.Station.{Station};
 ghost use Rattle.station.specs.View.{view, Of, SameHead};
 ghost use Rattle.station.specs.Beside.{BesideOf};
@@ -10,11 +9,9 @@ ghost use Rattle.station.specs.Holders.{Holding};
 ghost use Rattle.station.specs.Given.{Leaves};
 ghost use Rattle.site.specs.Answers.{withdrawal_answer};
 
-use charges::drawn::Rest;
-use charges::{Place, find};
 use planner::Beside;
 use plans::plan_sound;
-use station::{Feeder, One};
+use station::One;
 
 #[derive(Clone, Copy)]
 pub enum WithdrawalAnswer {
@@ -32,42 +29,33 @@ pub struct Withdrawing {
 // ticket is not given again.
 // Not inlined, so that its copies of the feeder are on the stack only while it runs.
 #[inline(never)]
-pub fn withdraw<'a>(one: One, beside: Beside, rest: Rest<'a>, ticket: u32) -> Withdrawing
-    requires { Listed one.feeder.charges × Others (around_of beside rest) × (beside.held ≤ 540) }
-    ensures leaves { (s : Station) → Of s one → BesideOf s one.place (around_of beside rest.entry) → Holding s ticket one.place → Leaves (step (view s) (withdraw_call ticket)) s (withdrawal_answer result.answer) result.left [] }
+pub fn withdraw(one: One, beside: Beside<'_>, ticket: u32) -> Withdrawing
+    requires { Listed one.feeder.charges }
+    ensures leaves { (s : Station) → Of s one → BesideOf s one.place beside.entry → Holding s ticket one.place → Leaves (step (view s) (withdraw_call ticket)) s (withdrawal_answer result.answer) result.left [] }
     ensures same_head { SameHead one result.left }
 {
-    let n = one.feeder.charges.held;
-    let Place::At(i) = find(&one.feeder.charges.tickets, n, ticket) else {
+    let Some(i) = one.feeder.charges.place_of(ticket) else {
         return Withdrawing {
             answer: WithdrawalAnswer::Refused(15),
             left: one,
         };
     };
-    let held = one.feeder.charges;
-    let start = held.starts[i];
+    let start = one.feeder.charges.starts[i];
     if start < one.clock {
         return Withdrawing {
             answer: WithdrawalAnswer::Refused(25),
             left: one,
         };
     }
-    let kept = held.without(ticket);
-    if !plan_sound(beside, rest, kept) {
+    let kept = one.feeder.charges.without(ticket);
+    if !plan_sound(beside, &kept) {
         return Withdrawing {
             answer: WithdrawalAnswer::Refused(26),
             left: one,
         };
     }
-    let feeder = Feeder {
-        limit: one.feeder.limit,
-        percent: one.feeder.percent,
-        bound: one.feeder.bound,
-        tail: one.feeder.tail,
-        charges: kept,
-    };
     let mut left = one;
-    left.feeder = feeder;
+    left.feeder.charges = kept;
     Withdrawing {
         answer: WithdrawalAnswer::Withdrawn,
         left,

@@ -1,12 +1,15 @@
 -- The feeders of a valid station hold numbers in range, in ticket order; what a plan of one stands beside goes into a profile.
 use mathlib.Core.Logic.{◌⊎◌, inl, inr}
-use mathlib.Core.Path.{◌≡◌, sym, subst}
+use mathlib.Core.Path.{◌≡◌, sym, ap, subst}
+use mathlib.Core.List.{[], map}
+use lib.ListN.{length}
 use Prim.Native.Nat.{ℕ, zero, suc, ◌+◌, ◌≤◌, ◌<◌}
 use native.Mathlib.Omega.{arith}
 use Rattle.rules.specs.Basics.{Each, tabulate}
-use Rattle.rules.specs.Charge.{Charge, active_until}
+use Rattle.rules.specs.Charge.{Charge, active_until, loads_of}
 use Rattle.rules.specs.Site as rules
-use Rattle.rules.specs.Site.{charges_on}
+use Rattle.rules.specs.Site.{charges_on, others_of}
+use Rattle.rules.specs.Load.{elsewhere}
 use Rattle.rules.specs.Valid.{ValidCharge, ValidPlan, ValidSettings, Rising}
 use Rattle.rules.proofs.Ranges.{below_or_not}
 use Rattle.rules.proofs.Lists.{tabulate_each, each_map}
@@ -14,10 +17,12 @@ use Rattle.rules.proofs.Tickets.{rising_from}
 use Rattle.rules.proofs.Ends.{each_until}
 use Rattle.charges.specs.Arrays.{charge_at, charges_of}
 use Rattle.charges.specs.Held.{Small, Listed}
-use Rattle.planner.specs.Ready.{Around, Plannable, Others}
+use Rattle.charges.specs.declared.loads.Loads.{Loads}
+use Rattle.charges.specs.Drawn.{loads_lent}
+use Rattle.charges.proofs.Drawing.{loads_length}
+use Rattle.planner.specs.Others.{Plannable, Others}
 use Rattle.station.specs.declared.Station.{Station}
 use Rattle.station.specs.View.{feeder_view, feeder_at, view, Valid}
-use Rattle.station.specs.Beside.{BesideOf}
 use Rattle.station.proofs.Views.{view_number, is_feeder_lem}
 use Rattle.station.proofs.Seen.{own_end, elsewhere_end, others_plannable}
 
@@ -95,10 +100,21 @@ module _ (s : Station) (v : Valid s) where
         each_map (ValidCharge (feeder_view (feeder_at s i)) s.site s.clock s.next) (λ c. s.clock < active_until c) (λ c f. f.unfinished)
         (charges_of (feeder_at s i).charges) held_plan.each
 
-    pub valid_others : {b : Around} → BesideOf s i b → Others b
-    valid_others {b} d =
+    -- what up to three others draw, lent
+    pub valid_others :
+        (l : Loads) → loads_lent l ≡ map elsewhere (loads_of (others_of (view s) (i + 1))) → length (loads_lent l) ≤ 540 → Others l
+    valid_others l e n =
         record {
-          columns = d.reaches;
-          plannable = subst (Each Plannable) (sym d.draws) (others_plannable (view s) v.state (i + 1) (is_feeder_lem s i h));
-          end_most = rw d.draws (omega (arith, elsewhere_end (view s) v.state (i + 1) (is_feeder_lem s i h)));
+          few = omega (arith, n, loads_length l.held l.lines.now l.active_times.now l.starts.now l.rates.now);
+          plannable = subst (Each Plannable) (sym e) (others_plannable (view s) v.state (i + 1) (is_feeder_lem s i h));
+          end_most = rw e (omega (arith, elsewhere_end (view s) v.state (i + 1) (is_feeder_lem s i h)));
         }
+
+-- nothing that is lent
+pub none_others : (l : Loads) → loads_lent l ≡ [] → Others l
+none_others l e =
+    record {
+      few = omega (arith, ap length e, loads_length l.held l.lines.now l.active_times.now l.starts.now l.rates.now);
+      plannable = rw e tt;
+      end_most = rw e (omega arith);
+    }

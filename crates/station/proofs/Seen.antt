@@ -14,7 +14,7 @@ use Rattle.rules.specs.Valid.{ValidCharge, ValidState, IsFeeder}
 use Rattle.rules.proofs.Lists.{each_map, each_append}
 use Rattle.rules.proofs.Ends.{each_until}
 use Rattle.rules.proofs.Sites.{until_joins, until_append, last_until_append, others_own, last_seen, by_place, tails_high}
-use Rattle.planner.specs.Ready.{Plannable}
+use Rattle.planner.specs.Others.{Plannable}
 use Rattle.planner.proofs.Showing.{plannable}
 
 -- The site

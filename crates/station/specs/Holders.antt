@@ -1,10 +1,9 @@
 -- The feeder that holds a ticket.
-use Rattle.std.specs.Prelude.{◌≡◌, ℕ, ◌<◌, eqb}
+use Rattle.std.specs.Prelude.{◌≡◌, ℕ, ◌<◌, eqb, Option, Some, None}
 use Rattle.rules.specs.Basics.{at, nothing, first}
 use Rattle.charges.specs.Arrays.{charge_at}
 use Rattle.station.specs.declared.Station.{Station}
 use Rattle.station.specs.declared.holder.Holder.{Holder}
-use Rattle.station.specs.declared.holder.Holder.TheVariants.{At, Nobody}
 use Rattle.station.specs.View.{feeder_at}
 
 -- the feeder at place i holds no charge with the ticket
@@ -18,9 +17,9 @@ pub record HeldAt (s : Station) (ticket f k : ℕ) : Type 0 where
   pub before : (i : ℕ) → i < f → Lacks s ticket i
 
 -- that feeder, or none holds it
-abbrev pub HolderOf : Station → ℕ → Holder → Type 0
-HolderOf s ticket (At f k) = HeldAt s ticket f k
-HolderOf s ticket Nobody = (i : ℕ) → i < s.count → Lacks s ticket i
+abbrev pub HolderOf : Station → ℕ → Option Holder → Type 0
+HolderOf s ticket (Some h) = HeldAt s ticket h.feeder h.place
+HolderOf s ticket None = (i : ℕ) → i < s.count → Lacks s ticket i
 
 -- the feeder at place p is the first that holds it, or none does
 pub record Holding (s : Station) (ticket p : ℕ) : Type 0 where

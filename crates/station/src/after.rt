@@ -11,11 +11,9 @@ impl Station {
         requires { Formed self }
         ensures { Formed result × (view result ≡ moved_to (view self) target) }
     {
-        let count = self.count;
-        for i in 0..count {
+        for i in 0..self.count {
             let mut feeder = self.feeders[i];
-            let held = feeder.charges;
-            feeder.charges = held.unfinished(target);
+            feeder.charges = feeder.charges.unfinished(target);
             self.feeders[i] = feeder;
         }
         self.clock = target;

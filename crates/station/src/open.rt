@@ -214,20 +214,16 @@ fn least_asked() -> Asked
 }
 
 impl Station {
-    fn bounds(self) -> OpenAnswer
-        requires { length self.feeders ≡ 4 }
-        ensures { open_answer result ≡ opened (take self.count (bounds_of self)) }
+    fn bounds(&self) -> OpenAnswer
+        requires { length self.now.feeders ≡ 4 }
+        ensures { open_answer result ≡ opened (take self.now.count (bounds_of self.now)) }
     {
-        let one = self.feeders[0];
-        let two = self.feeders[1];
-        let three = self.feeders[2];
-        let four = self.feeders[3];
         OpenAnswer::Opened {
             count: self.count,
-            one: one.bound,
-            two: two.bound,
-            three: three.bound,
-            four: four.bound,
+            one: self.feeders[0].bound,
+            two: self.feeders[1].bound,
+            three: self.feeders[2].bound,
+            four: self.feeders[3].bound,
         }
     }
 

@@ -7,42 +7,37 @@ use search::limits::Limits;
 
 impl Station {
     // The feeder at a place.
-    pub fn one(self, place: usize) -> One
-        requires { Formed self × (place < self.count) }
-        ensures { result ≡ one_at self place }
+    pub fn one(&self, place: usize) -> One
+        requires { Formed self.now × (place < self.now.count) }
+        ensures { result ≡ one_at self.now place }
     {
-        let feeder = self.feeders[place];
         One {
             count: self.count,
             site: self.site,
             clock: self.clock,
             next: self.next,
             place,
-            feeder,
+            feeder: self.feeders[place],
         }
     }
 }
 
 impl One {
     // "no such feeder": whether the station has none with this number.
-    pub fn lacks(self, number: u32) -> bool
-        ensures { result ≡ (ltb number 1 || ltb self.count number) }
+    pub fn lacks(&self, number: u32) -> bool
+        ensures { result ≡ (ltb number 1 || ltb self.now.count number) }
     {
-        if number < 1 {
-            return true;
-        }
-        self.count < number as usize
+        number < 1 || self.count < number as usize
     }
 
     // What a plan of the feeder has to keep to.
-    pub fn limits(self) -> Limits
-        ensures { result ≡ limits_for self }
+    pub fn limits(&self) -> Limits
+        ensures { result ≡ limits_for self.now }
     {
-        let feeder = self.feeder;
         let site = self.site;
         Limits {
-            limit: feeder.limit,
-            bound: feeder.bound,
+            limit: self.feeder.limit,
+            bound: self.feeder.bound,
             site,
         }
     }

@@ -1,14 +1,14 @@
 -- What the test of a station's settings tells.
 use mathlib.Core.Path.{◌≡◌}
-use Prim.Native.Nat.{ℕ, ◌+◌, ◌-◌, ◌*◌, ◌≤◌, ◌<◌}
-use mathlib.Core.Bool.{Bool, true, false}
+use Prim.Native.Nat.{ℕ, ◌*◌, ◌≤◌}
+use mathlib.Core.Bool.{true}
 use native.Mathlib.Omega.{arith}
 use native.Mathlib.Nat.{mul-le-mul}
 use lib.Dec.{leb}
-use borrow.Author.Tests.{eq-eqb, leb-true, le-leb, lt-leb, lt-ltb, le-ltb}
+use borrow.Author.Tests.{leb-true}
 use Rattle.rules.specs.Calls.{bound_of}
 use Rattle.rules.proofs.Ranges.{and_left, and_right}
-use Rattle.layout.specs.Validity.{between, settings_ranged, times_right}
+use Rattle.layout.specs.Validity.{between, settings_ranged}
 use Rattle.layout.proofs.Judging.{six_hold, between_low, between_high}
 use Rattle.validity.specs.Settled.{settings_valid}
 
@@ -50,31 +50,3 @@ module _ (limit percent tail clock next site : ℕ) where
   valid_bound e =
       leb-true 1 (bound_of limit percent)
       (and_right (settings_ranged limit percent tail clock next site) (leb 1 (bound_of limit percent)) e)
-
--- The times of a charge, test by test
-
-module _ (tail clock next order start time active : ℕ) (e : active ≡ time + tail) where
-  pub ordered_late : clock < order → false ≡ times_right tail clock next order start time active
-  unfolding times_right
-  ordered_late h = rw (eq-eqb active (time + tail) e, lt-leb order clock h)
-
-  pub started_early : order ≤ clock → start < order → false ≡ times_right tail clock next order start time active
-  unfolding times_right
-  started_early h l = rw (eq-eqb active (time + tail) e, le-leb order clock h, lt-leb order start l)
-
-  pub is_finished_lem :
-      order ≤ clock → order ≤ start → start + active ≤ clock → false ≡ times_right tail clock next order start time active
-  unfolding times_right
-  is_finished_lem h l f =
-      rw (eq-eqb active (time + tail) e, le-leb order clock h, le-leb order start l, le-ltb clock (start + active) f)
-
-  pub times_told :
-      (r : Bool)
-      → order ≤ clock
-      → order ≤ start
-      → clock < start + active
-      → r ≡ leb (start + time) (clock + 1445 * (next - 1))
-      → r ≡ times_right tail clock next order start time active
-  unfolding times_right
-  times_told r h l f g =
-      rw (eq-eqb active (time + tail) e, le-leb order clock h, le-leb order start l, lt-ltb clock (start + active) f) g

@@ -1,13 +1,18 @@
 -- The records of a feeder whose settings passed their test, and the whole test.
 use mathlib.Core.Logic.{◌⊎◌, inl, inr}
 use mathlib.Core.Path.{◌≡◌, refl, ap, sym, ◌∙◌}
-use Prim.Native.Nat.{ℕ, ◌+◌, ◌≤◌, ◌<◌}
-use mathlib.Core.Bool.{Bool, true, false, cond, ◌&&◌}
+use Prim.Native.Nat.{ℕ, zero, suc, ◌+◌, ◌≤◌, ◌<◌}
+use mathlib.Core.Bool.{Bool, true, false, ◌&&◌}
 use mathlib.Core.List.{List, []}
 use native.Mathlib.Omega.{arith}
-use lib.Dec.{ltb}
-use lib.ListN.{length, get_or}
-use borrow.Author.Tests.{lt-ltb, le-ltb, lt-leb, le-leb, eq-eqb}
+use native.Mathlib.Numerals.{add-one}
+use Rattle.std.proofs.Common.{zero-add}
+use Rattle.std.proofs.lemmas.List.Folds.{list_all_more}
+use Rattle.std.proofs.lemmas.List.FromFn.{length-range_with_len, get_or-range_with_len}
+use lib.ListN.{length, take}
+use Rattle.std.specs.List.{list_all, range_with_len}
+use Rattle.std.proofs.lemmas.List.{length-take-le, get_or-take, take_all}
+use borrow.Author.Tests.{lt-ltb, le-ltb, le-leb, eq-eqb}
 use Rattle.rules.specs.Basics.{Each}
 use Rattle.rules.specs.Load.{Load, IsRate, Limits, limits, sound}
 use Rattle.rules.specs.Charge.{Charge, active_until, seen}
@@ -15,7 +20,7 @@ use Rattle.rules.specs.Calls.{bound_of}
 use Rattle.rules.proofs.Ranges.{below_or_not}
 use Rattle.rules.proofs.Lists.{length_tabulate, get_d_tabulate, each_map}
 use Rattle.charges.specs.declared.Charges.{Charges}
-use Rattle.charges.specs.Arrays.{charge_at, charges_of}
+use Rattle.charges.specs.Arrays.{charge_at, charges_of, tickets}
 use Rattle.station.specs.declared.One.{One}
 use Rattle.station.specs.View.{view, station_of}
 use Rattle.layout.specs.Lists.{every}
@@ -25,25 +30,26 @@ use Rattle.layout.proofs.Judging.{RightCharge}
 use Rattle.layout.proofs.Testing.{each_right}
 use Rattle.planner.specs.Ready.{Profiled}
 use Rattle.planner.proofs.Showing.{plannable}
-use Rattle.validity.specs.Settled.{charge_valid, ticket_or_next, ticket_rises, held_by, single, Settled}
+use Rattle.validity.specs.declared.ranges.Record.{Record}
+use Rattle.validity.specs.Settled.{ticket_or_next, ticket_rises, charge_of, held_by, single, Settled}
 use Rattle.validity.proofs.Ranging.{Ranged, ranged, valid_ranged, valid_bound}
 
--- Tickets that rise, by what was read
+-- a test at each number of a range
+all_below : (f : ℕ → Bool) (n k : ℕ) → k ≤ n → list_all f (take k (range_with_len 0 n)) ≡ every f k
+unfolding every
+all_below f n zero h = refl
+all_below f n (suc k) h =
+    rw (
+      ← add-one k,
+      list_all_more f (range_with_len 0 n) k 0 (omega (arith, length-range_with_len 0 n)),
+      all_below f n k (omega arith),
+      get_or-range_with_len 0 n k 0 h,
+      zero-add k,
+    )
 
-module _ (tickets : List ℕ) (held next q : ℕ) where
-  pub rises_low : (t : ℕ) → t ≡ ticket_or_next tickets held next q → t < 1 → false ≡ ticket_rises tickets held next q
-  unfolding ticket_rises
-  rises_low t e h = rw (← e, lt-leb 1 t h)
-
-  pub rises_is :
-      (t u : ℕ) (r : Bool)
-      → t ≡ ticket_or_next tickets held next q
-      → u ≡ ticket_or_next tickets held next (q + 1)
-      → 1 ≤ t
-      → r ≡ ltb t u
-      → r ≡ ticket_rises tickets held next q
-  unfolding ticket_rises
-  rises_is t u r e f h d = rw (← e, ← f, le-leb 1 t h) d
+pub all_every : (f : ℕ → Bool) (n : ℕ) → list_all f (range_with_len 0 n) ≡ every f n
+all_every f n =
+    ap (list_all f) (sym (take_all n (range_with_len 0 n) (omega (arith, length-range_with_len 0 n)))) ∙ all_below f n n (omega arith)
 
 module _ (o : One) where
   abbrev charges : Charges
@@ -60,48 +66,32 @@ module _ (o : One) where
       let e : 0 + q ≡ q = omega arith in
       get_d_tabulate (charge_at charges) held 0 q no_charge l ∙ ap (charge_at charges) e
 
-  abbrev tickets : ℕ → ℕ
-  tickets q = ticket_or_next charges.tickets held o.next q
-
-  ticket_at_lem : (q : ℕ) → ticket_at (single o) q ≡ tickets q
-  ticket_at_lem q = go (below_or_not q held)
-    where
-      go :
-          (q < held) ⊎ (held ≤ q)
-          → cond (ltb q (length (charges_of charges))) (held_at (single o) q).ticket o.next
-          ≡ cond (ltb q held) (get_or charges.tickets q 0) o.next
-      go (inl l) = rw (held_count, lt-ltb q held l) (ap (λ (c : Charge). c.ticket) (held_at_lem q l))
-      go (inr l) = rw (held_count, le-ltb q held l)
-
-  abbrev rises : ℕ → Bool
-  rises q = ticket_rises charges.tickets held o.next q
-
-  -- the test of the charge at a place, on its numbers
-  abbrev pub valid_at : Charge → Bool
-  valid_at c =
-      charge_valid o.feeder.limit o.feeder.bound o.site o.feeder.tail o.clock o.next c.line c.order_minute c.time
-      c.active_time c.due c.start c.rate
-
-  valid_right : (c : Charge) → charge_right (single o) c ≡ valid_at c
-  unfolding charge_right charge_valid
-  valid_right c = refl
-
-  rises_right : (q : ℕ) → ticket_right (single o) q ≡ rises q
-  unfolding ticket_right ticket_rises
-  rises_right q = rw (ticket_at_lem q, ticket_at_lem (q + 1))
-
   -- Records
 
-  record_told : (q : ℕ) → q < held → record_right (single o) q ≡ rises q && valid_at (charge_at charges q)
-  unfolding record_right
-  record_told q l = rw (rises_right q, held_at_lem q l, valid_right (charge_at charges q))
+  module _ (h : Settled o) where
+    ticket_at_lem : (q : ℕ) → ticket_or_next (take held charges.tickets) o.next q ≡ ticket_at (single o) q
+    ticket_at_lem q = go (below_or_not q held)
+      where
+        some : length (take held charges.tickets) ≡ held
+        some = length-take-le held charges.tickets (omega (arith, h.columns.few, (h.columns.filled tickets).full))
 
-  pub ticket_fails : (q : ℕ) (a : Bool) → q < held → a ≡ rises q → a ≡ false → record_right (single o) q ≡ false
-  ticket_fails q a l e f = record_told q l ∙ rw (← e, f)
+        go : (q < held) ⊎ (held ≤ q) → ticket_or_next (take held charges.tickets) o.next q ≡ ticket_at (single o) q
+        go (inl l) =
+            rw (some, held_count, lt-ltb q held l)
+            (get_or-take held charges.tickets q 0 l ∙ ap (λ (c : Charge). c.ticket) (sym (held_at_lem q l)))
+        go (inr l) = rw (some, held_count, le-ltb q held l)
 
-  pub record_is :
-      (q : ℕ) (a b : Bool) → q < held → a ≡ rises q → a ≡ true → b ≡ valid_at (charge_at charges q) → record_right (single o) q ≡ b
-  record_is q a b l e t f = record_told q l ∙ rw (← e, t, ← f)
+    rises_right : (q : ℕ) → ticket_rises (take held charges.tickets) o.next q ≡ ticket_right (single o) q
+    unfolding ticket_right ticket_rises
+    rises_right q = rw (ticket_at_lem q, ticket_at_lem (q + 1))
+
+    -- a record is right by its ticket and by its charge
+    pub record_told :
+        (q : ℕ)
+        → q < held
+        → record_right (single o) q ≡ ticket_rises (take held charges.tickets) o.next q && charge_right (single o) (charge_at charges q)
+    unfolding record_right
+    record_told q l = rw (held_at_lem q l, rises_right q)
 
   -- what its plan has to keep to: nothing else is drawn
   abbrev own : List Load → Limits
@@ -142,10 +132,16 @@ module _ (o : One) where
         → t ≡ is_valid (view (station_of o))
     valid_told r t limit bound site clock others e f g none a b w k = sym (valid-is r t e (rw (none, a, b, w, k) at g) ∙ rw f)
 
-    pub settled_ranged : Ranged o.feeder.limit o.feeder.percent o.feeder.tail o.clock o.next o.site
+    settled_ranged : Ranged o.feeder.limit o.feeder.percent o.feeder.tail o.clock o.next o.site
     settled_ranged =
         ranged o.feeder.limit o.feeder.percent o.feeder.tail o.clock o.next o.site
         (valid_ranged o.feeder.limit o.feeder.percent o.feeder.tail o.clock o.next o.site h.settings)
+
+    -- what the test of its times needs
+    pub times_testable :
+        (q : ℕ) (r : Record) → q < held → charge_of r ≡ charge_at charges q → (1 ≤ o.next) × (r.active_time ≡ r.time + o.feeder.tail)
+    times_testable q r l e =
+        (settled_ranged.next_low, ap (λ (c : Charge). c.active_time) e ∙ h.active q l ∙ sym (ap (λ (c : Charge). c.time + o.feeder.tail) e))
 
     pub all_profiled : every (record_right (single o)) held ≡ true → Profiled charges
     all_profiled all =

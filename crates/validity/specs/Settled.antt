@@ -1,31 +1,31 @@
 -- What is known of the only feeder of a station before its charges are tested, and the tests of plain numbers.
-use Rattle.std.specs.Prelude.{ℕ, ◌+◌, ◌<◌, ◌≡◌, Bool, true, cond, ◌&&◌, List, [], ◌∷◌, leb, ltb, get_or}
+use Rattle.std.specs.Prelude.{ℕ, ◌+◌, ◌<◌, ◌≡◌, Bool, true, cond, ◌&&◌, List, [], ◌∷◌, leb, ltb, length, get_or}
+use Rattle.rules.specs.Charge.{Charge}
 use Rattle.rules.specs.Site.{State}
 use Rattle.rules.specs.Calls.{bound_of}
 use Rattle.charges.specs.declared.Charges.{Charges}
-use Rattle.charges.specs.Arrays.{charge_at, Columns}
+use Rattle.charges.specs.Arrays.{charge, charge_at, Columns}
 use Rattle.station.specs.declared.One.{One}
 use Rattle.station.specs.View.{feeder_view}
-use Rattle.layout.specs.Validity.{settings_ranged, fields_ranged, rate_right, times_right}
+use Rattle.validity.specs.declared.ranges.Record.{Record}
+use Rattle.layout.specs.Validity.{settings_ranged}
 
 -- "fields are in range and meet neither refusal 3"
 unfoldable pub settings_valid : ℕ → ℕ → ℕ → ℕ → ℕ → ℕ → Bool
 settings_valid limit percent tail clock next site =
     settings_ranged limit percent tail clock next site && leb 1 (bound_of limit percent)
 
--- a charge, but for its ticket
-unfoldable pub charge_valid : ℕ → ℕ → ℕ → ℕ → ℕ → ℕ → ℕ → ℕ → ℕ → ℕ → ℕ → ℕ → ℕ → Bool
-charge_valid limit bound site tail clock next line order_minute time active_time due start rate =
-    fields_ranged line time due rate
-    && (rate_right limit bound site rate && times_right tail clock next order_minute start time active_time)
-
 -- the ticket of place q, or the next one behind the last
-abbrev pub ticket_or_next : List ℕ → ℕ → ℕ → ℕ → ℕ
-ticket_or_next tickets held next q = cond (ltb q held) (get_or tickets q 0) next
+abbrev pub ticket_or_next : List ℕ → ℕ → ℕ → ℕ
+ticket_or_next tickets next q = cond (ltb q (length tickets)) (get_or tickets q 0) next
 
-unfoldable pub ticket_rises : List ℕ → ℕ → ℕ → ℕ → Bool
-ticket_rises tickets held next q =
-    leb 1 (ticket_or_next tickets held next q) && ltb (ticket_or_next tickets held next q) (ticket_or_next tickets held next (q + 1))
+unfoldable pub ticket_rises : List ℕ → ℕ → ℕ → Bool
+ticket_rises tickets next q =
+    leb 1 (ticket_or_next tickets next q) && ltb (ticket_or_next tickets next q) (ticket_or_next tickets next (q + 1))
+
+-- the charge of a record
+abbrev pub charge_of : Record → Charge
+charge_of r = charge r.ticket r.line r.order_minute r.time r.active_time r.due r.start r.rate
 
 -- One feeder, which is the only one of its station
 

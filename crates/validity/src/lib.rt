@@ -10,37 +10,26 @@ ghost use Rattle.station.specs.View.{view, station_of};
 ghost use Rattle.validity.specs.Settled.{Settled};
 
 use crate::records::records_right;
+use charges::loads::Loads;
 use planner::Beside;
 use planner::plan::plan_sound;
 use profile::FEEDER_STEPS;
-use search::limits::Limits;
 use station::One;
 
 // The rest of the test for a feeder whose settings passed theirs.
-pub fn is_valid(one: One) -> bool
-    requires { Settled one }
-    ensures { result ≡ is_valid (view (station_of one)) }
+pub fn is_valid(one: &One) -> bool
+    requires { Settled one.now }
+    ensures { result ≡ is_valid (view (station_of one.now)) }
 {
     if !records_right(one) {
         return false;
     }
-    let feeder = one.feeder;
-    let held = feeder.charges;
-    let limits = Limits {
-        limit: feeder.limit,
-        bound: feeder.bound,
-        site: one.site,
-    };
+    let limits = one.limits();
     // There is no other feeder that could draw.
     let beside = Beside {
         clock: one.clock,
         limits,
-        held: 0,
+        others: Loads::none(),
     };
-    let zero = [0; 1];
-    let none = &zero[..];
-    let rest = [none, none, none, none];
-    let mut at = [0u32; FEEDER_STEPS];
-    let mut counts = [0u32; 4 * FEEDER_STEPS];
-    plan_sound(&mut at, &mut counts, beside, rest, held)
+    plan_sound::<FEEDER_STEPS>(beside, &one.feeder.charges)
 }

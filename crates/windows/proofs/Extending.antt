@@ -1,24 +1,39 @@
 -- The loads of one window, put into a profile place by place.
-use mathlib.Core.Path.{◌≡◌, refl, sym, ◌∙◌, ap}
-use Prim.Native.Nat.{ℕ, zero, suc, ◌+◌, ◌-◌, ◌*◌, ◌≤◌, ◌<◌}
-use mathlib.Core.Bool.{Bool, true, false}
+use mathlib.Core.Path.{◌≡◌, refl, sym, ◌∙◌}
+use Prim.Native.Nat.{ℕ, zero, suc, ◌+◌, ◌-◌, ◌^◌, ◌≤◌, ◌<◌}
+use mathlib.Core.Bool.{Bool, true, false, ◌&&◌}
 use mathlib.Core.List.{List, [], ◌∷◌, ◌++◌, append-nil, append_assoc}
 use native.Mathlib.Omega.{arith}
-use lib.ListN.{length, get_or, length-append}
+use lib.Dec.{leb, ltb}
+use lib.ListN.{length, length-append}
+use borrow.Author.Tests.{lt-ltb, le-ltb, lt-leb, le-leb}
+use Rattle.std.specs.Cmp.{ranks}
+use Rattle.std.specs.Ordering.{nat_cmp, is_lt, is_le, MatchOrdering}
+use Rattle.std.specs.declared.cmp.Ordering.{Ordering}
+use Rattle.std.specs.declared.cmp.Ordering.TheVariants.{Less, Equal, Greater}
 use Rattle.rules.specs.Basics.{tabulate}
-use Rattle.rules.specs.Load.{Load}
-use Rattle.charges.specs.Drawn.{load_in, loads_in}
+use Rattle.rules.specs.Load.{Load, load_from}
 use Rattle.charges.proofs.Members.{each_place}
 use Rattle.charges.proofs.Walking.{keep_hit, keep_miss, count_hit}
-use Rattle.profile.specs.Steps.{columns}
-use Rattle.profile.specs.Shows.{Profile, profile_of, ShowsIn, LoadAdded, CanAdd}
+use Rattle.profile.specs.declared.loads.Draw.{Draw}
+use Rattle.profile.specs.Shows.{Profile, draw_of, Shows, LoadAdded, CanAdd}
 use Rattle.profile.proofs.Shown.{added_shows, can_add}
 use Rattle.windows.specs.Windows.{starts_in, started, Drawable, CanAddStarted}
 
--- profiles with the same parts are the same
-pub same_parts :
-    {n n' : ℕ} {ats ats' counts counts' : List ℕ} → n ≡ n' → ats ≡ ats' → counts ≡ counts' → profile_of n ats counts ≡ profile_of n' ats' counts'
-same_parts e f g = rw (e, f, g)
+-- a range contains what is not before its start, and before its end
+in_window : (low high t : ℕ) → (is_le (nat_cmp low t) && is_lt (nat_cmp t high)) ≡ (leb low t && ltb t high)
+in_window low high t = go (nat_cmp low t) (nat_cmp t high) (ranks low t) (ranks t high)
+  where
+    go :
+        (a b : Ordering) → MatchOrdering a (low < t) (low ≡ t) (t < low) → MatchOrdering b (t < high) (t ≡ high) (high < t) →
+        (is_le a && is_lt b) ≡ (leb low t && ltb t high)
+    go Greater b h k = rw (lt-leb low t h) refl
+    go Less Less h k = rw (le-leb low t (omega arith), lt-ltb t high k) refl
+    go Less Equal h k = rw (le-leb low t (omega arith), le-ltb t high (omega arith)) refl
+    go Less Greater h k = rw (le-leb low t (omega arith), le-ltb t high (omega arith)) refl
+    go Equal Less h k = rw (le-leb low t (omega arith), lt-ltb t high k) refl
+    go Equal Equal h k = rw (le-leb low t (omega arith), le-ltb t high (omega arith)) refl
+    go Equal Greater h k = rw (le-leb low t (omega arith), le-ltb t high (omega arith)) refl
 
 module _ (f : ℕ → Load) (low high : ℕ) where
   -- those among the first i loads
@@ -40,57 +55,43 @@ module _ (f : ℕ → Load) (low high : ℕ) where
 
 -- q shows what p shows, and those of the first i loads that begin in the window
 pub record Extended (p q : Profile) (f : ℕ → Load) (low high i : ℕ) : Type 0 where
-  pub shown : (size clock : ℕ) (loads : List Load) → ShowsIn size p clock loads → ShowsIn size q clock (loads ++ started_below f low high i)
+  pub shown : (clock : ℕ) (loads : List Load) → Shows p clock loads → Shows q clock (loads ++ started_below f low high i)
 
 pub extended_none : (p : Profile) (f : ℕ → Load) (low high : ℕ) → Extended p p f low high 0
-extended_none p f low high = record { shown = λ size clock loads s. rw (append-nil loads) s }
+extended_none p f low high = record { shown = λ clock loads s. rw (append-nil loads) s }
 
-module _ {p q : Profile} {held : ℕ} {lines actives starts rates : List ℕ} {low high i : ℕ} (can : CanAddStarted p held lines actives starts rates low high)
-    (w : Extended p q (load_in lines actives starts rates) low high i) (more : i < held) where
-  abbrev x : Load
-  x = load_in lines actives starts rates i
+-- the next load, which the window contains or not
+module _ {p q : Profile} {places held : ℕ} {f : ℕ → Load} {low high i : ℕ} (can : CanAddStarted p places (tabulate f held 0) low high)
+    (w : Extended p q f low high i) (more : i < held) {inside : Bool} (told : inside ≡ (is_le (nat_cmp low (f i).from) && is_lt (nat_cmp (f i).from high))) where
+  starts : {b : Bool} → inside ≡ b → starts_in low high (f i) ≡ b
+  starts e = sym (told ∙ in_window low high (f i).from) ∙ e
 
-  abbrev f : ℕ → Load
-  f = load_in lines actives starts rates
+  pub next_drawable : Drawable (f i)
+  next_drawable = each_place Drawable f held can.drawable i more
 
-  drawable : Drawable x
-  drawable = each_place Drawable f held can.drawable i more
+  module _ (contained : inside ≡ true) {a : Draw} {start : ℕ} where
+    -- one that is added leaves room for those behind it
+    pub extended_can_add : 1 ≤ a.rate → a.rate ≤ 2 → start + a.time < 2 ^ 32 → CanAdd q places a start
+    extended_can_add rate_low rate_high ends_fit =
+        let n : i + 1 + (held - (i + 1)) ≡ held = omega arith in
+        let all : length (started_below f low high (i + 1)) ≤ length (started low high (tabulate f held 0)) = rw n at (started_few f low high (i + 1) (held - (i + 1))) in
+        can_add q places can.room.clock (can.room.loads ++ started_below f low high i) a start
+        (w.shown can.room.clock can.room.loads can.room.shows)
+        (omega (arith, all, count_hit (starts_in low high) f i (starts contained), length-append can.room.loads (started_below f low high i), can.room.few))
+        can.room.most
+        (record { low = rate_low; high = rate_high })
+        ends_fit
 
-  -- one that is added leaves room for those behind it
-  pub extended_can_add :
-      starts_in low high x ≡ true → CanAdd q (get_or actives i 0) (get_or rates i 0) (get_or starts i 0)
-  extended_can_add e =
-      let n : i + 1 + (held - (i + 1)) ≡ held = omega arith in
-      let all : length (started_below f low high (i + 1)) ≤ length (started low high (loads_in held lines actives starts rates)) = rw n at (started_few f low high (i + 1) (held - (i + 1))) in
-      can_add q can.room.clock (can.room.loads ++ started_below f low high i) (get_or actives i 0) (get_or rates i 0) (get_or starts i 0)
-      (w.shown can.room.size can.room.clock can.room.loads can.room.shows)
-      (omega (arith, all, count_hit (starts_in low high) f i e, length-append can.room.loads (started_below f low high i), can.room.few))
-      drawable.is_rate
-      drawable.ends_fit
+    pub extended_on :
+        {r : Profile} → a.line ≡ (f i).line → a.rate ≡ (f i).rate → start ≡ (f i).from → start + a.time ≡ (f i).until → LoadAdded q r a start →
+        Extended p r f low high (i + 1)
+    extended_on {r} line rate from until added =
+        let is : load_from (draw_of a) start ≡ f i = rw (until, line, rate, from) refl in
+        record {
+          shown = λ clock loads s.
+              rw (keep_hit (starts_in low high) f i (starts contained), ← append_assoc loads (started_below f low high i) (f i ∷ []), ← is)
+              (added_shows (rw rate next_drawable.is_rate) added clock (loads ++ started_below f low high i) (w.shown clock loads s));
+        }
 
-  pub extended_on :
-      {r v : Profile} → starts_in low high x ≡ true → LoadAdded q r (get_or lines i 0) (get_or actives i 0) (get_or rates i 0) (get_or starts i 0) →
-      v ≡ r → Extended p v f low high (i + 1)
-  extended_on {r} {v} e a same =
-      record {
-        shown = λ size clock loads s.
-            rw (same, keep_hit (starts_in low high) f i e, ← append_assoc loads (started_below f low high i) (x ∷ []))
-            (added_shows drawable.is_rate a size clock (loads ++ started_below f low high i) (w.shown size clock loads s));
-      }
-
-  pub extended_past : {v : Profile} → starts_in low high x ≡ false → v ≡ q → Extended p v f low high (i + 1)
-  extended_past e same =
-      record { shown = λ size clock loads s. rw (same, keep_miss (starts_in low high) f i e) (w.shown size clock loads s) }
-
--- the lists keep their lengths
-module _ {p q : Profile} {held : ℕ} {lines actives starts rates : List ℕ} {low high i : ℕ} (can : CanAddStarted p held lines actives starts rates low high)
-    (w : Extended p q (load_in lines actives starts rates) low high i) where
-  shown : ShowsIn can.room.size q can.room.clock (can.room.loads ++ started_below (load_in lines actives starts rates) low high i)
-  shown = w.shown can.room.size can.room.clock can.room.loads can.room.shows
-
-  pub extended_at : length q.at ≡ length p.at
-  extended_at = shown.sized ∙ sym can.room.shows.sized
-
-  pub extended_counts : length q.counts ≡ length p.counts
-  extended_counts =
-      shown.formed.counts_size ∙ ap (λ (x : ℕ). columns * x) extended_at ∙ sym can.room.shows.formed.counts_size
+  pub extended_past : inside ≡ false → Extended p q f low high (i + 1)
+  extended_past outside = record { shown = λ clock loads s. rw (keep_miss (starts_in low high) f i (starts outside)) (w.shown clock loads s) }

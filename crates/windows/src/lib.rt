@@ -1,52 +1,27 @@
 // The charges that start in a window of minutes, put into a profile.
 #![tactic(auto)]
 
-ghost use Rattle.std.specs.Prelude.{◌≡◌, ◌&&◌, leb, ltb};
-ghost use Rattle.charges.specs.Drawn.{loads_in};
-ghost use Rattle.profile.specs.Shows.{profile_of};
+ghost use Rattle.charges.specs.Drawn.{loads_lent};
 ghost use Rattle.windows.specs.Windows.{CanAddStarted, StartedAdded};
 
-use profile::loads::add;
+use charges::loads::Loads;
+use profile::loads::{Draw, Profile};
+use std::ops::Range;
 
-// A window: of the first `held` charges those with a start from `low` up to `high`.
-#[derive(Clone, Copy)]
-pub struct Window {
-    pub held: usize,
-    pub low: u32,
-    pub high: u32,
-}
-
-// Whether a start is not before `low` and before `high`.
-fn is_between(low: u32, high: u32, start: u32) -> bool
-    ensures { result ≡ (leb low start && ltb start high) }
+// Adds those of the loads that are drawn from a minute of the window on.
+pub fn add_started<const N: usize>(profile: &mut Profile<N>, loads: Loads<'_>, window: Range<u32>)
+    requires { CanAddStarted profile.old N (loads_lent loads) window.start window.end }
+    ensures { StartedAdded profile.old profile.new (loads_lent loads.entry) window.start window.end }
 {
-    if low <= start { start < high } else { false }
-}
-
-// Adds the charges of a window. Of all held ones what they draw is lent, column by column. The answer: the number of steps.
-pub fn add_started<'a>(
-    at: &mut [u32],
-    counts: &mut [u32],
-    n: usize,
-    lines: &'a [u32],
-    active_times: &'a [u32],
-    starts: &'a [u32],
-    rates: &'a [u32],
-    window: Window,
-) -> usize
-    requires { CanAddStarted (profile_of n at.old counts.old) window.held lines.now active_times.now starts.now rates.now window.low window.high }
-    ensures { StartedAdded (profile_of n at.old counts.old) (profile_of result at.new counts.new) (loads_in window.held lines.now active_times.now starts.now rates.now) window.low window.high }
-{
-    let held = window.held;
-    let mut steps = n;
-    for i in 0..held {
-        let start = starts[i];
-        if is_between(window.low, window.high, start) {
-            let line = lines[i];
-            let time = active_times[i];
-            let rate = rates[i];
-            steps = add(at, counts, steps, line, time, rate, start);
+    for i in 0..loads.held {
+        let start = loads.starts[i];
+        if window.contains(&start) {
+            let draw = Draw {
+                line: loads.lines[i],
+                time: loads.active_times[i],
+                rate: loads.rates[i],
+            };
+            profile.add(draw, start);
         }
     }
-    steps
 }

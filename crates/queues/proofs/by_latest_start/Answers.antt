@@ -1,17 +1,14 @@
 -- Tickets rise with the places, so that places with the same latest start, which keep their order, stand in ticket order.
-use Rattle.rules.specs.Charge.{latest_start_before}
-use Rattle.charges.specs.declared.places.Which.TheVariants.{Waiting}
-use Rattle.charges.proofs.Collecting.{meant_inside}
-use Rattle.queues.specs.Queues.{not_after}
-use Rattle.queues.proofs.Ordering.{ordered, by_latest_start_before}
+use lib.Signed.{le_z}
+use Rattle.std.proofs.Common.{rules}
+use Rattle.rules.specs.Charge.{is_waiting, latest_start_before}
+use Rattle.queues.proofs.Ordering.{ordered, latest_start_at, by_latest_start_before}
 use Rattle.queues.proofs.by_latest_start.Goals as goal
-
-pub sorted-requires : goal.sorted-requires
-sorted-requires c = meant_inside (Waiting c.args.clock) c.args.charges c.requires.columns.few c.meant-waiting.ensures
 
 pub returns : goal.returns
 returns c =
-    ordered (Waiting c.args.clock) c.args.charges (not_after c.args.charges.dues c.args.charges.times) latest_start_before c.meant-waiting.result c.sorted.result c.requires.rising
-    (by_latest_start_before c.args.charges)
-    c.meant-waiting.ensures
-    c.sorted.ensures
+    let key = latest_start_at c.args.charges.now in
+    ordered (is_waiting c.args.clock) c.args.charges.now (λ i j. le_z (key i) (key j)) latest_start_before c.waiting_places-waiting.result c.requires.rising
+    (by_latest_start_before c.args.charges.now)
+    (search rules)
+    (c.sorted_by_key.ensures key (λ i h v e. search rules))

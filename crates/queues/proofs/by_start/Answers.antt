@@ -1,19 +1,14 @@
--- With no times the latest start is the start. Tickets rise with the places, so that equal starts stay in ticket order.
-use lib.ListN.{replicate}
-use Rattle.rules.specs.Site.{places}
-use Rattle.rules.specs.Calls.{start_before}
-use Rattle.charges.specs.declared.places.Which.TheVariants.{Passed}
-use Rattle.charges.proofs.Collecting.{meant_inside}
-use Rattle.queues.specs.Queues.{not_after}
-use Rattle.queues.proofs.Ordering.{ordered, by_start_before}
+-- Tickets rise with the places, so that equal starts, which keep their order, stand in ticket order.
+use lib.Signed.{le_z}
+use Rattle.std.proofs.Common.{rules}
+use Rattle.rules.specs.Calls.{is_passed, start_before}
+use Rattle.queues.proofs.Ordering.{ordered, start_at, by_start_before}
 use Rattle.queues.proofs.by_start.Goals as goal
-
-pub sorted-requires : goal.sorted-requires
-sorted-requires c = meant_inside (Passed c.args.clock c.args.target) c.args.charges c.requires.columns.few c.meant-passed.ensures
 
 pub returns : goal.returns
 returns c =
-    ordered (Passed c.args.clock c.args.target) c.args.charges (not_after c.args.charges.starts (replicate places 0)) start_before c.meant-passed.result c.sorted.result c.requires.rising
-    (by_start_before c.args.charges)
-    c.meant-passed.ensures
-    c.sorted.ensures
+    let key = start_at c.args.charges.now in
+    ordered (is_passed c.args.clock c.args.target) c.args.charges.now (λ i j. le_z (key i) (key j)) start_before c.passed_places-passed.result c.requires.rising
+    (by_start_before c.args.charges.now)
+    (search rules)
+    (c.sorted_by_key.ensures key (λ i h v e. search rules))

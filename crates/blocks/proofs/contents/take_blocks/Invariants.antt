@@ -1,7 +1,5 @@
--- The loop has taken the blocks before it, and knows whether their checks are right.
-use mathlib.Core.Path.{◌≡◌}
-use Prim.Native.Nat.{◌*◌, ◌≤◌}
-use lib.ListN.{length}
+-- The loop has taken the contents of the blocks before it, and knows whether their checks are right.
+use Rattle.std.proofs.Common.{◌≡◌, ◌*◌}
 use Rattle.layout.specs.Lists.{every}
 use Rattle.layout.specs.Reading.{checked}
 use Rattle.blocks.specs.Places.{Filling}
@@ -9,7 +7,4 @@ use Rattle.blocks.specs.Contents.{taken_at}
 use Rattle.blocks.proofs.contents.take_blocks.Given as goal
 
 abbrev pub invariant-loop-block : goal.invariant-loop-block
-invariant-loop-block l = (l.block ≤ 9)
-    × (length l.contents ≡ 4572)
-    × (l.right ≡ every (checked l.image) l.block)
-    × Filling (taken_at l.image) 4572 (508 * l.block) l.contents
+invariant-loop-block l = Filling (taken_at l.image) 4572 (508 * l.block) l.contents × (l.right ≡ every (checked l.image) l.block)

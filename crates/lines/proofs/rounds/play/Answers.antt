@@ -1,50 +1,26 @@
 -- A round is that of the rules, whatever caps the lists of minutes stand for.
-use mathlib.Core.Path.{◌≡◌, refl}
-use Prim.Native.Nat.{ℕ}
-use native.Mathlib.Omega.{arith}
-use Rattle.profile.specs.declared.When.{When}
-use Rattle.profile.specs.declared.When.TheVariants.{Minute, Never}
-use borrow.Author.Rules.{rules}
-use Rattle.lines.proofs.Copying.{steps_fit, counts_fit, round_can, round_shows}
-use Rattle.lines.proofs.Ending.{lines_length}
-use Rattle.lines.proofs.Playing.{round_formed, plays_balanced, round_comparable, plays_asked}
+use Rattle.lines.proofs.Ending.{is_none}
+use Rattle.lines.proofs.Playing.{round_formed, plays_balanced, round_comparable, ends_asked, lowers_asked}
 use Rattle.lines.proofs.rounds.play.Goals as goal
 
--- what is no minute is none
-is_never : (w : When) → ((t : ℕ) → w ≡ Minute t → ⊥) → w ≡ Never
-is_never Never _ = refl
-is_never (Minute t) h = absurd (h t refl)
-
-pub copy-requires : goal.copy-requires
-copy-requires c = (omega (arith, c.requires.2.formed.fits), omega (arith, steps_fit c.requires.0 c.requires.1 c.requires.2))
-
-pub copy-requires-2 : goal.copy-requires-2
-copy-requires-2 c = counts_fit c.requires.0 c.requires.1 c.requires.2 (omega arith)
-
-pub place_lines-placement-requires : goal.place_lines-placement-requires
-place_lines-placement-requires c = (round_can c.requires.0 c.requires.1 c.requires.2 c.copy.ensures c.copy-2.ensures (omega arith) (omega arith), round_shows c.requires.0 c.requires.1 c.requires.2 c.copy.ensures c.copy-2.ensures (omega arith) (omega arith))
-
-pub first_unbalanced-unbalanced-requires : goal.first_unbalanced-unbalanced-requires
-first_unbalanced-unbalanced-requires c = round_formed (round_can c.requires.0 c.requires.1 c.requires.2 c.copy.ensures c.copy-2.ensures (omega arith) (omega arith)) c.place_lines-placement.ensures
-
-pub waiting_starts-starts-requires : goal.waiting_starts-starts-requires
-waiting_starts-starts-requires c = c.requires.0.ready.listed.columns
+pub first_unbalanced-requires : goal.first_unbalanced-requires
+first_unbalanced-requires g c = rw c.steps.ensures (round_formed c.requires.0 c.place_lines-by_place.ensures)
 
 pub returns-in_default : goal.returns-in_default
-returns-in_default c =
-    plays_balanced (round_can c.requires.0 c.requires.1 c.requires.2 c.copy.ensures c.copy-2.ensures (omega arith) (omega arith)) c.place_lines-placement.ensures _
-    c.first_unbalanced-unbalanced.ensures (omega arith) (is_never _ c.in_default.not-Minute) c.waiting_starts-starts.ensures
+returns-in_default g c =
+    plays_balanced c.requires.0 c.place_lines-by_place.ensures (rw c.steps.ensures at c.first_unbalanced.ensures) (is_none _ c.in_default.not-Some) c.waiting_starts-starts.ensures
 
-pub unbalanced_in-outcome-requires : goal.unbalanced_in-outcome-requires
-unbalanced_in-outcome-requires c =
-    round_comparable (round_can c.requires.0 c.requires.1 c.requires.2 c.copy.ensures c.copy-2.ensures (omega arith) (omega arith)) c.place_lines-placement.ensures _
-    c.first_unbalanced-unbalanced.ensures (omega arith) c.in-Minute.is c.requires.2
+pub unbalanced_in-requires : goal.unbalanced_in-requires
+unbalanced_in-requires g c =
+    rw (c.steps-2.ensures, c.steps-3.ensures)
+    (round_comparable c.requires.0 c.place_lines-by_place.ensures (rw c.steps.ensures at c.first_unbalanced.ensures) c.in-Some.is c.requires.1)
 
-pub shape_of-at : goal.shape_of-at
-shape_of-at c = search (rules, c.copy.ensures.size, lines_length c.requires.0.capped c.place_lines-placement.ensures)
+pub returns-in-Some-unbalanced_in : goal.returns-in-Some-unbalanced_in
+returns-in-Some-unbalanced_in g c =
+    lowers_asked c.requires.0 c.place_lines-by_place.ensures (rw c.steps.ensures at c.first_unbalanced.ensures) c.in-Some.is c.requires.1
+    (rw (c.in-Some-unbalanced_in.is, c.steps-2.ensures, c.steps-3.ensures) at c.unbalanced_in.ensures)
 
-pub returns : goal.returns
-returns c =
-    plays_asked (round_can c.requires.0 c.requires.1 c.requires.2 c.copy.ensures c.copy-2.ensures (omega arith) (omega arith)) c.place_lines-placement.ensures _
-    c.first_unbalanced-unbalanced.ensures (omega arith) c.in-Minute.is c.requires.2
-    c.none-proposed.ensures.0 c.none-proposed.ensures.1 c.unbalanced_in-outcome.ensures
+pub returns-in-None : goal.returns-in-None
+returns-in-None g c =
+    ends_asked c.requires.0 c.place_lines-by_place.ensures (rw c.steps.ensures at c.first_unbalanced.ensures) c.in-Some.is c.requires.1
+    (rw (c.in-None.is, c.steps-2.ensures, c.steps-3.ensures) at c.unbalanced_in.ensures)

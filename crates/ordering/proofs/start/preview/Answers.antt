@@ -1,5 +1,5 @@
 -- Refused with 29 or by the feeder's numbers; otherwise all that the site draws is lent, as the feeder sees it.
-use mathlib.Core.Path.{◌≡◌, refl}
+use mathlib.Core.Path.{◌≡◌}
 use Prim.Native.Nat.{ℕ, ◌+◌, ◌≤◌}
 use native.Mathlib.Omega.{arith}
 use Rattle.station.specs.declared.Station.{Station}
@@ -7,8 +7,9 @@ use Rattle.station.specs.declared.One.{One}
 use Rattle.station.specs.View.{Valid, one_at, Of, Names}
 use Rattle.ordering.specs.declared.Order.{Order}
 use Rattle.ordering.proofs.Rows.{There, feeder_zero, feeder_past, of_at, names_at}
-use Rattle.ordering.proofs.Seeking.{drawn_can_seek}
+use Rattle.ordering.proofs.Seeking.{unrefused, drawn_can_seek}
 use Rattle.ordering.proofs.Answering.{refusal_shown, number_shown, drawn_shown}
+use Rattle.ordering.proofs.start.preview.Goals.{then-feeder-lt1-via-then-feeder-lt1, then-feeder-lt1-via-else-feeder-lt1+then-station-feeder}
 use Rattle.ordering.proofs.start.preview.Goals as goal
 
 -- the feeder that was taken out is the one that the order names
@@ -23,23 +24,26 @@ taken_out :
 taken_out {s} o v low high place e =
     record { there = (low, high); of = of_at v (omega arith) e; names = names_at s o e place }
 
-pub returns-then-number-lt1 : goal.returns-then-number-lt1
-returns-then-number-lt1 c = refusal_shown c.args.station c.args.order (feeder_zero c.args.station c.args.order (omega (arith, c.if-number-lt1.true))) (omega arith)
+pub returns-then-feeder-lt1 : goal.returns-then-feeder-lt1
+returns-then-feeder-lt1 c =
+    let s = c.args.station.now in
+    elim c.then-feeder-lt1.branch [
+      | then-feeder-lt1-via-then-feeder-lt1 w ↦ refusal_shown s c.args.order (feeder_zero s c.args.order (omega (arith, w.if-feeder-lt1.true))) (omega arith)
+      | then-feeder-lt1-via-else-feeder-lt1+then-station-feeder w ↦ refusal_shown s c.args.order (feeder_past s c.args.order (omega (arith, w.if-feeder-lt1.false)) (omega (arith, w.if-station-feeder.true))) (omega arith)
+    ]
 
-pub returns-then-station-number : goal.returns-then-station-number
-returns-then-station-number c = refusal_shown c.args.station c.args.order (feeder_past c.args.station c.args.order (omega (arith, c.if-number-lt1.false)) (omega (arith, c.if-station-number.true))) (omega arith)
+pub returns-then-number-gt0 : goal.returns-then-number-gt0
+returns-then-number-gt0 c =
+    let t = taken_out c.args.order c.requires (omega arith) (omega arith) (omega arith) c.one-one.ensures in
+    number_shown t.of c.args.order t.names t.there c.first_refusal-number.ensures c.if-number-gt0.true
 
-pub returns-then-sought-gt0 : goal.returns-then-sought-gt0
-returns-then-sought-gt0 c =
-    let t = taken_out c.args.order c.requires (omega (arith, c.if-number-lt1.false)) (omega (arith, c.if-station-number.false)) (omega (arith, c.if-number-lt1.false)) c.one-one.ensures in
-    number_shown t.of c.args.order t.names t.there c.sought-sought.ensures c.if-sought-gt0.true
-
-pub start_for-requires : goal.start_for-requires
-start_for-requires c =
-    let t = taken_out c.args.order c.requires (omega (arith, c.if-number-lt1.false)) (omega (arith, c.if-station-number.false)) (omega (arith, c.if-number-lt1.false)) c.one-one.ensures in
-    drawn_can_seek t.of c.args.order t.names t.there c.sought-sought.ensures (omega arith) _ refl (omega arith) (omega arith) (omega (arith, t.there.0)) c.drawn-drawn.ensures
+pub earliest_start-start-requires : goal.earliest_start-start-requires
+earliest_start-start-requires c =
+    let t = taken_out c.args.order c.requires (omega arith) (omega arith) (omega arith) c.one-one.ensures in
+    let free = unrefused t.of c.args.order t.names t.there c.first_refusal-number.ensures c.if-number-gt0.false in
+    drawn_can_seek t.of c.args.order t.names t.there free c.sought.ensures (omega arith) _ {xs = c.drawn-drawn.result} (omega (arith, t.there.0)) (search c.loads-loads.ensures) c.drawn-drawn.ensures.0 c.drawn-drawn.ensures.1 (omega arith)
 
 pub returns : goal.returns
 returns c =
-    let t = taken_out c.args.order c.requires (omega (arith, c.if-number-lt1.false)) (omega (arith, c.if-station-number.false)) (omega (arith, c.if-number-lt1.false)) c.one-one.ensures in
-    drawn_shown t.of c.args.order t.names t.there c.sought-sought.ensures c.if-sought-gt0.false _ (omega (arith, t.there.0)) c.drawn-drawn.ensures c.start_for.ensures
+    let t = taken_out c.args.order c.requires (omega arith) (omega arith) (omega arith) c.one-one.ensures in
+    drawn_shown t.of c.args.order t.names t.there c.first_refusal-number.ensures c.if-number-gt0.false c.sought.ensures _ (omega (arith, t.there.0)) c.loads-loads.ensures c.drawn-drawn.ensures.0 c.earliest_start-start.ensures

@@ -8,7 +8,7 @@ use Rattle.station.specs.View.{station_of, Of, Names, Alone}
 use Rattle.station.proofs.Ones.{alone_of}
 use Rattle.ordering.specs.declared.Order.{Order}
 use Rattle.ordering.proofs.Rows.{There, lacking, present}
-use Rattle.ordering.proofs.Seeking.{own_can_seek}
+use Rattle.ordering.proofs.Seeking.{unrefused, own_can_seek}
 use Rattle.ordering.proofs.Answering.{refusal_shown, number_shown, own_shown}
 use Rattle.ordering.proofs.start.preview_alone.Goals as goal
 
@@ -27,29 +27,31 @@ names_it {one} o {b} a e f =
     }
 
 pub returns-then-lacks : goal.returns-then-lacks
-returns-then-lacks c = refusal_shown (station_of c.args.one) c.args.order (lacking (alone_of c.requires) c.args.order c.lacks.result c.lacks.ensures c.if-lacks.true) (omega arith)
+returns-then-lacks c = refusal_shown (station_of c.args.one.now) c.args.order (lacking (alone_of c.requires) c.args.order c.lacks.result c.lacks.ensures c.if-lacks.true) (omega arith)
 
-pub returns-then-own-gt0 : goal.returns-then-own-gt0
-returns-then-own-gt0 c =
+pub returns-then-refusal-gt0 : goal.returns-then-refusal-gt0
+returns-then-refusal-gt0 c =
     let t = names_it c.args.order c.requires c.lacks.ensures c.if-lacks.false in
-    number_shown t.of c.args.order t.names t.there c.sought-own.ensures c.if-own-gt0.true
+    number_shown t.of c.args.order t.names t.there c.first_refusal-refusal.ensures c.if-refusal-gt0.true
 
-pub start_for-requires : goal.start_for-requires
-start_for-requires c =
+pub earliest_start-start-requires : goal.earliest_start-start-requires
+earliest_start-start-requires c =
     let t = names_it c.args.order c.requires c.lacks.ensures c.if-lacks.false in
-    own_can_seek t.of c.args.order t.names t.there c.sought-own.ensures (omega arith) refl (λ few. omega (arith, few))
+    let free = unrefused t.of c.args.order t.names t.there c.first_refusal-refusal.ensures c.if-refusal-gt0.false in
+    own_can_seek t.of c.args.order t.names t.there free c.sought-own.ensures (omega arith) refl c.loads-loads.ensures (λ few. omega arith)
 
-pub returns-then-own-le-FEW : goal.returns-then-own-le-FEW
-returns-then-own-le-FEW c =
+pub returns-then-held-le-FEW : goal.returns-then-held-le-FEW
+returns-then-held-le-FEW c =
     let t = names_it c.args.order c.requires c.lacks.ensures c.if-lacks.false in
-    own_shown t.of c.args.order t.names t.there c.sought-own.ensures c.if-own-gt0.false refl c.start_for.ensures
+    own_shown t.of c.args.order t.names t.there c.first_refusal-refusal.ensures c.if-refusal-gt0.false c.sought-own.ensures refl c.loads-loads.ensures c.earliest_start-start.ensures
 
-pub start_for-requires-2 : goal.start_for-requires-2
-start_for-requires-2 c =
+pub earliest_start-start-requires-2 : goal.earliest_start-start-requires-2
+earliest_start-start-requires-2 c =
     let t = names_it c.args.order c.requires c.lacks.ensures c.if-lacks.false in
-    own_can_seek t.of c.args.order t.names t.there c.sought-own.ensures (omega arith) refl (λ few. omega (arith, few))
+    let free = unrefused t.of c.args.order t.names t.there c.first_refusal-refusal.ensures c.if-refusal-gt0.false in
+    own_can_seek t.of c.args.order t.names t.there free c.sought-own.ensures (omega arith) refl c.loads-loads.ensures (λ few. omega arith)
 
 pub returns : goal.returns
 returns c =
     let t = names_it c.args.order c.requires c.lacks.ensures c.if-lacks.false in
-    own_shown t.of c.args.order t.names t.there c.sought-own.ensures c.if-own-gt0.false refl c.start_for-2.ensures
+    own_shown t.of c.args.order t.names t.there c.first_refusal-refusal.ensures c.if-refusal-gt0.false c.sought-own.ensures refl c.loads-loads.ensures c.earliest_start-start-2.ensures

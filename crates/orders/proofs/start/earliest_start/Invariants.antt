@@ -1,16 +1,14 @@
 -- `orders::start::earliest_start` meets its contract. The invariant: no start before `start` is sound, and the profile has the charges
 -- that begin before `low`.
 use Prim.Native.Nat.{◌-◌}
-use lib.ListN.{length}
-use Rattle.charges.specs.Drawn.{loads_in}
-use Rattle.profile.specs.Shows.{profile_of}
+use Rattle.charges.specs.Drawn.{loads_lent}
 use Rattle.orders.specs.Asked.{draw_sought}
 use Rattle.orders.proofs.Seeking.{Seeking}
 use Rattle.orders.proofs.start.earliest_start.Given as goal
 
 abbrev pub invariant-loop-until : goal.invariant-loop-until
-invariant-loop-until l = Seeking (length l.initial.at) (loads_in l.sought.held l.lines l.active_times l.starts l.rates) l.sought.clock l.sought.limits (draw_sought l.sought) (profile_of l.steps l.at l.counts) l.start l.low l.until
+invariant-loop-until g l = Seeking (loads_lent l.loads) l.sought.clock l.sought.limits (draw_sought l.sought) l.profile l.start l.low l.until
 
 -- a window that shows no start ends before the last tail and an active time
 abbrev pub decreases-loop-until : goal.decreases-loop-until
-decreases-loop-until l = 100002890 - l.until
+decreases-loop-until g l = 100002890 - l.until

@@ -1,17 +1,11 @@
 -- The last draw of the site is the later one of the others' and the feeder's.
-use native.Mathlib.Omega.{arith}
-use Rattle.planner.proofs.Judging.{not_behind_others, held_or_later}
-use Rattle.planner.specs.Ready.{around_of}
+use mathlib.Core.Path.{ap, ◌∙◌}
+use Rattle.rules.specs.Load.{last_until}
+use Rattle.planner.proofs.Judging.{later_lem}
 use Rattle.planner.proofs.judge.ends_later.Goals as goal
-
-pub returns-then-then-others : goal.returns-then-then-others
-returns-then-then-others c =
-    let a = around_of c.args.beside c.args.rest in
-    not_behind_others a c.args.charges c.args.next (c.last_until-others.ensures a.rest.lines a.rest.rates)
-    (c.last_until-held.ensures c.args.charges.lines c.args.charges.rates) (c.last_until-then.ensures c.args.next.lines c.args.next.rates) c.if-then-others.true
 
 pub returns : goal.returns
 returns c =
-    let a = around_of c.args.beside c.args.rest in
-    held_or_later a c.args.charges c.args.next (c.last_until-others.ensures a.rest.lines a.rest.rates)
-    (c.last_until-held.ensures c.args.charges.lines c.args.charges.rates) (c.last_until-then.ensures c.args.next.lines c.args.next.rates) (omega (arith, c.if-then-others.false))
+    rw (c.max.ensures, c.max-2.ensures)
+    (later_lem c.args.beside c.args.charges.now c.args.next.now c.last_until-others.ensures (c.last_until-held.ensures ∙ ap last_until c.loads.ensures)
+    (c.last_until-then.ensures ∙ ap last_until c.loads-2.ensures))

@@ -1,12 +1,13 @@
 -- Sound is what breaks neither.
-use Rattle.planner.proofs.SoundPlans.{sound_broken}
-use mathlib.Core.Path.{sym}
+use mathlib.Core.Path.{sym, ◌∙◌}
 use Rattle.rules.specs.Charge.{seen}
 use Rattle.charges.specs.Arrays.{charges_of}
-use Rattle.planner.specs.Ready.{around_of, terms_of}
+use Rattle.planner.specs.Ready.{terms_of}
+use Rattle.planner.proofs.SoundPlans.{sound_broken, no_cause}
 use Rattle.planner.proofs.plan.plan_sound.Goals as goal
 
 pub returns : goal.returns
-returns c =
-    let a = around_of c.args.beside c.args.rest in
-    rw c.breaks.ensures (sym (sound_broken (terms_of a) a.clock (seen (terms_of a) (charges_of c.args.charges))))
+returns g c =
+    let b = c.args.beside in
+    c.is_ok.ensures.value ∙ no_cause c.soundness.result
+    ∙ rw c.soundness.ensures (sym (sound_broken (terms_of b) b.clock (seen (terms_of b) (charges_of c.args.charges.now))))

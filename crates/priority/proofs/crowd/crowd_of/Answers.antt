@@ -3,7 +3,9 @@ use Rattle.priority.proofs.Crowding.{crowd_fits, crowd_more}
 use Rattle.priority.proofs.crowd.crowd_of.Goals as goal
 
 pub joined-crowd-requires : goal.joined-crowd-requires
-joined-crowd-requires c = let f = crowd_fits c.requires c.loop-j.invariant.0 c.loop-j-test.true in (f.0, f.1, omega (arith, (c.requires.short _ c.loop-j-test.true).1, (c.requires.active _ c.loop-j-test.true).1))
+joined-crowd-requires c =
+    let f = crowd_fits c.requires c.loop-place.invariant c.loop-place-test.true in
+    (f.0, f.1, omega (arith, (c.requires.short _ c.loop-place-test.true).1, (c.requires.active _ c.loop-place-test.true).1))
 
-pub loop-j-preserved : goal.loop-j-preserved
-loop-j-preserved c = (crowd_more c.requires c.loop-j.invariant.0 c.loop-j-test.true c.joined-crowd.ensures (omega arith) (omega arith) (omega arith), omega (arith, c.loop-j-test.true))
+pub loop-place-preserved : goal.loop-place-preserved
+loop-place-preserved c = crowd_more c.requires c.loop-place.invariant c.loop-place-test.true c.joined-crowd.ensures (omega arith) (omega arith) (omega arith)

@@ -1,8 +1,6 @@
--- The invariant: the first j of them, taken together.
-use Prim.Native.Nat.{◌≤◌}
-use Rattle.priority.specs.Numbers.{numbers_in}
-use Rattle.priority.specs.Crowds.{CrowdOf}
+-- The invariant: those so far, taken together.
+use Rattle.priority.specs.Crowds.{FirstCrowd}
 use Rattle.priority.proofs.crowd.crowd_of.Given as goal
 
-abbrev pub invariant-loop-j : goal.invariant-loop-j
-invariant-loop-j l = CrowdOf (numbers_in l.fn.columns) l.left l.j l.crowd × (l.j ≤ l.n)
+abbrev pub invariant-loop-place : goal.invariant-loop-place
+invariant-loop-place l = FirstCrowd l.charges l.left l.place-index l.crowd

@@ -1,15 +1,17 @@
-use native.Mathlib.Omega.{arith}
-use Rattle.profile.proofs.Levels.{all_later}
+use Rattle.std.proofs.Common.{rules}
+use borrow.Author.Tests.{tests}
+use lib.Dec.{leb}
+use Rattle.std.proofs.lemmas.List.Sorted.{IsPartitionPoint-from_clause}
+use Rattle.profile.proofs.Placing.{begun_first, one_begun, last_begun}
 use Rattle.profile.proofs.steps.place.Goals as goal
 
-pub loop-high-init : goal.loop-high-init
-loop-high-init c = (omega arith, omega arith, omega arith, λ j a b. absurd (omega arith))
-
-pub loop-high-preserved-then-at-middle : goal.loop-high-preserved-then-at-middle
-loop-high-preserved-then-at-middle c = (omega arith, omega arith, omega (arith, c.if-at-middle.true), c.loop-high.invariant.3)
-
-pub loop-high-preserved : goal.loop-high-preserved
-loop-high-preserved c = (omega arith, omega arith, c.loop-high.invariant.2, all_later c.args.at.now _ _ _ c.requires.4 (omega (arith, c.if-at-middle.false)))
+pub overflow_sub-result : goal.overflow_sub-result
+overflow_sub-result c =
+    one_begun c.args.steps.now c.args.t _ c.requires.0 c.requires.1
+    (IsPartitionPoint-from_clause (λ x. leb x.minute c.args.t) c.args.steps.now _ c.partition_point.ensures.partitioned (begun_first c.args.steps.now c.args.t c.requires.2) (λ a r q k. search (rules, tests)))
 
 pub returns : goal.returns
-returns c = record { below = omega arith; begun = omega arith; later = λ j a b. c.loop-high.invariant.3 j (omega arith) b }
+returns c =
+    last_begun c.args.steps.now c.args.t _ c.requires.0 c.requires.1
+    (IsPartitionPoint-from_clause (λ x. leb x.minute c.args.t) c.args.steps.now _ c.partition_point.ensures.partitioned (begun_first c.args.steps.now c.args.t c.requires.2) (λ a r q k. search (rules, tests)))
+    c.partition_point.ensures.bound

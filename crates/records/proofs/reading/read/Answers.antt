@@ -1,20 +1,19 @@
 -- The header and the columns are the feeder that the contents are of.
-use native.Mathlib.Omega.{arith}
-use Rattle.records.proofs.Columning.{held_few, header_ranged, product_told}
-use Rattle.records.proofs.StationRead.{read_from}
+use Rattle.std.proofs.Common.{arith}
+use Rattle.records.proofs.StationRead.{header_small, read_from}
 use Rattle.records.proofs.reading.read.Goals as goal
 
-pub overflow_mul-product : goal.overflow_mul-product
-overflow_mul-product c = omega (arith, product_told c.args.contents.now c.requires.1 _ _ c.number_at-percent.ensures c.number_at-limit.ensures)
+pub invariant_of-records : goal.invariant_of-records
+invariant_of-records c = record {
+  long = c.requires.0;
+  few = (header_small c.args.contents.now c.requires.1 _ c.read_header-header.ensures).held;
+}
 
 pub read_charges-charges-requires : goal.read_charges-charges-requires
-read_charges-charges-requires c = (
-  omega (arith, held_few c.args.contents.now c.requires.1, c.number_at-held.ensures),
-  omega (arith, (header_ranged c.args.contents.now c.requires.1).tail_high, c.number_at-tail.ensures),
-  c.requires.0,
-)
+read_charges-charges-requires c = (header_small c.args.contents.now c.requires.1 _ c.read_header-header.ensures).tail
+
+pub overflow_mul-header : goal.overflow_mul-header
+overflow_mul-header c = omega (arith, (header_small c.args.contents.now c.requires.1 _ c.read_header-header.ensures).product)
 
 pub returns : goal.returns
-returns c =
-    read_from c.args.contents.now c.requires.1 _ _ _ _ _ _ _ _ _ c.number_at-limit.ensures c.number_at-percent.ensures c.number_at-tail.ensures c.number_at-2.ensures c.number_at-3.ensures
-    c.number_at-held.ensures c.number_at.ensures c.nearest_hundreds.ensures c.read_charges-charges.ensures
+returns c = read_from c.args.contents.now c.requires.1 _ _ _ c.read_header-header.ensures c.nearest_hundreds.ensures c.read_charges-charges.ensures

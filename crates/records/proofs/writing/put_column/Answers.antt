@@ -5,8 +5,5 @@ use Rattle.records.proofs.writing.put_column.Goals as goal
 
 pub loop-byte-preserved : goal.loop-byte-preserved
 loop-byte-preserved c =
-    let e : c.args.from + c.loop-byte.byte + 1 ≡ c.args.from + (c.loop-byte.byte + 1) = omega arith in (
-      omega arith,
-      c.put_row.ensures.long,
-      λ f w r. rw e at (c.put_row.ensures.put f (w c.loop-byte.byte (omega arith)) (c.loop-byte.invariant.2 f w r)),
-    )
+    let e : c.args.from + c.loop-byte.byte + 1 ≡ c.args.from + (c.loop-byte.byte + 1) = omega arith in
+    λ f w r. rw e at (c.put_row.ensures.put f (w c.loop-byte.byte (omega arith)) (c.loop-byte.invariant f w r))

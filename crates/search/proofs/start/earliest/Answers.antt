@@ -1,18 +1,19 @@
 -- `search::start::earliest` meets its contract.
 use native.Mathlib.Omega.{arith}
+use Rattle.profile.proofs.Edited.{minute_at}
 use Rattle.search.proofs.Within.{first_last}
-use Rattle.search.proofs.Starts.{start_covers, start_late}
+use Rattle.search.proofs.Starts.{told_unsound, start_anywhere, start_covers, start_late}
 use Rattle.search.proofs.start.earliest.Goals as goal
 
-pub fitting_from-s-requires : goal.fitting_from-s-requires
-fitting_from-s-requires c = (c.requires.0, c.requires.1, omega (arith, c.reaching-start.ensures), omega (arith, c.reaching-start.ensures, c.unsound_minutes-u.ensures.high, first_last c.requires.0))
+pub returns-in_default : goal.returns-in_default
+returns-in_default c = start_anywhere _ c.unsound_minutes.ensures c.in_default.is (omega (arith, minute_at c.args.steps.now 0)) c.fitting_from-s.ensures
 
-pub returns-then-s-u : goal.returns-then-s-u
-returns-then-s-u c =
-    start_covers _ c.unsound_minutes-u.ensures (omega (arith, c.reaching-start.ensures))
-    c.fitting_from-s.ensures.0 c.fitting_from-s.ensures.1 (omega (arith, c.if-s-u.true))
+pub returns-then-s-unsound : goal.returns-then-s-unsound
+returns-then-s-unsound c =
+    start_covers _ (told_unsound c.unsound_minutes.ensures c.in-Some.is) (omega (arith, c.reaching-start.ensures, minute_at c.args.steps.now 0))
+    c.fitting_from-s-2.ensures.0 c.fitting_from-s-2.ensures.1 (omega (arith, c.if-s-unsound.true))
 
-pub returns-else-s-u : goal.returns-else-s-u
-returns-else-s-u c =
-    start_late _ c.unsound_minutes-u.ensures (omega (arith, c.reaching-start.ensures))
-    c.fitting_from-s.ensures.0 (omega arith) (omega (arith, c.if-s-u.false))
+pub returns-else-s-unsound : goal.returns-else-s-unsound
+returns-else-s-unsound c =
+    start_late _ (told_unsound c.unsound_minutes.ensures c.in-Some.is) (omega (arith, c.reaching-start.ensures, minute_at c.args.steps.now 0))
+    c.fitting_from-s-2.ensures.0 (omega (arith, c.if-s-unsound.false))

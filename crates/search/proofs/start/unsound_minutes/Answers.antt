@@ -1,30 +1,28 @@
+-- `search::start::unsound_minutes` meets its contract: by the first step that is not sound, and the last.
+use Prim.Native.Nat.{◌+◌}
 use native.Mathlib.Omega.{arith}
-use Rattle.profile.proofs.Balances.{in_columns}
-use Rattle.search.proofs.Unsounds.{scanned_none, scanned_sound, scanned_unsound, scanned_done}
-use Rattle.search.proofs.start.unsound_minutes.Goals.{then-not-sound, else-not-sound}
+use borrow.Author.Tests.{tests}
+use Rattle.std.proofs.Common.{rules}
+use Rattle.profile.specs.Steps.{empty_step}
+use Rattle.profile.proofs.Edited.{minute_at}
+use Rattle.search.proofs.Places.{first_place, last_place}
+use Rattle.search.proofs.Unsounds.{is_sound, unsound_nowhere, unsound_below, unsound_from}
 use Rattle.search.proofs.start.unsound_minutes.Goals as goal
 
-pub loop-i-init : goal.loop-i-init
-loop-i-init c = scanned_none _ _ c.requires.0
+pub returns-in_err-first : goal.returns-in_err-first
+returns-in_err-first c =
+    let first = first_place _ (is_sound c.args.limits) (λ x b q k. search (rules, tests)) _ c.position.result (empty_step 0) c.args.steps.now (cc) c.position.ensures.ran in
+    let none = rw c.in_err-first.was at first in
+    rw c.from_residual.ensures (unsound_nowhere _ c.requires.0 none)
 
-pub count_of-a-requires : goal.count_of-a-requires
-count_of-a-requires c = in_columns c.requires.0 (omega arith) (record { low = omega arith; high = omega arith })
-
-pub count_of-b-requires : goal.count_of-b-requires
-count_of-b-requires c = in_columns c.requires.0 (omega arith) (record { low = omega arith; high = omega arith })
-
-pub count_of-c-requires : goal.count_of-c-requires
-count_of-c-requires c = in_columns c.requires.0 (omega arith) (record { low = omega arith; high = omega arith })
-
-pub count_of-d-requires : goal.count_of-d-requires
-count_of-d-requires c = in_columns c.requires.0 (omega arith) (record { low = omega arith; high = omega arith })
-
-pub loop-i-preserved : goal.loop-i-preserved
-loop-i-preserved c =
-    elim c.if-not-sound.branch [
-      | then-not-sound w ↦ scanned_unsound c.requires.0 c.loop-i.invariant c.loop-i-test.true (omega (arith, c.count_of-a.ensures)) (omega (arith, c.count_of-b.ensures)) (omega (arith, c.count_of-c.ensures)) (omega (arith, c.count_of-d.ensures)) c.sound.ensures w.if-not-sound.true (omega (arith, w.first-is, w.smaller-first.ensures)) w.end-is
-      | else-not-sound w ↦ scanned_sound c.requires.0 c.loop-i.invariant c.loop-i-test.true (omega (arith, c.count_of-a.ensures)) (omega (arith, c.count_of-b.ensures)) (omega (arith, c.count_of-c.ensures)) (omega (arith, c.count_of-d.ensures)) c.sound.ensures w.if-not-sound.false w.first-is w.end-is
-    ]
+pub bounds-steps-last : goal.bounds-steps-last
+bounds-steps-last c =
+    let last = last_place _ (is_sound c.args.limits) (λ x b q k. search (rules, tests)) _ c.rposition.result (empty_step 0) c.args.steps.now (cc) c.rposition.ensures.ran in
+    unsound_below _ c.requires.0 c.requires.1 (rw c.in_ok-last.was at last)
 
 pub returns : goal.returns
-returns c = scanned_done c.requires.1 c.loop-i.invariant (omega arith)
+returns c =
+    let first = first_place _ (is_sound c.args.limits) (λ x b q k. search (rules, tests)) _ c.position.result (empty_step 0) c.args.steps.now (cc) c.position.ensures.ran in
+    let last = last_place _ (is_sound c.args.limits) (λ x b q k. search (rules, tests)) _ c.rposition.result (empty_step 0) c.args.steps.now (cc) c.rposition.ensures.ran in
+    unsound_from _ c.requires.0 c.requires.1 (rw c.in_ok-first.was at first) (rw c.in_ok-last.was at last)
+    (omega (arith, minute_at c.args.steps.now c.in_ok-first.first)) (omega (arith, minute_at c.args.steps.now (c.in_ok-last.last + 1)))

@@ -4,6 +4,3 @@ use Rattle.site.proofs.board.board_feeders.Given as goal
 
 abbrev pub invariant-loop-i : goal.invariant-loop-i
 invariant-loop-i l = BoardedFrom l.station l.asked l.initial.answers l.answers l.looked l.i
-
-abbrev pub decreases-loop-i : goal.decreases-loop-i
-decreases-loop-i l = l.i

@@ -4,6 +4,3 @@ use Rattle.site.proofs.clock.dropped_at.Given as goal
 
 abbrev pub invariant-loop-k : goal.invariant-loop-k
 invariant-loop-k l = DroppedFrom l.station l.target l.dropped l.k
-
-abbrev pub decreases-loop-k : goal.decreases-loop-k
-decreases-loop-k l = l.k

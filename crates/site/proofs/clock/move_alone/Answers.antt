@@ -21,7 +21,7 @@ by_start-passed-requires c = only_listed c.requires
 pub report-requires : goal.report-requires
 report-requires c =
     let z : c.move_refusal-number.result ≡ 0 = omega (arith, c.if-number-gt0.false) in
-    alone_can c.args.one c.requires c.args.target c.args.list.now (search c.move_refusal-number.ensures) z {p = c.by_start-passed.result} (search c.by_start-passed.ensures)
+    alone_can c.args.one c.requires c.args.target c.args.list.now (search c.move_refusal-number.ensures) z {is = c.by_start-passed.result} (search c.by_start-passed.ensures)
 
 pub unfinished-kept-requires : goal.unfinished-kept-requires
 unfinished-kept-requires c = (only_listed c.requires).columns
@@ -32,7 +32,7 @@ overflow_sub-dropped c = (kept_left c.args.one.feeder.charges _ c.unfinished-kep
 pub returns : goal.returns
 returns c =
     let z : c.move_refusal-number.result ≡ 0 = omega (arith, c.if-number-gt0.false) in
-    alone_moved c.args.one c.requires c.args.target c.args.list.now (search c.move_refusal-number.ensures) z {p = c.by_start-passed.result} (search c.by_start-passed.ensures)
+    alone_moved c.args.one c.requires c.args.target c.args.list.now (search c.move_refusal-number.ensures) z {is = c.by_start-passed.result} (search c.by_start-passed.ensures)
     {kept = c.unfinished-kept.result} (search c.unfinished-kept.ensures)
     (search c.report.ensures)
     (search rules)

@@ -6,7 +6,7 @@ use Rattle.site.proofs.clock.move_clock.Goals as goal
 
 pub returns-then-refusal-gt0 : goal.returns-then-refusal-gt0
 returns-then-refusal-gt0 c =
-    move_refused c.args.station c.args.target c.args.report.now {k = c.move_refusal-refusal.result} c.requires (search c.move_refusal-refusal.ensures)
+    move_refused c.args.station.now c.args.target c.args.report.now {k = c.move_refusal-refusal.result} c.requires (search c.move_refusal-refusal.ensures)
     (omega (arith, c.if-refusal-gt0.true))
     (search)
     (search)
@@ -15,7 +15,7 @@ returns-then-refusal-gt0 c =
 pub returns : goal.returns
 returns c =
     let z : c.move_refusal-refusal.result ≡ 0 = omega (arith, c.if-refusal-gt0.false) in
-    call_moved c.args.station c.args.target c.args.report.now (search c.move_refusal-refusal.ensures) z
+    call_moved c.args.station.now c.args.target c.args.report.now (search c.move_refusal-refusal.ensures) z
     (search c.report_feeders-reported.ensures)
     (search c.dropped_at-dropped.ensures)
     c.requires

@@ -4,6 +4,3 @@ use Rattle.site.proofs.clock.report_feeders.Given as goal
 
 abbrev pub invariant-loop-i : goal.invariant-loop-i
 invariant-loop-i l = ReportedFrom l.station l.target l.initial.list l.list l.reported l.i
-
-abbrev pub decreases-loop-i : goal.decreases-loop-i
-decreases-loop-i l = l.i

@@ -7,10 +7,10 @@ use Rattle.site.proofs.Enquiring.{enquired_nobody, enquired_holder}
 use Rattle.site.proofs.enquiry.enquire.Goals as goal
 
 pub returns-in_default : goal.returns-in_default
-returns-in_default c = enquired_nobody c.args.station c.args.ticket (subst (HolderOf c.args.station c.args.ticket) c.in_default.is c.holder.ensures)
+returns-in_default c = enquired_nobody c.args.station.now c.args.ticket (subst (HolderOf c.args.station.now c.args.ticket) c.in_default.is c.holder.ensures)
 
 pub told-requires : goal.told-requires
-told-requires c = valid_listed c.args.station c.requires _ (omega (arith, (subst (HolderOf c.args.station c.args.ticket) c.in-At.is c.holder.ensures).inside))
+told-requires c = valid_listed c.args.station.now c.requires _ (omega (arith, (subst (HolderOf c.args.station.now c.args.ticket) c.in-Some.is c.holder.ensures).inside))
 
 pub returns : goal.returns
-returns c = enquired_holder c.args.station c.args.ticket (subst (HolderOf c.args.station c.args.ticket) c.in-At.is c.holder.ensures) c.told.ensures
+returns c = enquired_holder c.args.station.now c.args.ticket (subst (HolderOf c.args.station.now c.args.ticket) c.in-Some.is c.holder.ensures) c.told.ensures

@@ -7,4 +7,4 @@ pub told-requires : goal.told-requires
 told-requires c = only_listed c.requires
 
 pub returns : goal.returns
-returns c = enquired_alone c.args.one c.args.ticket (search c.told.ensures)
+returns c = enquired_alone c.args.one.now c.args.ticket (search c.told.ensures)

@@ -7,32 +7,32 @@ use Rattle.site.proofs.enquiry.told.Goals as goal
 
 pub returns-in_default : goal.returns-in_default
 returns-in_default c =
-    told_none c.args.held c.args.ticket c.args.clock
-    (c.find.ensures ∙ ap found_at c.in_default.is)
+    told_none c.args.held.now c.args.ticket c.args.clock
+    (c.place_of.ensures ∙ ap found_at c.in_default.is)
 
 pub offset_bounds-held-i : goal.offset_bounds-held-i
-offset_bounds-held-i c = omega (arith, found_inside c.args.held c.args.ticket c.requires.columns (c.find.ensures ∙ ap found_at c.in-At.is))
+offset_bounds-held-i c = omega (arith, found_inside c.args.held.now c.args.ticket c.requires.columns (c.place_of.ensures ∙ ap found_at c.in-Some.is))
 
 pub bounds-held-i : goal.bounds-held-i
-bounds-held-i c = omega (arith, found_inside c.args.held c.args.ticket c.requires.columns (c.find.ensures ∙ ap found_at c.in-At.is))
+bounds-held-i c = omega (arith, found_inside c.args.held.now c.args.ticket c.requires.columns (c.place_of.ensures ∙ ap found_at c.in-Some.is))
 
 pub offset_bounds-held-i-2 : goal.offset_bounds-held-i-2
-offset_bounds-held-i-2 c = omega (arith, found_inside c.args.held c.args.ticket c.requires.columns (c.find.ensures ∙ ap found_at c.in-At.is))
+offset_bounds-held-i-2 c = omega (arith, found_inside c.args.held.now c.args.ticket c.requires.columns (c.place_of.ensures ∙ ap found_at c.in-Some.is))
 
 pub bounds-held-i-2 : goal.bounds-held-i-2
-bounds-held-i-2 c = omega (arith, found_inside c.args.held c.args.ticket c.requires.columns (c.find.ensures ∙ ap found_at c.in-At.is))
+bounds-held-i-2 c = omega (arith, found_inside c.args.held.now c.args.ticket c.requires.columns (c.place_of.ensures ∙ ap found_at c.in-Some.is))
 
 pub offset_bounds-held-i-3 : goal.offset_bounds-held-i-3
-offset_bounds-held-i-3 c = omega (arith, found_inside c.args.held c.args.ticket c.requires.columns (c.find.ensures ∙ ap found_at c.in-At.is))
+offset_bounds-held-i-3 c = omega (arith, found_inside c.args.held.now c.args.ticket c.requires.columns (c.place_of.ensures ∙ ap found_at c.in-Some.is))
 
 pub bounds-held-i-3 : goal.bounds-held-i-3
-bounds-held-i-3 c = omega (arith, found_inside c.args.held c.args.ticket c.requires.columns (c.find.ensures ∙ ap found_at c.in-At.is))
+bounds-held-i-3 c = omega (arith, found_inside c.args.held.now c.args.ticket c.requires.columns (c.place_of.ensures ∙ ap found_at c.in-Some.is))
 
 pub overflow_add-end : goal.overflow_add-end
-overflow_add-end c = let s = c.requires.small c.in-At.i (found_held c.args.held c.args.ticket (c.find.ensures ∙ ap found_at c.in-At.is)) in omega (arith, s.start_most, s.time_most, s.active_most)
+overflow_add-end c = let s = c.requires.small c.in-Some.i (found_held c.args.held.now c.args.ticket (c.place_of.ensures ∙ ap found_at c.in-Some.is)) in omega (arith, s.start_most, s.time_most, s.active_most)
 
 pub returns-then-start-clock : goal.returns-then-start-clock
-returns-then-start-clock c = told_found c.args.held c.args.ticket c.args.clock (c.find.ensures ∙ ap found_at c.in-At.is) (told_charging c.args.clock (charge_at c.args.held c.in-At.i) (omega (arith, c.if-start-clock.true))) (search)
+returns-then-start-clock c = told_found c.args.held.now c.args.ticket c.args.clock (c.place_of.ensures ∙ ap found_at c.in-Some.is) (told_charging c.args.clock (charge_at c.args.held.now c.in-Some.i) (omega (arith, c.if-start-clock.true))) (search)
 
 pub returns : goal.returns
-returns c = told_found c.args.held c.args.ticket c.args.clock (c.find.ensures ∙ ap found_at c.in-At.is) (told_waiting c.args.clock (charge_at c.args.held c.in-At.i) (omega (arith, c.if-start-clock.false))) (search)
+returns c = told_found c.args.held.now c.args.ticket c.args.clock (c.place_of.ensures ∙ ap found_at c.in-Some.is) (told_waiting c.args.clock (charge_at c.args.held.now c.in-Some.i) (omega (arith, c.if-start-clock.false))) (search)

@@ -2,15 +2,24 @@
 use native.Mathlib.Omega.{arith}
 use Rattle.rules.specs.Calls.{replan_lines}
 use Rattle.planning.proofs.Ready.{can_plan}
-use Rattle.calls.proofs.About.{held_is, place_names, parts_of, parts_around}
+use Rattle.calls.proofs.About.{one_of, place_names, others_lent, beside_at}
 use Rattle.calls.proofs.Applying.{put_gives}
 use borrow.Author.Rules.{rules}
 use Rattle.calls.proofs.yard.Yard.replan_lines.Goals as goal
 
+pub beside-beside-requires : goal.beside-beside-requires
+beside-beside-requires c =
+    others_lent c.requires c.place_of-place.ensures.inside {xs = c.rest-others.result} (search c.rest-others.ensures) c.rest-others.ensures.1 c.loads.ensures
+
 pub replan_lines-done-requires : goal.replan_lines-done-requires
-replan_lines-done-requires c = can_plan (parts_of c.requires c.place_of-place.ensures.inside c.taken_out-parts.ensures) (parts_around c.requires c.place_of-place.ensures.inside c.taken_out-parts.ensures (rw (held_is c.taken_out-parts.ensures.beside)))
+replan_lines-done-requires c =
+    can_plan (one_of c.requires c.place_of-place.ensures.inside (search c.one-one.ensures))
+    (beside_at c.requires c.place_of-place.ensures.inside {xs = c.rest-others.result} (search c.rest-others.ensures) {o = c.one-one.result} {l = c.loads.result} (search c.one-one.ensures) c.loads.ensures (search c.beside-beside.ensures))
 
 pub returns : goal.returns
 returns c =
-    put_gives (replan_lines c.args.feeder c.args.allowance) c.requires c.taken_out-parts.ensures.taken (c.replan_lines-done.ensures.leaves _ (parts_of c.requires c.place_of-place.ensures.inside c.taken_out-parts.ensures) (parts_around c.requires c.place_of-place.ensures.inside c.taken_out-parts.ensures (rw (held_is c.taken_out-parts.ensures.beside)))
-    (place_names c.args.self.station c.taken_out-parts.ensures.taken c.place_of-place.ensures (omega arith) (omega arith))) c.replan_lines-done.ensures.same_head (search rules)
+    put_gives (replan_lines c.args.feeder c.args.allowance) c.requires c.one-one.ensures
+    (c.replan_lines-done.ensures.leaves _ (one_of c.requires c.place_of-place.ensures.inside (search c.one-one.ensures))
+    (beside_at c.requires c.place_of-place.ensures.inside {xs = c.rest-others.result} (search c.rest-others.ensures) {o = c.one-one.result} {l = c.loads.result} (search c.one-one.ensures) c.loads.ensures (search c.beside-beside.ensures))
+    (place_names c.args.self.station c.one-one.ensures c.place_of-place.ensures (omega arith) (omega arith)))
+    c.replan_lines-done.ensures.same_head (search rules)

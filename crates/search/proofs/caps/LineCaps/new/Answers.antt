@@ -4,4 +4,4 @@ use Rattle.search.proofs.Lowerings.{unlowered_shown}
 use Rattle.search.proofs.caps.LineCaps.new.Goals as goal
 
 pub returns : goal.returns
-returns c = unlowered_shown _ _ c.unlowered-caps.ensures (omega arith)
+returns c = unlowered_shown _ _ _ c.unlowered-caps.ensures (omega arith)

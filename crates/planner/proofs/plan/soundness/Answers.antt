@@ -1,0 +1,26 @@
+-- Above a limit, out of balance, or neither.
+use Rattle.rules.specs.Charge.{seen}
+use Rattle.charges.specs.Arrays.{charges_of}
+use Rattle.profile.proofs.Balances.{limit_shows, unbalanced_shows}
+use Rattle.planner.specs.Ready.{terms_of}
+use Rattle.planner.proofs.StandingLoads.{all_shown}
+use Rattle.planner.proofs.SoundPlans.{loads_above, loads_unbalanced, loads_kept}
+use Rattle.planner.proofs.plan.soundness.Goals as goal
+
+pub returns-then-not-within_limits : goal.returns-then-not-within_limits
+returns-then-not-within_limits g c =
+    let b = c.args.beside in
+    loads_above (terms_of b) b.clock (seen (terms_of b) (charges_of c.args.charges.now)) (all_shown b c.requires.1 c.add_standing.ensures)
+    (limit_shows (rw c.steps.ensures at c.within_limits.ensures)) c.if-not-within_limits.true
+
+pub returns-in-Some : goal.returns-in-Some
+returns-in-Some g c =
+    let b = c.args.beside in
+    loads_unbalanced (terms_of b) b.clock (seen (terms_of b) (charges_of c.args.charges.now)) (all_shown b c.requires.1 c.add_standing.ensures)
+    (limit_shows (rw c.steps.ensures at c.within_limits.ensures)) _ (unbalanced_shows (rw c.steps-2.ensures at c.first_unbalanced.ensures)) c.if-not-within_limits.false c.in-Some.is
+
+pub returns-in-None : goal.returns-in-None
+returns-in-None g c =
+    let b = c.args.beside in
+    loads_kept (terms_of b) b.clock (seen (terms_of b) (charges_of c.args.charges.now)) (all_shown b c.requires.1 c.add_standing.ensures)
+    (limit_shows (rw c.steps.ensures at c.within_limits.ensures)) _ (unbalanced_shows (rw c.steps-2.ensures at c.first_unbalanced.ensures)) c.if-not-within_limits.false c.in-None.is

@@ -1,0 +1,124 @@
+-- The minutes and counts of a list of steps: one put in, and some raised on a line.
+use Prim.Native.Nat.{ℕ, suc, ◌+◌, ◌-◌, ◌≤◌, ◌<◌}
+use mathlib.Core.Path.{◌≡◌, sym, ◌∙◌, ap}
+use mathlib.Core.Logic.{⊎_elim}
+use native.Mathlib.Omega.{arith}
+use mathlib.Core.List.{List}
+use lib.ListN.{length, get_or, set, take, length-set, length-take}
+use Rattle.std.proofs.Math.ListN.{get_or-map}
+use Rattle.std.proofs.lemmas.List as lists
+use Rattle.std.proofs.lemmas.List.{length-map, get_or-take, get_or-set_same, get_or-set_other}
+use Rattle.std.proofs.Math.Seq.{map-set_same}
+use Rattle.std.specs.List.{CopiedTo, SameBelow}
+use Rattle.rules.specs.Load.{IsColumn, share}
+use Rattle.profile.specs.declared.steps.Step.{Step}
+use Rattle.profile.specs.Steps.{minutes_of, counts_of, empty_step, begun_at, Inserted, Doubled, RaisedOn}
+use Rattle.profile.specs.Shows.{Profile, line_of, first_minute}
+use Rattle.profile.specs.Loads.{Raised}
+use Rattle.profile.proofs.Levels.{same_or_not}
+
+pub minute_at : (p : Profile) (i : ℕ) → get_or (minutes_of p) i 0 ≡ (get_or p i (empty_step 0)).minute
+minute_at p i = get_or-map (λ (s : Step). s.minute) p i (empty_step 0)
+
+-- whatever stands for a step that is not there
+pub minute_in : (p : Profile) (i : ℕ) (d : Step) → i < length p → get_or (minutes_of p) i 0 ≡ (get_or p i d).minute
+minute_in p i d h = lists.get_or-map (λ (s : Step). s.minute) p i d 0 h
+
+-- the first step, read off the list that has places for more
+pub first_taken : (xs : List Step) (n : ℕ) {p : Profile} → take n xs ≡ p → 1 ≤ length p → (get_or xs 0 (empty_step 0)).minute ≡ first_minute p
+first_taken xs n {p} e some =
+    ap (λ (s : Step). s.minute) (sym (get_or-take n xs 0 (empty_step 0) (omega (arith, length-take n xs, ap length e))))
+    ∙ sym (minute_at (take n xs) 0)
+    ∙ ap (λ (q : Profile). first_minute q) e
+
+-- q is p with step i there twice, the second time from minute t on
+pub record PutIn (p q : Profile) (i t : ℕ) : Type 0 where
+  pub size : length q ≡ length p + 1
+  pub before : (m : ℕ) → m ≤ i → get_or q m (empty_step 0) ≡ get_or p m (empty_step 0)
+  pub here : get_or q (i + 1) (empty_step 0) ≡ begun_at t (get_or p i (empty_step 0))
+  pub after : (m : ℕ) → i < m → m < length p → get_or q (suc m) (empty_step 0) ≡ get_or p m (empty_step 0)
+
+module _ {p q : Profile} {i t : ℕ} (h : PutIn p q i t) where
+  pub put_minutes : Inserted (minutes_of p) (minutes_of q) (length p) (i + 1) t
+  put_minutes =
+      record {
+        before = λ m b. minute_at q m ∙ ap (λ (s : Step). s.minute) (h.before m (omega arith)) ∙ sym (minute_at p m);
+        here = minute_at q (i + 1) ∙ ap (λ (s : Step). s.minute) h.here;
+        after = λ m b c. minute_at q (suc m) ∙ ap (λ (s : Step). s.minute) (h.after m (omega arith) c) ∙ sym (minute_at p m);
+      }
+
+  pub put_lines : (l : ℕ) → Doubled (line_of p l) (line_of q l) (length p) i
+  put_lines l =
+      record {
+        before = λ m b. ap (λ (s : Step). counts_of s l) (h.before m b);
+        after = λ m b c.
+            ⊎_elim
+            (λ e. let n : suc m ≡ i + 1 = omega arith in rw n (rw e (ap (λ (s : Step). counts_of s l) h.here)))
+            (λ ne. ap (λ (s : Step). counts_of s l) (h.after m (omega arith) c))
+            (same_or_not m i);
+      }
+
+-- the steps from i on moved one place up, and the one that is there twice begun in minute t
+pub doubled_put :
+    (xs ys : List Step) {n i t : ℕ} → i < n → n < length xs → length ys ≡ length xs → CopiedTo xs ys i (i + 1) (n - i) → SameBelow xs ys (i + 1) →
+    PutIn (take n xs) (take (n + 1) (set ys (i + 1) (begun_at t (get_or ys (i + 1) (empty_step 0))))) i t
+doubled_put xs ys {n} {i} {t} below room long moved still =
+    record {
+      size = sizes;
+      before = λ m b.
+          get_or-take (n + 1) _ m (empty_step 0) (omega arith)
+          ∙ get_or-set_other ys (i + 1) m _ (empty_step 0) (λ e. omega (arith, e))
+          ∙ still m (empty_step 0) (omega arith)
+          ∙ sym (get_or-take n xs m (empty_step 0) (omega arith));
+      here =
+          get_or-take (n + 1) _ (i + 1) (empty_step 0) (omega arith)
+          ∙ get_or-set_same ys (i + 1) _ (empty_step 0) (omega arith)
+          ∙ ap (λ (s : Step). begun_at t s) (twice ∙ sym (get_or-take n xs i (empty_step 0) below));
+      after = λ m b c.
+          get_or-take (n + 1) _ (suc m) (empty_step 0) (omega (arith, c, few))
+          ∙ get_or-set_other ys (i + 1) (suc m) _ (empty_step 0) (λ e. omega (arith, e))
+          ∙ moved (suc m) (empty_step 0) (omega arith) (omega (arith, c, few))
+          ∙ ap (λ (k : ℕ). get_or xs k (empty_step 0)) (back m b)
+          ∙ sym (get_or-take n xs m (empty_step 0) (omega (arith, c, few)));
+    }
+  where
+    few : length (take n xs) ≡ n
+    few = omega (arith, length-take n xs)
+
+    sizes : length (take (n + 1) (set ys (i + 1) (begun_at t (get_or ys (i + 1) (empty_step 0))))) ≡ length (take n xs) + 1
+    sizes = omega (arith, few, length-take (n + 1) (set ys (i + 1) (begun_at t (get_or ys (i + 1) (empty_step 0)))), length-set ys (i + 1) (begun_at t (get_or ys (i + 1) (empty_step 0))))
+
+    twice : get_or ys (i + 1) (empty_step 0) ≡ get_or xs i (empty_step 0)
+    twice =
+        let e : i + (i + 1 - (i + 1)) ≡ i = omega arith in
+        moved (i + 1) (empty_step 0) (omega arith) (omega arith) ∙ ap (λ (k : ℕ). get_or xs k (empty_step 0)) e
+
+    back : (m : ℕ) → i < m → i + (suc m - (i + 1)) ≡ m
+    back m b = omega arith
+
+-- one more step raised
+pub raised_more :
+    {p q : Profile} {line rate i k : ℕ} {x : Step} → k < length q → i ≤ k → IsColumn line → RaisedOn (get_or q k (empty_step 0)) line rate x → Raised p line rate i k q →
+    Raised p line rate i (k + 1) (set q k x)
+raised_more {p} {q} {line} {rate} {i} {k} {x} below from hl on r =
+    record {
+      minutes = map-set_same (λ (s : Step). s.minute) q k x (empty_step 0) on.minute ∙ r.minutes;
+      size = length-set q k x ∙ r.size;
+      each = λ l hc.
+          record {
+            before = λ m b. other l m (λ e. omega (arith, e)) ∙ (r.each l hc).before m b;
+            between = λ m b c.
+                ⊎_elim
+                (λ e.
+                rw e
+                (ap (λ (s : Step). counts_of s l) (get_or-set_same q k x (empty_step 0) below)
+                ∙ on.each l hc hl
+                ∙ ap (λ (n : ℕ). n + share line rate l) ((r.each l hc).after k (omega arith))))
+                (λ ne. other l m ne ∙ (r.each l hc).between m b (omega arith))
+                (same_or_not m k);
+            after = λ m b. other l m (λ e. omega (arith, e)) ∙ (r.each l hc).after m (omega arith);
+          };
+    }
+  where
+    other : (l m : ℕ) → (m ≡ k → ⊥) → line_of (set q k x) l m ≡ line_of q l m
+    other l m ne = ap (λ (s : Step). counts_of s l) (get_or-set_other q k m x (empty_step 0) ne)
