@@ -1,9 +1,10 @@
 -- How many pages there are: enough for the charges held, at least one, and no more than that.
 use mathlib.Core.Path.{◌≡◌}
 use mathlib.Core.Logic.{⊎_elim}
-use Prim.Native.Nat.{ℕ, ◌+◌, ◌-◌, ◌*◌, ◌/◌, ◌≤◌, ◌<◌}
+use Prim.Native.Nat.{ℕ, ◌+◌, ◌-◌, ◌*◌, ◌/◌, ◌≤◌, ◌<◌, max}
 use native.Mathlib.Omega.{arith}
 use borrow.Author.Tests.{eq-eqb, ne_eqb}
+use Rattle.std.specs.Int.{div_ceil}
 use Rattle.rules.proofs.Ranges.{below_or_not}
 use Rattle.page.specs.Pages.{page_count}
 
@@ -15,6 +16,14 @@ module _ (held : ℕ) where
   pub some_pages : (held ≡ 0 → ⊥) → page_count held ≡ (held + 23) / 24
   unfolding page_count
   some_pages n = rw (ne_eqb held 0 n)
+
+  -- as the library counts them
+  pub counted : max (div_ceil held 24) 1 ≡ page_count held
+  counted =
+      ⊎_elim
+      (λ h. let e = some_pages (λ e. omega arith) in omega (arith, e))
+      (λ h. let e = one_page (omega arith) in omega (arith, e))
+      (below_or_not 0 held)
 
   pub pages_enough : held ≤ 24 * page_count held
   unfolding page_count

@@ -1,7 +1,7 @@
 -- Texts one behind another: the rows of a page, and all pages.
 use mathlib.Core.Path.{◌≡◌, refl, sym, ap, ◌∙◌}
 use mathlib.Core.Bool.{Bool}
-use mathlib.Core.List.{List, [], ◌++◌}
+use mathlib.Core.List.{List, [], ◌++◌, append_assoc, append-nil}
 use Prim.Native.Nat.{ℕ, ◌+◌, ◌*◌, ◌≤◌, ◌<◌}
 use native.Mathlib.Numerals.{add-one}
 use native.Mathlib.Omega.{arith}
@@ -13,7 +13,7 @@ use Rattle.rules.proofs.Lists.{length_tabulate, get_d_tabulate, tabulate_each}
 use Rattle.charges.specs.declared.Charges.{Charges}
 use Rattle.charges.specs.Arrays.{charge_at, charges_of, Columns}
 use Rattle.layout.specs.Image.{no_charge}
-use Rattle.page.specs.Lines.{heading, row_of, row, blank}
+use Rattle.page.specs.Lines.{row_of, row, blank}
 use Rattle.page.specs.Pages.{texts, row_at, rows, page, page_count, pages}
 use Rattle.page.specs.Lined.{Fits, ChargeFits}
 
@@ -24,6 +24,15 @@ texts_none f = refl
 pub texts_more : (f : ℕ → List ℕ) (n : ℕ) → texts f (n + 1) ≡ texts f n ++ f n
 unfolding texts
 texts_more f n = rw (add-one n)
+
+-- the first n of them stand behind what was there, and then one more
+pub none_behind : (f : ℕ → List ℕ) (old : List ℕ) → old ≡ old ++ texts f 0
+none_behind f old = rw (texts_none f) (sym (append-nil old))
+
+pub one_behind :
+    (f : ℕ → List ℕ) (n : ℕ) (old text : List ℕ) {mid new : List ℕ} → mid ≡ old ++ texts f n → new ≡ mid ++ text → text ≡ f n
+    → new ≡ old ++ texts f (n + 1)
+one_behind f n old text p q e = q ∙ rw (p, e, texts_more f n) (append_assoc old (texts f n) (f n))
 
 module _ (clock : ℕ) (cs : List Charge) (q : ℕ) where
   pub row_held : q < length cs → row_at clock cs q ≡ row clock (get_or cs q no_charge)
@@ -75,26 +84,11 @@ module _ (clock : ℕ) (cs : List Charge) (k : ℕ) where
   abbrev pub rows_to : ℕ → List ℕ
   rows_to i = texts (λ j. row_at clock cs (24 * k + j)) i
 
-  pub no_row : [] ≡ rows_to 0
-  no_row = sym (texts_none (λ j. row_at clock cs (24 * k + j)))
-
-  pub row_more : (text : List ℕ) (i : ℕ) → text ≡ row_at clock cs (24 * k + i) → rows_to i ++ text ≡ rows_to (i + 1)
-  row_more text i e = rw (e, texts_more (λ j. row_at clock cs (24 * k + j)) i)
-
   pub all_rows : (i : ℕ) → i ≡ 24 → rows_to i ≡ rows clock cs k
   unfolding rows
   all_rows i e = rw e
 
-  pub whole_page : (text : List ℕ) → text ≡ rows clock cs k → heading ++ text ≡ page clock cs k
-  unfolding page
-  whole_page text e = rw e
-
 -- all pages
-
-pub page_more :
-    (clock : ℕ) (cs : List Charge) (text : List ℕ) (k : ℕ) → text ≡ page clock cs k
-    → texts (page clock cs) k ++ text ≡ texts (page clock cs) (k + 1)
-page_more clock cs text k e = rw (e, texts_more (page clock cs) k)
 
 pub whole_pages : (clock : ℕ) (cs : List Charge) (count : ℕ) → count ≡ page_count (length cs) → texts (page clock cs) count ≡ pages clock cs
 unfolding pages

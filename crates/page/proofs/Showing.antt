@@ -13,7 +13,8 @@ use Rattle.rules.proofs.Ranges.{below_or_not}
 use Rattle.layout.specs.Image.{no_charge, only, held_at}
 use Rattle.layout.proofs.Rising.{each_place}
 use Rattle.layout.proofs.Single.{first-is}
-use Rattle.text.specs.declared.number.Number.TheVariants.{Value}
+use Rattle.text.specs.declared.number.NumberError.{NumberError}
+use Rattle.std.specs.Prelude.{Result, Ok}
 use Rattle.page.specs.Lines.{heading, row, blank}
 use Rattle.page.specs.Pages.{row_at, page_count, pages_of}
 use Rattle.page.specs.Lined.{ChargeFits, Lined, StandsAt, line_of_row}
@@ -24,7 +25,7 @@ use Rattle.page.proofs.Lining.{heading_lined}
 use Rattle.page.proofs.LinedPages.{row_at_lined}
 use Rattle.page.proofs.Rowing.{heading_stands, row_stands}
 use Rattle.page.proofs.Standing.{same_line}
-use Rattle.page.proofs.TicketsShown.{ticket_in, row_ticket, heading_none, blank_none, value_or, not_a_ticket}
+use Rattle.page.proofs.TicketsShown.{ticket_in, row_ticket, heading_none, blank_none, not_a_ticket}
 
 -- Tickets rise with the places
 
@@ -63,7 +64,7 @@ module _ (s : State) (one : length s.feeders ≡ 1) (v : ValidState s) where
 
   module _ (q : ℕ) (h : q < length (only s).charges) (j : ℕ) (inside : j < 25 * page_count (length (only s).charges)) where
     abbrev Shown : List ℕ → Type 0
-    Shown line = ticket_in line ≡ Value (held_at s q).ticket
+    Shown line = ticket_in line ≡ Ok (held_at s q).ticket
 
     at_heading : j % 25 ≡ 0 → (line : List ℕ) → Lined 1 line → StandsAt j line (pages_of s) → Shown line → ⊥
     at_heading z line l t w =
@@ -89,14 +90,14 @@ module _ (s : State) (one : length s.feeders ≡ 1) (v : ValidState s) where
         let e : q ≡ place = same_place q place h b same in
         omega arith
       where
-        value_same : {a b : ℕ} → Value a ≡ Value b → a ≡ b
-        value_same e = omega (arith, ap value_or e)
+        value_same : {a b : ℕ} → ◌≡◌ {A = Result ℕ NumberError} (Ok a) (Ok b) → a ≡ b
+        value_same e = cc
     line_of p line l t w (inr b) =
         let o : line ≡ blank =
         same_line j l (row_at_lined s.clock (only s).charges fits place) t (at_row p) ∙ row_unused s.clock (only s).charges place b in
         absurd (not_a_ticket (held_at s q).ticket (sym w ∙ ap ticket_in o ∙ blank_none))
 
     -- a line that shows the ticket of charge q is its row
-    pub shown_once : (line : List ℕ) → Lined 1 line → StandsAt j line (pages_of s) → ticket_in line ≡ Value (held_at s q).ticket → j ≡ line_of_row q
+    pub shown_once : (line : List ℕ) → Lined 1 line → StandsAt j line (pages_of s) → ticket_in line ≡ Ok (held_at s q).ticket → j ≡ line_of_row q
     shown_once line l t w =
         ⊎_elim (λ p. line_of p line l t w (below_or_not place (length (only s).charges))) (λ p. absurd (at_heading (omega arith) line l t w)) (below_or_not 0 (j % 25))

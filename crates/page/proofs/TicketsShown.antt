@@ -10,8 +10,9 @@ use borrow.Author.Tests.{ne_eqb}
 use Rattle.rules.specs.Basics.{Each}
 use Rattle.rules.specs.Charge.{Charge, end_of, is_begun}
 use Rattle.text.specs.Numbers.{value_from, number_of, decimal}
-use Rattle.text.specs.declared.number.Number.{Number}
-use Rattle.text.specs.declared.number.Number.TheVariants.{Value, NotANumber, TooLarge}
+use Rattle.text.specs.declared.number.NumberError.{NumberError}
+use Rattle.text.specs.declared.number.NumberError.TheVariants.{NotANumber}
+use Rattle.std.specs.Prelude.{Result, Ok, Err}
 use Rattle.text.proofs.Values.{read_back}
 use Rattle.page.specs.Lines.{spaces, at_right, at_left, column, columns, heading, state_of, row_of, row, blank}
 use Rattle.page.specs.Lined.{ChargeFits}
@@ -24,7 +25,7 @@ abbrev after_spaces : List ℕ → List ℕ
 after_spaces [] = []
 after_spaces (b ∷ bs) = cond (eqb b 32) (after_spaces bs) (b ∷ bs)
 
-abbrev pub ticket_in : List ℕ → Number
+abbrev pub ticket_in : List ℕ → Result ℕ NumberError
 ticket_in line = number_of (after_spaces (take 6 line))
 
 no_spaces : (xs : List ℕ) → Each (λ b. 48 ≤ b) xs → after_spaces xs ≡ xs
@@ -46,7 +47,7 @@ first_column : (t l s e w : List ℕ) → length t ≤ 6 → take 6 (columns t l
 first_column t l s e w h =
     front_column (at_right 6 t) (column 1 l ++ (column 9 s ++ (column 9 e ++ (at_left 8 w ++ (10 ∷ []))))) (length_right 6 t h)
 
-pub row_ticket : (clock : ℕ) (c : Charge) → ChargeFits c → ticket_in (row clock c) ≡ Value c.ticket
+pub row_ticket : (clock : ℕ) (c : Charge) → ChargeFits c → ticket_in (row clock c) ≡ Ok c.ticket
 unfolding row_of
 row_ticket clock c f =
     let d : List ℕ = decimal c.ticket in
@@ -55,18 +56,13 @@ row_ticket clock c f =
     ∙ ap number_of (spaces_passed (6 - length d) d ∙ no_spaces d (digits_high c.ticket))
     ∙ read_back c.ticket (omega (arith, f.ticket_small))
 
-pub heading_none : ticket_in heading ≡ NotANumber
+pub heading_none : ticket_in heading ≡ Err NotANumber
 unfolding number_of value_from
 heading_none = refl
 
-pub blank_none : ticket_in blank ≡ NotANumber
+pub blank_none : ticket_in blank ≡ Err NotANumber
 unfolding number_of
 blank_none = refl
 
-abbrev pub value_or : Number → ℕ
-value_or (Value n) = suc n
-value_or NotANumber = 0
-value_or TooLarge = 0
-
-pub not_a_ticket : (n : ℕ) → Value n ≡ NotANumber → ⊥
-not_a_ticket n e = omega (arith, ap value_or e)
+pub not_a_ticket : (n : ℕ) → ◌≡◌ {A = Result ℕ NumberError} (Ok n) (Err NotANumber) → ⊥
+not_a_ticket n e = cc

@@ -1,3 +1,3 @@
 pub mod Reports
 pub mod Replies
-pub mod Leaving
+pub mod OnlyFeeder

@@ -3,23 +3,25 @@ use mathlib.Core.Path.{◌≡◌, refl, sym, ap, subst, ◌∙◌}
 use mathlib.Core.List.{List, ◌++◌}
 use Prim.Native.Nat.{ℕ, ◌+◌, ◌-◌, ◌≤◌, min}
 use native.Mathlib.Omega.{arith}
-use lib.ListN.{length, take, drop, replicate, length-append, length-drop, length-replicate}
-use lib.Seq.{sets, sets-eq, length-sets, length-take-le, take_at, take_all}
+use lib.ListN.{length, take, drop, replicate, length-append, length-replicate}
+use lib.Seq.{slice, length-slice, sets, sets-eq, length-take-le, take_at}
+use Rattle.std.specs.Prelude.{Result as Outcome, Ok, Err}
+use Rattle.std.proofs.lemmas.Slice.{between_is}
 use Rattle.rules.specs.Site.{State}
 use Rattle.rules.specs.Calls.{Result}
-use Rattle.text.specs.Printed.{Printed}
-use Rattle.text.proofs.Printing.{printed_as}
 use Rattle.answers.specs.Answers.{answer_text, listed_of}
-use Rattle.requests.specs.Requests.{Asked, read_request, meaning, lent_list, Fits, Lent, Asks}
+use Rattle.requests.specs.Requests.{Asked, error, read_request, meaning, lent_list, Fits, Lent, Asks}
+use Rattle.requests.specs.Errors.{error_text}
 use Rattle.requests.specs.declared.request.Request.{Request}
+use Rattle.requests.specs.declared.request.Reason.{Reason}
 use Rattle.station.specs.declared.Station.{Station}
 use Rattle.calls.specs.declared.Call.{Call}
 use Rattle.calls.specs.declared.Call.TheVariants.{Preview, Commit, Move, Offer, ReplanLatest, ReplanLines, Enquire, Board, Withdraw}
 use Rattle.calls.specs.declared.Answer as code
 use Rattle.station.specs.View.{view, Valid}
 use Rattle.calls.specs.Applied.{call_of, lends, answer_of, Applies}
-use Rattle.reply.specs.Reply.{numbers_in, called, reply, written_by, places_of, lent_by, said_text, Says, Replied, answered}
-use Rattle.reply.specs.declared.Reply as code-reply
+use Rattle.reply.specs.Reply.{numbers_in, called, reply, written_by, places_of, lent_by, lent_to, said_text, Says, Replied, answered}
+use Rattle.reply.specs.declared.Said.{Said}
 use Rattle.reply.specs.declared.Said.TheVariants as said
 use Rattle.reply.proofs.Reports.{Reports, reports, few_reports, text_after}
 
@@ -49,7 +51,7 @@ module _ {s : Station} (c : Call) {ss list after : List ℕ} {a : code.Answer} {
   call_says :
       (n places asked lent : ℕ) (whole : List ℕ) → Lent (lends c) n places → length ss ≤ n → asked ≡ length ss → take lent whole ≡ after
       → lent ≤ length whole → length list ≤ lent
-      → Says (called (view s) (call_of c ss list)) (record { station = next; said = said.Call a asked lent }) whole
+      → Says (called (view s) (call_of c ss list)) next (said.Call a asked lent) whole
   call_says n places asked lent whole e h same front room fill =
       record {
         state_is = ap (λ (x : Result). x.state) p.gives.result;
@@ -86,27 +88,31 @@ list_left {s} c {ss} {after} n places lent list e l h p =
     let size : 0 + length after ≡ lent = omega arith in
     sym (put ∙ ap (λ (x : ℕ). after ++ drop x list) size) ∙ ap (sets list 0) (after_call s c ss after n places e p)
 
--- A call with the numbers from a place on, and so many places at the front of a list: what is said, and what is left of the list.
+-- how many numbers stand between two places
+pub length_between : (from until : ℕ) (numbers : List ℕ) → until ≤ length numbers → length (take (until - from) (drop from numbers)) ≡ until - from
+length_between from until numbers h = rw (between_is numbers from until) (length-slice from until numbers h)
+
+-- A call with the numbers between two places, and so many places at the front of a list: what is said, and what is left of the list.
 pub call_replied :
-    {s next : Station} (c : Call) (numbers list : List ℕ) {after : List ℕ} (from places : ℕ) {lent asked : ℕ} {a : code.Answer}
+    {s next : Station} (c : Call) (numbers list : List ℕ) {after : List ℕ} (from until places : ℕ) {lent asked : ℕ} {a : code.Answer}
     → Valid s
     → 4096 ≤ length list
     → take (length (lent_list places)) list ≡ lent_list places
-    → from ≤ length numbers
-    → Lent (lends c) (length numbers) places
+    → until ≤ length numbers
+    → Lent (lends c) until places
     → lent ≡ min places 4096
     → lent ≤ 4096
     → length after ≡ length (take lent list)
-    → asked ≡ length numbers - from
-    → Applies (view s) c (take (length numbers - from) (drop from numbers)) (take lent list) after a next
-    → Says (called (view s) (call_of c (drop from numbers) (lent_list places))) (record { station = next; said = said.Call a asked lent }) (after ++ drop lent list)
-    × (after ++ drop lent list ≡ sets list 0 (written_by (view s) (call_of c (drop from numbers) (lent_list places))))
-call_replied {s} {next} c numbers list {after} from places {lent} {asked} {a} v room front inside e is few keeps same p = (
-  call_says c v applies (length numbers) places asked lent (after ++ drop lent list) e (omega (arith, read)) (omega (arith, same, read))
+    → asked ≡ until - from
+    → Applies (view s) c (take (until - from) (drop from numbers)) (take lent list) after a next
+    → Says (called (view s) (call_of c (slice from until numbers) (lent_list places))) next (said.Call a asked lent) (after ++ drop lent list)
+    × (after ++ drop lent list ≡ sets list 0 (written_by (view s) (call_of c (slice from until numbers) (lent_list places))))
+call_replied {s} {next} c numbers list {after} from until places {lent} {asked} {a} v room front inside e is few keeps same p = (
+  call_says c v applies until places asked lent (after ++ drop lent list) e (omega (arith, read)) (omega (arith, same, read))
       (take_at after (drop lent list) lent long)
       (omega (arith, long, length-append after (drop lent list)))
       (omega (arith, size)),
-  list_left c (length numbers) places lent list e long (omega (arith, few, room)) applies,
+  list_left c until places lent list e long (omega (arith, few, room)) applies,
 )
   where
     size : length (lent_list places) ≡ lent
@@ -115,14 +121,14 @@ call_replied {s} {next} c numbers list {after} from places {lent} {asked} {a} v 
     long : length after ≡ lent
     long = keeps ∙ length-take-le lent list (omega (arith, few, room))
 
-    read : length (drop from numbers) ≡ length numbers - from
-    read = length-drop from numbers
+    read : length (slice from until numbers) ≡ until - from
+    read = length-slice from until numbers inside
 
-    applies : Applies (view s) c (drop from numbers) (lent_list places) after a next
+    applies : Applies (view s) c (slice from until numbers) (lent_list places) after a next
     applies =
-        subst (λ (l : List ℕ). Applies (view s) c (drop from numbers) l after a next)
+        subst (λ (l : List ℕ). Applies (view s) c (slice from until numbers) l after a next)
         (ap (λ (n : ℕ). take n list) (sym size) ∙ front)
-        (rw (take_all (length numbers - from) (drop from numbers) (omega (arith, read))) at p)
+        (rw (between_is numbers from until) at p)
 
 -- The list as it is filled for a request, and what stands at its front
 
@@ -143,21 +149,38 @@ front_lent r list h =
 
 -- what `reply_request` asks for, from what `read` left
 pub can_reply :
-    {s : Station} {asked : Asked} {values numbers after filled : List ℕ} {r : Request} (list : List ℕ) → Valid s → 2048 ≤ length after → 4096 ≤ length list
-    → Asks asked values numbers after r → filled ≡ sets list 0 (lent_by r)
-    → Valid s × ((2048 ≤ length after) × ((4096 ≤ length filled) × (Fits 2048 r × (take (length (lent_by r)) filled ≡ lent_by r))))
-can_reply {s} {asked} {values} {numbers} {after} {filled} {r} list v n l a e =
-    (v, (n, (omega (arith, ap length e, length-sets list 0 (lent_by r)), (a.fits, ap (take (length (lent_by r))) e ∙ front_lent r list l))))
+    {asked : Asked} {values numbers after filled : List ℕ} {read : Outcome Request Reason} (r : Request) (list : List ℕ) → 4096 ≤ length list
+    → read ≡ Ok r → Asks asked values numbers after read → filled ≡ sets list 0 (lent_to read)
+    → Fits 2048 r × (take (length (lent_by r)) filled ≡ lent_by r)
+can_reply {read = read} r list l e a f =
+    let fits : Fits 2048 r = rw e at a.fits in
+    let filled-so = f ∙ ap (λ x. sets list 0 (lent_to x)) e in
+    (fits, ap (take (length (lent_by r))) filled-so ∙ front_lent r list l)
 
 -- a request that was read so, and was replied to so, is answered so
 pub replied :
-    (s : State) (text : List ℕ) {values numbers after : List ℕ} {x : Request} {r : code-reply.Reply} {list before : List ℕ} {at : ℕ} {out : List ℕ} {next : ℕ}
-    → Asks (read_request text) values numbers after x → Says (reply s (meaning x after)) r list → Printed (said_text r.said list) before at out next
-    → Replied (answered s text) r.station before at out next
+    (s : State) (text : List ℕ) {values numbers after : List ℕ} {read : Outcome Request Reason} (r : Request) {station : Station} {said : Said} {list : List ℕ} (before : List ℕ) {out : List ℕ}
+    → read ≡ Ok r → Asks (read_request text) values numbers after read → Says (reply s (meaning r after)) station said list → out ≡ before ++ said_text said list
+    → Replied (answered s text) station before out
 unfolding answered
-replied s text {values} {numbers} {after} {x} {r} {list} {before} {at} {out} {next} a h p =
+replied s text {after = after} r before e a h p =
+    let asked : meaning r after ≡ read_request text = rw e at a.request_is in
     record {
-      state_is = h.state_is ∙ ap (λ (y : Asked). (reply s y).state) a.request_is;
+      state_is = h.state_is ∙ ap (λ (y : Asked). (reply s y).state) asked;
       valid = h.valid;
-      printed = printed_as p (h.text_is ∙ ap (λ (y : Asked). (reply s y).text) a.request_is);
+      printed = p ∙ ap (λ (x : List ℕ). before ++ x) (h.text_is ∙ ap (λ (y : Asked). (reply s y).text) asked);
+    }
+
+-- a line of text that is no request is answered so
+pub refused :
+    {station : Station} (text : List ℕ) {values numbers after : List ℕ} {read : Outcome Request Reason} (reason : Reason) (before : List ℕ) {out : List ℕ}
+    → Valid station → read ≡ Err reason → Asks (read_request text) values numbers after read → out ≡ before ++ error_text reason
+    → Replied (answered (view station) text) station before out
+unfolding answered
+refused {station} text reason before v e a p =
+    let asked : error reason ≡ read_request text = rw e at a.request_is in
+    record {
+      state_is = ap (λ (y : Asked). (reply (view station) y).state) asked;
+      valid = v;
+      printed = p ∙ ap (λ (x : List ℕ). before ++ x) (ap (λ (y : Asked). (reply (view station) y).text) asked);
     }

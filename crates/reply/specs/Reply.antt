@@ -1,12 +1,12 @@
 -- What a request is answered: the station after it, and the text that is printed.
-use Rattle.std.specs.Prelude.{ℕ, ◌≤◌, ◌≡◌, List, [], length, take}
+use Rattle.std.specs.Prelude.{ℕ, ◌≤◌, ◌≡◌, List, [], ◌++◌, length, take, Result as Outcome, Ok, Err}
 use Rattle.rules.specs.Site.{State}
 use Rattle.rules.specs.Calls.{Call, preview, commit, move, offer, replan_latest, replan_lines, enquire, board, withdraw, Result}
 use Rattle.rules.specs.Calls as calls
 use Rattle.requests.specs.Requests.{Asked, nothing, opening, call, error, read_request, lent_list}
 use Rattle.requests.specs.declared.request.Request as declared
 use Rattle.requests.specs.declared.request.Request.TheVariants as request
-use Rattle.text.specs.Printed.{Printed}
+use Rattle.requests.specs.declared.request.Reason.{Reason}
 use Rattle.requests.specs.Errors.{error_text}
 use Rattle.answers.specs.Answers.{answer_text, listed_of}
 use Rattle.station.specs.declared.Station.{Station}
@@ -15,7 +15,6 @@ use Rattle.station.specs.Opened.{open_answer}
 use Rattle.calls.specs.Applied.{answer_of}
 use Rattle.reply.specs.declared.Said.{Said}
 use Rattle.reply.specs.declared.Said.TheVariants as said
-use Rattle.reply.specs.declared.Reply as code
 
 -- the station after a request, and its answer as bytes
 pub record Told : Type 0 where
@@ -76,34 +75,36 @@ abbrev pub places_of : declared.Request → ℕ
 places_of request.Nothing = 0
 places_of (request.Open x) = 0
 places_of (request.Call c from until places) = places
-places_of (request.Error reason) = 0
 
 abbrev pub lent_by : declared.Request → List ℕ
 lent_by r = lent_list (places_of r)
+
+-- what is filled for a line of text: nothing where it asks for nothing
+abbrev pub lent_to : Outcome declared.Request Reason → List ℕ
+lent_to (Ok r) = lent_by r
+lent_to (Err reason) = []
 
 -- what is said, as it is printed with the list that was lent for writing
 abbrev pub said_text : Said → List ℕ → List ℕ
 said_text said.Nothing list = []
 said_text (said.Opening a) list = answer_text (open_answer a) 0 []
 said_text (said.Call a asked lent) list = answer_text (answer_of a) asked (take lent list)
-said_text (said.Error reason) list = error_text reason
 
 -- what is printed of the list stands in the places that were lent, and is not much
 abbrev pub SaidFits : Said → ℕ → Type 0
 SaidFits said.Nothing places = Unit {0}
 SaidFits (said.Opening a) places = Unit {0}
 SaidFits (said.Call a asked lent) places = (lent ≤ places) × ((listed_of (answer_of a) asked ≤ lent) × (listed_of (answer_of a) asked ≤ 1440))
-SaidFits (said.Error reason) places = Unit {0}
 
 -- This is said to a request, printed with this list, and the station beside it is valid.
-pub record Says (t : Told) (r : code.Reply) (list : List ℕ) : Type 0 where
-  pub state_is : view r.station ≡ t.state
-  pub valid : Valid r.station
-  pub text_is : said_text r.said list ≡ t.text
-  pub fits : SaidFits r.said (length list)
-
--- A request was answered so: this station, which is valid, and this text at its place.
-pub record Replied (t : Told) (station : Station) (before : List ℕ) (at : ℕ) (after : List ℕ) (next : ℕ) : Type 0 where
+pub record Says (t : Told) (station : Station) (s : Said) (list : List ℕ) : Type 0 where
   pub state_is : view station ≡ t.state
   pub valid : Valid station
-  pub printed : Printed t.text before at after next
+  pub text_is : said_text s list ≡ t.text
+  pub fits : SaidFits s (length list)
+
+-- A request was answered so: this station, which is valid, and this text behind what was printed before.
+pub record Replied (t : Told) (station : Station) (before after : List ℕ) : Type 0 where
+  pub state_is : view station ≡ t.state
+  pub valid : Valid station
+  pub printed : after ≡ before ++ t.text

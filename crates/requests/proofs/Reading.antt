@@ -1,28 +1,39 @@
 -- A request as it is read: its numbers, from the left, into the lent list; its call by name; the request as a whole.
 use mathlib.Core.Path.{◌≡◌, refl, sym, ap, ◌∙◌}
-use mathlib.Core.Bool.{false}
+use mathlib.Core.Bool.{Bool, true, false, false≢true}
 use mathlib.Core.List.{List, [], ◌∷◌, ◌++◌, append_assoc, append-nil}
 use Prim.Native.Nat.{ℕ, suc, ◌+◌, ◌-◌, ◌≤◌, ◌<◌}
+use native.Mathlib.Nat.{add-zero, add-suc, suc-add}
 use native.Mathlib.Numerals.{add-one}
 use native.Mathlib.Omega.{arith}
-use borrow.Author.Tests.{lt-ltb, le-ltb, eq-eqb, ne_eqb}
-use lib.ListN.{length, take, get_or, set, length-set}
-use lib.Seq.{slice, sets, take-length, take-take, length-take-le, take-suc-set}
+use borrow.Author.Tests.{lt-ltb, le-ltb, eq-eqb, ne_eqb, eqb-true}
+use lib.Dec.{eqb}
+use lib.ListN.{length, take, drop, get_or, set, length-set, drop_of_length-le}
+use lib.Seq.{sets, take-take, length-take-le, take-suc-set, drop-cons}
+use Rattle.std.specs.List.{slice_split}
+use Rattle.std.specs.Fn.{CalledAt}
+use Rattle.std.specs.Slice.Iter.{split_rest, split_done, split_callee, split_steps}
+use Rattle.std.specs.Iterator.Adapters.{skip_source, skip_count, skip_steps}
+use Rattle.std.specs.declared.slice.Split.{Split}
+use Rattle.std.specs.declared.iter.Skip.{Skip}
+use Rattle.std.proofs.lemmas.Iterator.{YieldsList}
+use Rattle.std.proofs.lemmas.Iterator.Splits.{YieldsList-from_slice_split}
+use Rattle.std.proofs.lemmas.Iterator.Adapters.{YieldsList-from_skip}
+use Rattle.std.proofs.lemmas.Iterator.Consumers.{YieldsList-at}
+use denote.Param.Members.{Mut}
+use denote.Ref.{Bor}
+use Rattle.text.proofs.Splitting.{split_slices}
+use Rattle.std.specs.Prelude.{Option, Some, None, Result, Ok, Err, IfOk}
+use Rattle.std.specs.Result.{IsErrAnd}
 use Rattle.text.specs.Numbers.{number_of}
-use Rattle.text.specs.Parts.{split, parts_after, PartEnd}
-use Rattle.text.specs.declared.number.Number.{Number}
-use Rattle.text.specs.declared.number.Number.TheVariants.{Value}
-use Rattle.text.proofs.Printing.{sets_join}
-use Rattle.text.proofs.Splitting.{first_part}
+use Rattle.text.specs.Parts.{split}
+use Rattle.text.specs.declared.number.NumberError.{NumberError}
 use Rattle.requests.specs.Words.{named}
 use Rattle.requests.specs.Requests.{
   nothing,
   error,
-  Numbers,
-  numbers,
-  wrong,
   taken,
-  AtMost,
+  reason_of,
   followed,
   read_numbers,
   before,
@@ -34,7 +45,8 @@ use Rattle.requests.specs.Requests.{
   by_kind,
   read_request,
   request_values,
-  meaning,
+  numbers_read,
+  asked_by,
   Fits,
   Calls,
   TakesNumbers,
@@ -44,11 +56,12 @@ use Rattle.requests.specs.declared.request.Reason.{Reason}
 use Rattle.requests.specs.declared.request.Reason.TheVariants.{UnknownCall, MissingNumber, ExtraNumber, LineTooLong}
 use Rattle.requests.specs.declared.word.CallName.{CallName}
 use Rattle.requests.specs.declared.request.Takes.{Takes}
-use Rattle.requests.specs.declared.request.Takes.TheVariants.{Between, NoCall}
 use Rattle.requests.specs.declared.request.Request as declared
 use Rattle.requests.specs.declared.request.Request.TheVariants as asked
-use Rattle.requests.specs.declared.request.Numbers as code
-use Rattle.requests.specs.declared.request.Numbers.TheVariants as told
+
+sets_join : (l : List ℕ) (i : ℕ) (xs ys : List ℕ) → sets l i (xs ++ ys) ≡ sets (sets l i xs) (i + length xs) ys
+sets_join l i [] ys = rw (add-zero i)
+sets_join l i (x ∷ xs) ys = rw (sets_join (set l i x) (suc i) xs ys, add-suc i (length xs), suc-add i (length xs))
 
 set_last :
     (lent ns list : List ℕ) (count n : ℕ) → length ns ≡ count → list ≡ sets lent 0 ns
@@ -56,120 +69,105 @@ set_last :
 set_last lent ns list count n e w = let f : 0 + length ns ≡ count = omega arith in rw (sets_join lent 0 ns (n ∷ []), ← w, f)
 
 -- numbers in front of those that follow them
-abbrev pub after : List ℕ → Numbers → Numbers
-after ns (numbers ms) = numbers (ns ++ ms)
-after ns (wrong reason) = wrong reason
+abbrev pub after : List ℕ → Result (List ℕ) Reason → Result (List ℕ) Reason
+after ns (Ok ms) = Ok (ns ++ ms)
+after ns (Err reason) = Err reason
 
-one_more : (ns : List ℕ) (n : ℕ) (rest : Numbers) → after ns (followed (Value n) rest) ≡ after (ns ++ (n ∷ [])) rest
-one_more ns n (numbers ms) = rw (append_assoc ns (n ∷ []) ms)
-one_more ns n (wrong reason) = refl
+one_more : (ns : List ℕ) (n : ℕ) (rest : Result (List ℕ) Reason) → after ns (followed (Ok n) rest) ≡ after (ns ++ (n ∷ [])) rest
+one_more ns n (Ok ms) = rw (append_assoc ns (n ∷ []) ms)
+one_more ns n (Err reason) = refl
 
--- What is read of a request: the whole is the numbers in the list, and then those that follow the word that ends at `at`.
-pub record Reads (text : List ℕ) (from least most : ℕ) (lent list : List ℕ) (at count : ℕ) : Type 0 where
-  pub within : at ≤ length text
+-- What is read of some words: the whole is the numbers in the list, and then those of the words that are left.
+pub record Reads (words : List (List ℕ)) (least most : ℕ) (lent list : List ℕ) (count : ℕ) : Type 0 where
   pub few : count ≤ most
   pub long : length list ≡ length lent
   pub written : list ≡ sets lent 0 (take count list)
-  pub values :
-      values_read most (parts_after 32 text from (length text))
-      ≡ take count list ++ values_read (most - count) (parts_after 32 text at (length text))
+  pub values : values_read most words ≡ take count list ++ values_read (most - count) (drop count words)
   pub whole :
-      read_numbers least most (parts_after 32 text from (length text))
-      ≡ after (take count list) (read_numbers (least - count) (most - count) (parts_after 32 text at (length text)))
+      read_numbers least most words ≡ after (take count list) (read_numbers (least - count) (most - count) (drop count words))
 
-pub reads_none : (text : List ℕ) (from least most : ℕ) (list : List ℕ) → from ≤ length text → Reads text from least most list list from 0
-reads_none text from least most list h =
+pub reads_none : (words : List (List ℕ)) (least most : ℕ) (list : List ℕ) → Reads words least most list list 0
+reads_none words least most list =
     let p : least - 0 ≡ least = omega arith in
     let q : most - 0 ≡ most = omega arith in
     record {
-      within = h;
       few = omega arith;
       long = refl;
       written = refl;
       values = rw q refl;
-      whole = rw (p, q) (sym (nothing (read_numbers least most (parts_after 32 text from (length text)))));
+      whole = rw (p, q) (sym (nothing (read_numbers least most words)));
     }
   where
-    nothing : (r : Numbers) → after [] r ≡ r
-    nothing (numbers ns) = refl
-    nothing (wrong reason) = refl
+    nothing : (r : Result (List ℕ) Reason) → after [] r ≡ r
+    nothing (Ok ns) = refl
+    nothing (Err reason) = refl
 
-module _ {text : List ℕ} {from least most : ℕ} {lent list : List ℕ} {at count : ℕ} (r : Reads text from least most lent list at count) where
-  abbrev words : List (List ℕ)
-  words = parts_after 32 text from (length text)
-
+module _ {words : List (List ℕ)} {takes : Takes} {lent list : List ℕ} {count : ℕ} (r : Reads words takes.least takes.most lent list count) where
   -- no more numbers are read
-  list_done : values_read (most - count) (parts_after 32 text at (length text)) ≡ [] → list ≡ sets lent 0 (values_read most words)
+  list_done : values_read (takes.most - count) (drop count words) ≡ [] → list ≡ sets lent 0 (values_read takes.most words)
   list_done e = r.written ∙ ap (sets lent 0) (sym (r.values ∙ ap (λ (x : List ℕ). take count list ++ x) e ∙ append-nil (take count list)))
 
   -- no word is left
-  none_left : length text ≤ at → values_read (most - count) (parts_after 32 text at (length text)) ≡ []
+  none_left : length words ≤ count → values_read (takes.most - count) (drop count words) ≡ []
   unfolding values_read
-  none_left h = rw (le-ltb at (length text) h)
+  none_left h = rw (drop_of_length-le words h)
 
-  pub reads_missing : length text ≤ at → count < least → TakesNumbers least most words lent list (told.Wrong MissingNumber)
+  pub reads_missing : length words ≤ count → count < takes.least → TakesNumbers takes words lent list (Err MissingNumber)
   unfolding read_numbers
   reads_missing h k =
       record {
-        numbers_are = sym (r.whole ∙ rw (le-ltb at (length text) h, lt-ltb 0 (least - count) (omega arith)));
+        numbers_are = sym (r.whole ∙ rw (drop_of_length-le words h, lt-ltb 0 (takes.least - count) (omega arith)));
         few = tt;
         list_is = list_done (none_left h);
       }
 
-  pub reads_all : length text ≤ at → least ≤ count → TakesNumbers least most words lent list (told.Count count)
+  pub reads_all : length words ≤ count → takes.least ≤ count → TakesNumbers takes words lent list (Ok count)
   unfolding read_numbers
   reads_all h k =
       record {
         numbers_are =
-            sym (r.whole ∙ rw (le-ltb at (length text) h, le-ltb 0 (least - count) (omega arith), append-nil (take count list)));
+            sym (r.whole ∙ rw (drop_of_length-le words h, le-ltb 0 (takes.least - count) (omega arith), append-nil (take count list)));
         few = r.few;
         list_is = list_done (none_left h);
       }
 
   -- a word is left
-  module _ (h : at < length text) {start end : ℕ} (p : PartEnd 32 text start (length text) end) (next : start ≡ at + 1) where
-    parts_left : parts_after 32 text at (length text) ≡ slice start end text ∷ parts_after 32 text end (length text)
-    parts_left = rw (lt-ltb at (length text) h, ← add-one at, ← next) p.parts
-
-    module _ (k : count < most) where
+  module _ {word : List ℕ} (left : drop count words ≡ word ∷ drop (count + 1) words) where
+    module _ (k : count < takes.most) where
       reads_word :
-          read_numbers least most words
-          ≡ after (take count list) (followed (number_of (slice start end text)) (read_numbers (least - count - 1) (most - (count + 1)) (parts_after 32 text end (length text))))
+          read_numbers takes.least takes.most words
+          ≡ after (take count list) (followed (number_of word) (read_numbers (takes.least - count - 1) (takes.most - (count + 1)) (drop (count + 1) words)))
       unfolding read_numbers
       reads_word =
-          let e : most - count ≡ suc (most - (count + 1)) = omega arith in
-          r.whole ∙ rw (e, parts_left)
+          let e : takes.most - count ≡ suc (takes.most - (count + 1)) = omega arith in
+          r.whole ∙ rw (e, left)
 
       value_word :
-          values_read (most - count) (parts_after 32 text at (length text))
-          ≡ before (number_of (slice start end text)) (values_read (most - (count + 1)) (parts_after 32 text end (length text)))
+          values_read (takes.most - count) (drop count words)
+          ≡ before (number_of word) (values_read (takes.most - (count + 1)) (drop (count + 1) words))
       unfolding values_read
       value_word =
-          let e : most - count ≡ suc (most - (count + 1)) = omega arith in
-          rw (e, parts_left)
+          let e : takes.most - count ≡ suc (takes.most - (count + 1)) = omega arith in
+          rw (e, left)
 
       -- a word that is no number
-      pub reads_wrong :
-          (word : Number) (reason : Reason) → ((rest : Numbers) → followed word rest ≡ wrong reason)
-          → ((ns : List ℕ) → before word ns ≡ []) → number_of (slice start end text) ≡ word
-          → TakesNumbers least most words lent list (told.Wrong reason)
-      reads_wrong word reason none-follows none_before q =
+      pub reads_wrong : (e : NumberError) → number_of word ≡ Err e → TakesNumbers takes words lent list (Err (reason_of e))
+      reads_wrong e q =
           record {
-            numbers_are = sym (reads_word ∙ rw (q, none-follows _));
+            numbers_are = sym (reads_word ∙ rw q);
             few = tt;
-            list_is = list_done (value_word ∙ rw (q, none_before _));
+            list_is = list_done (value_word ∙ rw q);
           }
 
       pub reads_more :
-          (n : ℕ) → most ≤ length list → number_of (slice start end text) ≡ Value n
-          → Reads text from least most lent (set list count n) end (count + 1)
+          (n : ℕ) → takes.most ≤ length list → number_of word ≡ Ok n
+          → Reads words takes.least takes.most lent (set list count n) (count + 1)
       reads_more n l q =
-          let e : least - count - 1 ≡ least - (count + 1) = omega arith in
+          let e : takes.least - count - 1 ≡ takes.least - (count + 1) = omega arith in
           let room : count < length list = omega arith in
           let s : take (count + 1) (set list count n) ≡ take count list ++ (n ∷ []) =
           rw (add-one count) (take-suc-set list count n room) in
           record {
-            within = p.high;
             few = omega arith;
             long = simp length-set r.long;
             written = rw s (set_last lent (take count list) list count n (length-take-le count list (omega arith)) r.written);
@@ -177,95 +175,121 @@ module _ {text : List ℕ} {from least most : ℕ} {lent list : List ℕ} {at co
             whole = reads_word ∙ rw (q, e, one_more, s);
           }
 
-  pub reads_extra : at < length text → count ≡ most → TakesNumbers least most words lent list (told.Wrong ExtraNumber)
-  unfolding read_numbers values_read
-  reads_extra h e =
-      let none : most - count ≡ 0 = omega arith in
-      record {
-        numbers_are =
-            sym (r.whole ∙ rw (none, lt-ltb at (length text) h, first_part 32 (slice (suc at) (length text) text)));
-        few = tt;
-        list_is = list_done (rw (none, lt-ltb at (length text) h, first_part 32 (slice (suc at) (length text) text)));
-      }
+    pub reads_extra : count ≡ takes.most → TakesNumbers takes words lent list (Err ExtraNumber)
+    unfolding read_numbers values_read
+    reads_extra e =
+        let none : takes.most - count ≡ 0 = omega arith in
+        record {
+          numbers_are = sym (r.whole ∙ rw (none, left));
+          few = tt;
+          list_is = list_done (rw (none, left));
+        }
+
+-- what a `?` makes of an error
+pub error_is : {A E : Type 0} (r : Result A E) (x : E) → IsErrAnd r (λ y. y ≡ x) → r ≡ Err x
+error_is (Ok n) x h = absurd h
+error_is (Err y) x h = ap Err h
+
+-- The words behind the first, as the loop over them has them
+
+pub words_of :
+    {F : Type 0} {g : Mut F (Bor ℕ × Unit {0}) Bool} {f : F} {parts : Split ℕ F} {behind first : Skip (Split ℕ F)} (text : List ℕ)
+    → split_rest parts ≡ text → split_done parts ≡ false → split_callee parts ≡ f
+    → ((x : ℕ) (b : Bool) (q : F) → CalledAt g f x b q → (q ≡ f) × (b ≡ eqb x 32))
+    → skip_source behind ≡ parts → skip_count behind ≡ 1 → first ≡ behind
+    → YieldsList (skip_steps (split_steps g)) (λ x. x.now) first (drop 1 (slice_split (λ b. eqb b 32) text))
+words_of {g = g} text rest done callee computes source count same =
+    YieldsList-at same (YieldsList-from_skip 1 (YieldsList-at source (YieldsList-from_slice_split g (λ b. eqb b 32) text rest done callee computes)) count)
+
+-- what is left where the loop is at a word
+pub word_left :
+    (text : List ℕ) {count at : ℕ} {word : List ℕ}
+    → (at < length (drop 1 (slice_split (λ b. eqb b 32) text))) × (word ≡ get_or (drop 1 (slice_split (λ b. eqb b 32) text)) at word)
+    → count ≡ at → drop count (drop 1 (split 32 text)) ≡ word ∷ drop (count + 1) (drop 1 (split 32 text))
+word_left text {count} {at} {word} turn e =
+    let words : List (List ℕ) = drop 1 (slice_split (λ b. eqb b 32) text) in
+    rw (split_slices 32 text, e, drop-cons words at word turn.0, add-one at) (ap (λ x. x ∷ drop (suc at) words) (sym turn.1))
+
+-- none is left at the end
+pub words_end :
+    (text : List ℕ) {count at : ℕ} → at ≡ length (drop 1 (slice_split (λ b. eqb b 32) text)) → count ≡ at
+    → length (drop 1 (split 32 text)) ≤ count
+words_end text e f = rw (split_slices 32 text) (omega arith)
 
 -- A call by its name
 
 -- a request means the same with the numbers that were read, and with the list at whose front they stand
 front_means :
-    (k : ℕ) (list : List ℕ) (r : declared.Request) → k ≤ length list → Fits (length (take k list)) r
-    → meaning r (take k list) ≡ meaning r list
-front_means k list asked.Nothing h f = refl
-front_means k list (asked.Open x) h f = refl
-front_means k list (asked.Call c from until places) h f =
+    (k : ℕ) (list : List ℕ) (r : Result declared.Request Reason) → k ≤ length list → IfOk r (Fits (length (take k list)))
+    → asked_by r (take k list) ≡ asked_by r list
+front_means k list (Ok asked.Nothing) h f = refl
+front_means k list (Ok (asked.Open x)) h f = refl
+front_means k list (Ok (asked.Call c from until places)) h f =
     rw (take-take until k list (omega (arith, length-take-le k list h, f.1.0)))
-front_means k list (asked.Error reason) h f = refl
+front_means k list (Err reason) h f = refl
 
-fits_more : (k : ℕ) (r : declared.Request) → k ≤ 2048 → Fits k r → Fits 2048 r
-fits_more k asked.Nothing h f = tt
-fits_more k (asked.Open x) h f = tt
-fits_more k (asked.Call c from until places) h f = (f.0, (omega (arith, f.1.0), f.1.1))
-fits_more k (asked.Error reason) h f = tt
-
--- what a name takes, by the least and the most
-pub takes_between :
-    {takes : Takes} {least most a b : ℕ} → takes ≡ Between a b → least ≡ a → most ≡ b → most ≤ 2048
-    → (Between least most ≡ takes) × AtMost 2048 (Between least most)
-takes_between e p q few = (rw (p, q) (sym e), few)
+fits_more : (k : ℕ) (r : Result declared.Request Reason) → k ≤ 2048 → IfOk r (Fits k) → IfOk r (Fits 2048)
+fits_more k (Ok asked.Nothing) h f = tt
+fits_more k (Ok (asked.Open x)) h f = tt
+fits_more k (Ok (asked.Call c from until places)) h f = (f.0, (omega (arith, f.1.0), f.1.1))
+fits_more k (Err reason) h f = tt
 
 -- a name that is none, numbers that are wrong, a call
-module _ (name : CallName) (words : List (List ℕ)) (list : List ℕ) where
-  pub call_unknown : taken name ≡ NoCall → Asks (read_call name words) (call_values name words) list list (asked.Error UnknownCall)
+module _ {name : Option CallName} (words : List (List ℕ)) (list : List ℕ) where
+  pub call_unknown : name ≡ None → Asks (read_call name words) (call_values name words) list list (Err UnknownCall)
   unfolding read_call
   call_unknown e = record { request_is = rw e; fits = tt; list_is = rw e }
 
-  module _ {least most : ℕ} {read : code.Numbers} {after : List ℕ} (t : taken name ≡ Between least most)
-      (r : TakesNumbers least most words list after read) where
+  module _ {known : CallName} {takes : Takes} {read : Result ℕ Reason} {after : List ℕ} (e : name ≡ Some known) (t : takes ≡ taken known)
+      (r : TakesNumbers takes words list after read) where
     values_so : after ≡ sets list 0 (call_values name words)
-    values_so = rw t r.list_is
+    values_so = rw e (rw t at r.list_is)
 
-    pub call_wrong : (reason : Reason) → read ≡ told.Wrong reason → Asks (read_call name words) (call_values name words) list after (asked.Error reason)
+    numbers_so : numbers_read read after ≡ read_numbers (taken known).least (taken known).most words
+    numbers_so = rw t at r.numbers_are
+
+    pub call_wrong : (reason : Reason) → read ≡ Err reason → Asks (read_call name words) (call_values name words) list after (Err reason)
     unfolding read_call
-    call_wrong reason e = record { request_is = rw (t, ← r.numbers_are, e); fits = tt; list_is = values_so }
+    call_wrong reason q = record { request_is = rw (e, ← numbers_so, q); fits = tt; list_is = values_so }
 
     pub call_read :
-        (k : ℕ) {q : declared.Request} → read ≡ told.Count k → k ≤ 2048 → k ≤ length after → Calls name (take k after) q
-        → Asks (read_call name words) (call_values name words) list after q
+        (k : ℕ) {asked : Result declared.Request Reason} → read ≡ Ok k → k ≤ 2048 → k ≤ length after → Calls known (take k after) asked
+        → Asks (read_call name words) (call_values name words) list after asked
     unfolding read_call
-    call_read k {q} e m h c =
+    call_read k {asked} q m h c =
         record {
-          request_is = sym (front_means k after q h c.call_fits) ∙ c.call_is ∙ rw (t, ← r.numbers_are, e);
-          fits = fits_more (length (take k after)) q (omega (arith, length-take-le k after h)) c.call_fits;
+          request_is = sym (front_means k after asked h c.call_fits) ∙ c.call_is ∙ rw (e, ← numbers_so, q);
+          fits = fits_more (length (take k after)) asked (omega (arith, length-take-le k after h)) c.call_fits;
           list_is = values_so;
         }
 
 -- A request by its kind
 
-not_passed : (text : List ℕ) → (length text ≡ 0 → ⊥) → (get_or text 0 0 ≡ 35 → ⊥) → passed_over text ≡ false
-not_passed [] some ne = absurd (some refl)
+not_passed : (text : List ℕ) → eqb (length text) 0 ≡ false → (get_or text 0 0 ≡ 35 → ⊥) → passed_over text ≡ false
+not_passed [] some ne = absurd (false≢true (sym some))
 not_passed (b ∷ bs) some ne = ne_eqb b 35 ne
 
-module _ {A : Type 0} (long none : A) (of : CallName → List (List ℕ) → A) where
+module _ {A : Type 0} (long none : A) (of : Option CallName → List (List ℕ) → A) where
   kind_long : (text : List ℕ) → 4096 < length text → by_kind long none of text ≡ long
   kind_long text h = rw (lt-ltb 4096 (length text) h)
 
-  kind_empty : (text : List ℕ) → length text ≡ 0 → by_kind long none of text ≡ none
+  kind_empty : (text : List ℕ) → eqb (length text) 0 ≡ true → by_kind long none of text ≡ none
   kind_empty [] h = refl
-  kind_empty (b ∷ bs) h = absurd (omega arith)
+  kind_empty (b ∷ bs) h = absurd (omega (arith, eqb-true (length (b ∷ bs)) 0 h))
 
   kind_comment :
-      (text : List ℕ) → length text ≤ 4096 → (length text ≡ 0 → ⊥) → get_or text 0 0 ≡ 35 → by_kind long none of text ≡ none
-  kind_comment [] h some e = absurd (some refl)
+      (text : List ℕ) → length text ≤ 4096 → eqb (length text) 0 ≡ false → get_or text 0 0 ≡ 35 → by_kind long none of text ≡ none
+  kind_comment [] h some e = absurd (false≢true (sym some))
   kind_comment (b ∷ bs) h some e = rw (le-ltb 4096 (length (b ∷ bs)) h, eq-eqb b 35 e)
 
   kind_call :
-      (text : List ℕ) (end : ℕ) (name : CallName) → length text ≤ 4096 → (length text ≡ 0 → ⊥) → (get_or text 0 0 ≡ 35 → ⊥)
-      → PartEnd 32 text 0 (length text) end → name ≡ named (take end text)
-      → of name (parts_after 32 text end (length text)) ≡ by_kind long none of text
-  kind_call text end name h some ne p e =
-      sym (rw (le-ltb 4096 (length text) h, not_passed text some ne) (ap (by_name none of) (ap (split 32) (sym (take-length text)) ∙ p.parts) ∙ rw e))
+      (text word : List ℕ) (rest : List (List ℕ)) → length text ≤ 4096 → eqb (length text) 0 ≡ false → (get_or text 0 0 ≡ 35 → ⊥)
+      → split 32 text ≡ word ∷ rest → by_kind long none of text ≡ of (named word) rest
+  kind_call text word rest h some ne p =
+      rw (le-ltb 4096 (length text) h, not_passed text some ne) (ap (by_name none of) p)
 
 module _ (text list : List ℕ) where
-  pub text_too_long : 4096 < length text → Asks (read_request text) (request_values text) list list (asked.Error LineTooLong)
+  pub text_too_long : 4096 < length text → Asks (read_request text) (request_values text) list list (Err LineTooLong)
   unfolding read_request request_values
   text_too_long h =
       record {
@@ -274,7 +298,7 @@ module _ (text list : List ℕ) where
         list_is = rw (kind_long [] [] call_values text h);
       }
 
-  pub text_empty : length text ≡ 0 → Asks (read_request text) (request_values text) list list asked.Nothing
+  pub text_empty : eqb (length text) 0 ≡ true → Asks (read_request text) (request_values text) list list (Ok asked.Nothing)
   unfolding read_request request_values
   text_empty h =
       record {
@@ -283,8 +307,8 @@ module _ (text list : List ℕ) where
         list_is = rw (kind_empty [] [] call_values text h);
       }
 
-  module _ (h : length text ≤ 4096) (some : length text ≡ 0 → ⊥) where
-    pub text_comment : get_or text 0 0 ≡ 35 → Asks (read_request text) (request_values text) list list asked.Nothing
+  module _ (h : length text ≤ 4096) (some : eqb (length text) 0 ≡ false) where
+    pub text_comment : get_or text 0 0 ≡ 35 → Asks (read_request text) (request_values text) list list (Ok asked.Nothing)
     unfolding read_request request_values
     text_comment e =
         record {
@@ -294,14 +318,14 @@ module _ (text list : List ℕ) where
         }
 
     pub text_call :
-        (end : ℕ) (name : CallName) {after : List ℕ} {l : declared.Request} → (get_or text 0 0 ≡ 35 → ⊥)
-        → PartEnd 32 text 0 (length text) end → name ≡ named (take end text)
-        → Asks (read_call name (parts_after 32 text end (length text))) (call_values name (parts_after 32 text end (length text))) list after l
-        → Asks (read_request text) (request_values text) list after l
+        (word : List ℕ) (name : Option CallName) {rest : List (List ℕ)} {after : List ℕ} {r : Result declared.Request Reason}
+        → (get_or text 0 0 ≡ 35 → ⊥) → split 32 text ≡ word ∷ rest → name ≡ named word
+        → Asks (read_call name rest) (call_values name rest) list after r
+        → Asks (read_request text) (request_values text) list after r
     unfolding read_request request_values
-    text_call end name ne p e a =
+    text_call word name {rest} ne p e a =
         record {
-          request_is = a.request_is ∙ kind_call (error LineTooLong) nothing read_call text end name h some ne p e;
+          request_is = a.request_is ∙ rw e (sym (kind_call (error LineTooLong) nothing read_call text word rest h some ne p));
           fits = a.fits;
-          list_is = a.list_is ∙ ap (sets list 0) (kind_call [] [] call_values text end name h some ne p e);
+          list_is = a.list_is ∙ rw (e, kind_call [] [] call_values text word rest h some ne p);
         }

@@ -1,26 +1,23 @@
 -- What a line of text asks for.
-use Rattle.std.specs.Prelude.{ℕ, zero, suc, ◌+◌, ◌-◌, ◌%◌, min, ◌≤◌, ◌≡◌, Bool, true, cond, List, [], ◌∷◌, ltb, eqb, length, get_or, take, drop, replicate}
+use Rattle.std.specs.Prelude.{ℕ, zero, suc, ◌+◌, ◌-◌, ◌%◌, min, ◌≤◌, ◌≡◌, Bool, true, cond, List, [], ◌∷◌, ltb, eqb, length, get_or, take, drop, replicate, Option, Some, None, Result, Ok, Err, IfOk}
 use Rattle.std.proofs.lemmas.List.Edits.{sets}
 use Rattle.std.proofs.Math.Seq.{slice}
 use Rattle.rules.specs.Calls as rules
 use Rattle.rules.specs.Calls.{settings, Call, preview, commit, move, offer, replan_latest, replan_lines, enquire, board, withdraw}
 use Rattle.text.specs.Numbers.{number_of}
 use Rattle.text.specs.Parts.{split}
-use Rattle.text.specs.declared.number.Number.{Number}
-use Rattle.text.specs.declared.number.Number.TheVariants as number
+use Rattle.text.specs.declared.number.NumberError.{NumberError}
+use Rattle.text.specs.declared.number.NumberError.TheVariants as number
 use Rattle.requests.specs.Words.{named}
 use Rattle.requests.specs.declared.request.Reason.{Reason}
 use Rattle.requests.specs.declared.request.Reason.TheVariants.{UnknownCall, NotANumber, NumberTooLarge, MissingNumber, ExtraNumber, LineTooLong}
 use Rattle.requests.specs.declared.word.CallName.{CallName}
-use Rattle.requests.specs.declared.word.CallName.TheVariants.{Open, Preview, Commit, Move, Offer, Latest, Lines, Enquire, Board, Withdraw, Unknown}
+use Rattle.requests.specs.declared.word.CallName.TheVariants.{Open, Preview, Commit, Move, Offer, Latest, Lines, Enquire, Board, Withdraw}
 use Rattle.station.specs.Opened.{asked_of}
 use Rattle.calls.specs.Applied as applied
 use Rattle.requests.specs.declared.request.Request as declared
 use Rattle.requests.specs.declared.request.Request.TheVariants as request
 use Rattle.requests.specs.declared.request.Takes.{Takes}
-use Rattle.requests.specs.declared.request.Takes.TheVariants.{Between, NoCall}
-use Rattle.requests.specs.declared.request.Numbers as declared_numbers
-use Rattle.requests.specs.declared.request.Numbers.TheVariants as count
 
 -- What is asked for: nothing, an opening, a call of the station that stands; or why none of these.
 pub data Asked : Type 0 where
@@ -29,48 +26,44 @@ pub data Asked : Type 0 where
   call : Call → Asked
   error : Reason → Asked
 
--- The numbers that follow the first word.
-pub data Numbers : Type 0 where
-  numbers : List ℕ → Numbers
-  wrong : Reason → Numbers
-
 -- How many numbers a call takes, at least and at most. An opening takes the settings of one to four feeders. An offer and a board take as
 -- many as a request can hold: after `offer` or `board` 4,091 bytes are left, and a number with the space before it has two at least. Those are 2,045, so that 2,048 are never passed.
-abbrev pub taken : CallName → Takes
-taken Open = Between 5 14
-taken Preview = Between 5 5
-taken Commit = Between 6 6
-taken Move = Between 2 2
-taken Offer = Between 1 2048
-taken Latest = Between 1 1
-taken Lines = Between 2 2
-taken Enquire = Between 1 1
-taken Board = Between 1 2048
-taken Withdraw = Between 1 1
-taken Unknown = NoCall
+abbrev pub takes : ℕ → ℕ → Takes
+takes least most = record { least = least; most = most }
 
-abbrev pub AtMost : ℕ → Takes → Type 0
-AtMost k (Between least most) = most ≤ k
-AtMost k NoCall = Unit {0}
+abbrev pub taken : CallName → Takes
+taken Open = takes 5 14
+taken Preview = takes 5 5
+taken Commit = takes 6 6
+taken Move = takes 2 2
+taken Offer = takes 1 2048
+taken Latest = takes 1 1
+taken Lines = takes 2 2
+taken Enquire = takes 1 1
+taken Board = takes 1 2048
+taken Withdraw = takes 1 1
+
+-- why a word is no number, as a reason why a request is no call
+abbrev pub reason_of : NumberError → Reason
+reason_of number.NotANumber = NotANumber
+reason_of number.TooLarge = NumberTooLarge
 
 -- a number in front of those that follow it; the first word that is wrong decides
-abbrev pub followed : Number → Numbers → Numbers
-followed number.NotANumber rest = wrong NotANumber
-followed number.TooLarge rest = wrong NumberTooLarge
-followed (number.Value n) (wrong reason) = wrong reason
-followed (number.Value n) (numbers ns) = numbers (n ∷ ns)
+abbrev pub followed : Result ℕ NumberError → Result (List ℕ) Reason → Result (List ℕ) Reason
+followed (Err e) rest = Err (reason_of e)
+followed (Ok n) (Err reason) = Err reason
+followed (Ok n) (Ok ns) = Ok (n ∷ ns)
 
 -- at least `least` and at most `most` numbers, from the left
-unfoldable pub read_numbers : ℕ → ℕ → List (List ℕ) → Numbers
-read_numbers least most [] = cond (ltb 0 least) (wrong MissingNumber) (numbers [])
-read_numbers least zero (word ∷ words) = wrong ExtraNumber
+unfoldable pub read_numbers : ℕ → ℕ → List (List ℕ) → Result (List ℕ) Reason
+read_numbers least most [] = cond (ltb 0 least) (Err MissingNumber) (Ok [])
+read_numbers least zero (word ∷ words) = Err ExtraNumber
 read_numbers least (suc most) (word ∷ words) = followed (number_of word) (read_numbers (least - 1) most words)
 
 -- the numbers that stand in the list lent for them, at its front: those from the left, up to the first word that is none
-abbrev pub before : Number → List ℕ → List ℕ
-before number.NotANumber ns = []
-before number.TooLarge ns = []
-before (number.Value n) ns = n ∷ ns
+abbrev pub before : Result ℕ NumberError → List ℕ → List ℕ
+before (Err e) ns = []
+before (Ok n) ns = n ∷ ns
 
 unfoldable pub values_read : ℕ → List (List ℕ) → List ℕ
 values_read most [] = []
@@ -110,25 +103,18 @@ call_of Lines ns = call (replan_lines (get_or ns 0 0) (get_or ns 1 0))
 call_of Enquire ns = call (enquire (get_or ns 0 0))
 call_of Board ns = call (board (drop 1 ns) (lent_list (get_or ns 0 0)))
 call_of Withdraw ns = call (withdraw (get_or ns 0 0))
-call_of Unknown ns = error UnknownCall
 
-abbrev pub called : CallName → Numbers → Asked
-called name (numbers ns) = call_of name ns
-called name (wrong reason) = error reason
+abbrev pub called : CallName → Result (List ℕ) Reason → Asked
+called name (Ok ns) = call_of name ns
+called name (Err reason) = error reason
 
-abbrev pub called_by : CallName → Takes → List (List ℕ) → Asked
-called_by name (Between least most) words = called name (read_numbers least most words)
-called_by name NoCall words = error UnknownCall
+unfoldable pub read_call : Option CallName → List (List ℕ) → Asked
+read_call None words = error UnknownCall
+read_call (Some name) words = called name (read_numbers (taken name).least (taken name).most words)
 
-unfoldable pub read_call : CallName → List (List ℕ) → Asked
-read_call name words = called_by name (taken name) words
-
-abbrev pub values_by : Takes → List (List ℕ) → List ℕ
-values_by (Between least most) words = values_read most words
-values_by NoCall words = []
-
-abbrev pub call_values : CallName → List (List ℕ) → List ℕ
-call_values name words = values_by (taken name) words
+abbrev pub call_values : Option CallName → List (List ℕ) → List ℕ
+call_values None words = []
+call_values (Some name) words = values_read (taken name).most words
 
 -- an empty text, or one that begins with `#`
 abbrev pub passed_over : List ℕ → Bool
@@ -136,11 +122,11 @@ passed_over [] = true
 passed_over (b ∷ bs) = eqb b 35
 
 -- a line of text by its kind, its line feed left out: one that is too long, one to pass over, or a call by its name with its words
-abbrev pub by_name : {A : Type 0} → A → (CallName → List (List ℕ) → A) → List (List ℕ) → A
+abbrev pub by_name : {A : Type 0} → A → (Option CallName → List (List ℕ) → A) → List (List ℕ) → A
 by_name none of [] = none
 by_name none of (word ∷ words) = of (named word) words
 
-abbrev pub by_kind : {A : Type 0} → A → A → (CallName → List (List ℕ) → A) → List ℕ → A
+abbrev pub by_kind : {A : Type 0} → A → A → (Option CallName → List (List ℕ) → A) → List ℕ → A
 by_kind long none of bytes =
     cond (ltb 4096 (length bytes)) long (cond (passed_over bytes) none (by_name none of (split 32 bytes)))
 
@@ -153,20 +139,18 @@ unfoldable pub request_values : List ℕ → List ℕ
 request_values bytes = by_kind [] [] call_values bytes
 
 -- what the code's answers mean, with the list that was lent for the numbers
-abbrev pub numbers_read : declared_numbers.Numbers → List ℕ → Numbers
-numbers_read (count.Count k) list = numbers (take k list)
-numbers_read (count.Wrong reason) list = wrong reason
-
--- no more numbers were read than a call takes
-abbrev pub Within : ℕ → declared_numbers.Numbers → Type 0
-Within most (count.Count k) = k ≤ most
-Within most (count.Wrong reason) = Unit {0}
+abbrev pub numbers_read : Result ℕ Reason → List ℕ → Result (List ℕ) Reason
+numbers_read (Ok k) list = Ok (take k list)
+numbers_read (Err reason) list = Err reason
 
 abbrev pub meaning : declared.Request → List ℕ → Asked
 meaning request.Nothing list = nothing
 meaning (request.Open x) list = opening (asked_of x)
 meaning (request.Call c from until places) list = call (applied.call_of c (slice from until list) (lent_list places))
-meaning (request.Error reason) list = error reason
+
+abbrev pub asked_by : Result declared.Request Reason → List ℕ → Asked
+asked_by (Ok r) list = meaning r list
+asked_by (Err reason) list = error reason
 
 -- what is lent beside a call: numbers up to `until` to one that reads, places to one that writes, and to no other
 abbrev pub Lent : applied.Lends → ℕ → ℕ → Type 0
@@ -180,21 +164,20 @@ abbrev pub Fits : ℕ → declared.Request → Type 0
 Fits k request.Nothing = Unit {0}
 Fits k (request.Open x) = Unit {0}
 Fits k (request.Call c from until places) = (from ≤ until) × ((until ≤ k) × Lent (applied.lends c) until places)
-Fits k (request.Error reason) = Unit {0}
 
 -- The code's call of a name with its numbers: what it means, and what is lent beside it.
-pub record Calls (name : CallName) (ns : List ℕ) (r : declared.Request) : Type 0 where
-  pub call_is : meaning r ns ≡ call_of name ns
-  pub call_fits : Fits (length ns) r
+pub record Calls (name : CallName) (ns : List ℕ) (r : Result declared.Request Reason) : Type 0 where
+  pub call_is : asked_by r ns ≡ call_of name ns
+  pub call_fits : IfOk r (Fits (length ns))
 
 -- Numbers were read so: what they are, that they are not too many, and the whole of the list lent for them.
-pub record TakesNumbers (least most : ℕ) (words : List (List ℕ)) (list after : List ℕ) (r : declared_numbers.Numbers) : Type 0 where
-  pub numbers_are : numbers_read r after ≡ read_numbers least most words
-  pub few : Within most r
-  pub list_is : after ≡ sets list 0 (values_read most words)
+pub record TakesNumbers (takes : Takes) (words : List (List ℕ)) (list after : List ℕ) (r : Result ℕ Reason) : Type 0 where
+  pub numbers_are : numbers_read r after ≡ read_numbers takes.least takes.most words
+  pub few : IfOk r (λ count. count ≤ takes.most)
+  pub list_is : after ≡ sets list 0 (values_read takes.most words)
 
 -- A request was read so: what it asks for, and the whole of the list lent for its numbers.
-pub record Asks (asked : Asked) (values list after : List ℕ) (r : declared.Request) : Type 0 where
-  pub request_is : meaning r after ≡ asked
-  pub fits : Fits 2048 r
+pub record Asks (asked : Asked) (values list after : List ℕ) (r : Result declared.Request Reason) : Type 0 where
+  pub request_is : asked_by r after ≡ asked
+  pub fits : IfOk r (Fits 2048)
   pub list_is : after ≡ sets list 0 values

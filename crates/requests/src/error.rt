@@ -1,21 +1,20 @@
-// Why a request is no call, as text. A buffer has room for it where 96 bytes are left, as for an answer.
-ghost use Rattle.std.specs.Prelude.{◌+◌, ◌≤◌, length};
-ghost use Rattle.text.specs.Printed.{Printed};
+// Why a request is no call, as text. There is room for it where 96 bytes are left, as for an answer.
+ghost use Rattle.std.specs.Prelude.{◌≡◌, ◌+◌, ◌≤◌, ◌++◌, length};
 ghost use Rattle.requests.specs.Errors.{error_text};
 
 use crate::request::Reason;
-use text::print_text;
+use text::Text;
 
-pub fn print_error(reason: Reason, buffer: &mut [u8], at: usize) -> usize
-    requires { at + 96 ≤ length buffer.old }
-    ensures { Printed (error_text reason) buffer.old at buffer.new result }
+pub fn print_error(reason: Reason, out: &mut Text)
+    requires { length out.old + 96 ≤ Text.CAPACITY }
+    ensures { out.new ≡ out.old ++ error_text reason }
 {
     match reason {
-        Reason::UnknownCall => print_text(b"error unknown call\n", buffer, at),
-        Reason::NotANumber => print_text(b"error not a number\n", buffer, at),
-        Reason::NumberTooLarge => print_text(b"error number too large\n", buffer, at),
-        Reason::MissingNumber => print_text(b"error missing number\n", buffer, at),
-        Reason::ExtraNumber => print_text(b"error extra number\n", buffer, at),
-        Reason::LineTooLong => print_text(b"error line too long\n", buffer, at),
+        Reason::UnknownCall => out.print(b"error unknown call\n"),
+        Reason::NotANumber => out.print(b"error not a number\n"),
+        Reason::NumberTooLarge => out.print(b"error number too large\n"),
+        Reason::MissingNumber => out.print(b"error missing number\n"),
+        Reason::ExtraNumber => out.print(b"error extra number\n"),
+        Reason::LineTooLong => out.print(b"error line too long\n"),
     }
 }

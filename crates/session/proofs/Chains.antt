@@ -5,7 +5,7 @@ use mathlib.Core.List.{List, [], ◌∷◌, ◌++◌, append-nil}
 use Prim.Native.Nat.{ℕ, ◌+◌, ◌≤◌}
 use native.Mathlib.Omega.{arith}
 use borrow.Author.Tests.{eqb-true}
-use lib.ListN.{length, take, length-take}
+use lib.ListN.{length, length-take}
 use lib.Seq.{slice, slice_empty, take_all}
 use Rattle.rules.specs.Site.{State}
 use Rattle.rules.specs.Calls.{fresh, least}
@@ -85,16 +85,16 @@ module _ {read written : List ℕ} {s : Session} {before : List ℕ} {count : �
   known_fed : feed (fresh least) [] read ≡ first written (feed (view s.station) (held_of s block) [])
   known_fed = k.fed g ∙ ap (λ (x : List ℕ). first written (feed (view s.station) x [])) (sym same)
 
-  known_next : Known (read ++ read_of s count block) (written ++ take r.at out) r next
+  known_next : Known (read ++ read_of s count block) (written ++ out) r next
   known_next =
       record {
         fed =
-            λ e. fed_more read (read_of s count block) written (view s.station) (held_of s block) (take r.at out) (feed (view r.station) (held_of r next) []) known_fed (t.goes_on (sym t.over_so ∙ e));
+            λ e. fed_more read (read_of s count block) written (view s.station) (held_of s block) out (feed (view r.station) (held_of r next) []) known_fed (t.goes_on (sym t.over_so ∙ e));
         whole =
             λ e. let z = ended_so s.wants count g (sym t.over_so ∙ e) in
             let l = k.request z.0 in
             ap console (ap (λ (x : List ℕ). read ++ x) (slice_none s.held count block z.1) ∙ append-nil read)
-            ∙ fed_last read written (view s.station) (held_of s block) (record { state = view r.station; text = take r.at out }) known_fed (rw same l.0) (omega (arith, length-take s.held block, l.1)) (t.has_ended (sym t.over_so ∙ e));
+            ∙ fed_last read written (view s.station) (held_of s block) (record { state = view r.station; text = out }) known_fed (rw same l.0) (omega (arith, length-take s.held block, l.1)) (t.has_ended (sym t.over_so ∙ e));
         request = standing_request r.wants (held_of r next) r.held (s.held + count) t.standing;
       }
 
@@ -135,6 +135,6 @@ pub reached_on :
 reached_on {s} {before} {block} {count} {r} {next} {out} c g same t =
     record {
       read = c.read ++ read_of s count block;
-      written = c.written ++ take r.at out;
+      written = c.written ++ out;
       chain = turned c.chain g same t;
     }

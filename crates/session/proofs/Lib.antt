@@ -3,4 +3,3 @@ pub mod Sessions
 pub mod Serving
 pub mod Turning
 pub mod Chains
-pub mod OnlyFeeder

@@ -10,17 +10,11 @@ use Rattle.session.specs.Session.{console, first, served, feed}
 use Rattle.session.specs.declared.turn.Wants as declared
 use Rattle.session.specs.declared.turn.Wants.TheVariants.{Bytes, Room as Space, Nothing}
 use Rattle.session.specs.declared.turn.Session.{Session}
-use Rattle.session.specs.declared.turn.Replies.{Replies}
+use Rattle.station.specs.declared.Station.{Station}
 
--- past this place of the buffer no further request is answered
+-- past this length of the text no further request is answered
 abbrev pub full : ℕ
 full = 6000
-
--- what the lent lists have room for: the buffer for an answer, of at most 30,336 bytes, at any place up to that one
-pub record Room (numbers list out : List ℕ) : Type 0 where
-  pub numbers_fit : 2048 ≤ length numbers
-  pub list_fits : 4096 ≤ length list
-  pub out_fits : 36864 ≤ length out
 
 -- Requests of a block
 
@@ -31,18 +25,17 @@ after block from = slice from (length block) block
 abbrev pub requests_after : List ℕ → ℕ → List (List ℕ)
 requests_after block from = split 10 (after block from)
 
--- Requests of a block were answered, up to a place: what all its requests give is the text that stands at the front of the
--- buffer, and then what the requests after that place give.
-pub record Answers (s : State) (block : List ℕ) (l : Replies) (out : List ℕ) : Type 0 where
-  pub replies_are : served s (split 10 block) ≡ first (take l.at out) (served (view l.station) (requests_after block l.from))
-  pub valid : Valid l.station
-  pub within : l.from ≤ length block
-  pub text_fits : l.at ≤ length out
-  pub some_answered : 0 < l.at → 0 < l.from
+-- Requests of a block were answered, up to a place: what all its requests give is the text, and then what the requests after that
+-- place give.
+pub record Answers (s : State) (block : List ℕ) (station : Station) (from : ℕ) (out : List ℕ) : Type 0 where
+  pub replies_are : served s (split 10 block) ≡ first out (served (view station) (requests_after block from))
+  pub valid : Valid station
+  pub within : from ≤ length block
+  pub some_answered : 0 < length out → 0 < from
 
--- Where the buffer has room left, no request is left that has ended.
-pub record Stops (block : List ℕ) (l : Replies) : Type 0 where
-  pub none_left : l.at ≤ full → requests_after block l.from ≡ after block l.from ∷ []
+-- Where there is room left, no request is left that has ended.
+pub record Stops (block : List ℕ) (from : ℕ) (out : List ℕ) : Type 0 where
+  pub none_left : length out ≤ full → requests_after block from ≡ after block from ∷ []
 
 -- what is kept of a request that goes on: all of it, or 4,097 bytes
 pub record KeptTo (from filled to : ℕ) : Type 0 where
@@ -80,11 +73,10 @@ Standing Nothing kept held there = held ≡ 0
 
 -- what is held is answered as a last request
 pub record LastTurn (s : Session) (block : List ℕ) (r : Session) (out : List ℕ) : Type 0 where
-  pub last_is : answered (view s.station) (held_of s block) ≡ record { state = view r.station; text = take r.at out }
+  pub last_is : answered (view s.station) (held_of s block) ≡ record { state = view r.station; text = out }
   pub none_held : r.held ≡ 0
   pub is_over : r.wants ≡ Nothing
   pub valid : Valid r.station
-  pub text_fits : r.at ≤ length out
 
 -- The contract of a turn. While the input goes on, what is held and the bytes just read give the text that is handed out, and
 -- then what the next session holds. Where it has ended, what is held is answered as the last request.
@@ -92,15 +84,14 @@ pub record Turned (s : Session) (count : ℕ) (block : List ℕ) (r : Session) (
   pub goes_on :
       ends s.wants count ≡ false
       → feed (view s.station) (held_of s block) (read_of s count block)
-      ≡ first (take r.at out) (feed (view r.station) (held_of r next) [])
+      ≡ first out (feed (view r.station) (held_of r next) [])
   pub has_ended :
       ends s.wants count ≡ true
-      → answered (view s.station) (held_of s block) ≡ record { state = view r.station; text = take r.at out }
+      → answered (view s.station) (held_of s block) ≡ record { state = view r.station; text = out }
   pub over_so : over r.wants ≡ ends s.wants count
   pub standing : Standing r.wants (held_of r next) r.held (s.held + count)
   pub valid : Valid r.station
   pub within : r.held ≤ length next
-  pub text_fits : r.at ≤ length out
 
 -- Chains of turns
 
@@ -116,7 +107,7 @@ pub data Chain : List ℕ → List ℕ → Session → List ℕ → Type 0 where
       → over s.wants ≡ false
       → held_of s block ≡ held_of s before
       → Turned s count block r next out
-      → Chain (read ++ read_of s count block) (written ++ take r.at out) r next
+      → Chain (read ++ read_of s count block) (written ++ out) r next
 
 -- THE THEOREM, for every chain of turns. Where bytes are wanted, the texts handed out, the station and what is held are the
 -- definition's for all that was read so far: every request that has ended is answered. Where nothing is wanted any more, the

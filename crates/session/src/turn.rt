@@ -1,14 +1,13 @@
-// The program as a machine without input and output. A turn is handed the bytes that were just read, and hands back the next
-// session, with the end of the text that is to be written. The contract of `turn` is an equation with the definition of the program's
-// whole answer (specs/Session.antt), and specs/Turns.antt says what chains of turns come to.
+// The program as a machine without input and output. A turn is handed the bytes that were just read, and leaves the text that is to be
+// written. The contract of `turn` is an equation with the definition of the program's whole answer (specs/Session.antt), and
+// specs/Turns.antt says what chains of turns come to.
 ghost use Rattle.std.specs.Prelude.{◌≡◌, ◌+◌, ◌≤◌, length};
-ghost use Rattle.text.specs.Parts.{PartEnd};
 ghost use Rattle.station.specs.View.{view, Valid};
-ghost use Rattle.session.specs.Turns.{ends, Room, Answers, Stops, KeptTo, LastTurn, Turned};
+ghost use Rattle.session.specs.Turns.{ends, Answers, Stops, KeptTo, LastTurn, Turned};
 
-use reply::alone::{Way, reply_changed, reply_kept, way_of};
-use reply::{Said, reply_request};
+use reply::Lists;
 use station::Station;
+use text::{Text, carry, split_once};
 
 // What a session needs before it can go on: more bytes of the input, room in the buffer for further answers, or nothing,
 // since the input has ended and all is answered.
@@ -19,94 +18,43 @@ pub enum Wants {
     Nothing,
 }
 
-// Past this place of the buffer no further request is answered, so that any answer still fits: one takes at most 30,336 bytes.
+// Past this length of the text no further request is answered, so that any answer still fits: one takes at most 30,336 bytes.
 const FULL: usize = 6000;
 
 // What is kept from turn to turn: the station, how many bytes that are not yet answered stand at the front of the block, and
-// what is wanted; and the end of the text that is to be written. A turn hands back this one struct: a station is large, and
-// each struct around it would be one more copy on the stack.
+// what is wanted.
 #[derive(Clone, Copy)]
 pub struct Session {
     pub station: Station,
     pub held: usize,
     pub wants: Wants,
-    pub at: usize,
 }
 
-// The station after some requests of a block, the place after them, and the end of the text that answers them.
-#[derive(Clone, Copy)]
-struct Replies {
-    station: Station,
-    from: usize,
-    at: usize,
+// The block that is read into, which holds what is kept of a request, at most 4,097 bytes, and what is read after it; the lists that are
+// lent to calls; and the text that is to be written.
+#[derive(Drop)]
+pub struct Buffers {
+    pub block: [u8; 8192],
+    pub lists: Lists,
+    pub out: Text,
 }
 
-// Where the request ends that starts at `from`: at its line feed, or at the block's end where it goes on.
-fn request_end(block: &[u8], from: usize) -> usize
-    requires { from ≤ length block.now }
-    ensures { PartEnd 10 block.now from (length block.now) result }
+// Answers the requests of a block that have ended, one after another, as long as there is room for any answer. Answers the place after them.
+fn answer_requests(station: &mut Station, block: &[u8], lists: &mut Lists, out: &mut Text) -> usize
+    requires { Valid station.old }
+    ensures answers { Answers (view station.old) block.now station.new result out.new }
+    ensures stops { Stops block.now result out.new }
 {
-    text::part_end(block, from, block.len(), 10)
-}
-
-// Answers the requests of a block that have ended, one after another, as long as the buffer has room for any answer. The only feeder of a
-// station is taken out and put back here, where the station stands: so the compiled program does not copy four feeders at a call.
-fn answer_requests(
-    station: Station,
-    block: &[u8],
-    numbers: &mut [u32],
-    list: &mut [u32],
-    out: &mut [u8],
-) -> Replies
-    requires { Valid station × Room numbers.old list.old out.old }
-    ensures answers { Answers (view station) block.now result out.new }
-    ensures stops { Stops block.now result }
-{
-    let mut from = 0;
-    let mut at = 0;
-    let mut next = station;
-    while at <= FULL {
-        let end = request_end(block, from);
-        if end == block.len() {
-            return Replies {
-                station: next,
-                from,
-                at,
-            };
-        }
-        let request = reply::read(&block[from..end], numbers, list);
-        let mut said = Said::Nothing;
-        let way = way_of(next.count, request);
-        match way {
-            Way::Kept => {
-                let one = next.one(0);
-                said = reply_kept(one, request, numbers, list);
-            }
-            Way::Changed => {
-                let one = next.one(0);
-                let remains = reply_changed(one, request, numbers, list);
-                let left = remains.one;
-                let feeder = left.feeder;
-                said = remains.said;
-                next.site = left.site;
-                next.clock = left.clock;
-                next.next = left.next;
-                next.feeders[0] = feeder;
-            }
-            Way::Whole => {
-                let reply = reply_request(next, request, numbers, list);
-                said = reply.said;
-                next = reply.station;
-            }
-        }
-        at = reply::print(said, list, out, at);
-        from = end + 1;
+    out.clear();
+    let mut left = block;
+    while out.as_bytes().len() <= FULL {
+        let Some((request, rest)) = split_once(left, b'\n') else {
+            return block.len() - left.len();
+        };
+        reply::answer(station, request, lists, out);
+        left = rest;
     }
-    Replies {
-        station: next,
-        from,
-        at,
-    }
+    block.len() - left.len()
 }
 
 // Of a request that goes on no more is kept than shows that it is too long.
@@ -131,67 +79,41 @@ fn input_ends(wants: Wants, count: usize) -> bool
     }
 }
 
-// The input has ended: what is held is its last request, which has no line feed.
-fn last_turn(
-    session: Session,
-    block: &[u8],
-    numbers: &mut [u32],
-    list: &mut [u32],
-    out: &mut [u8],
-) -> Session
-    requires { Valid session.station × ((session.held ≤ length block.now) × Room numbers.old list.old out.old) }
-    ensures { LastTurn session block.now result out.new }
-{
-    let station = session.station;
-    let held = session.held;
-    let request = reply::read(&block[..held], numbers, list);
-    let reply = reply_request(station, request, numbers, list);
-    let last = reply.station;
-    let said = reply.said;
-    let at = reply::print(said, list, out, 0);
-    Session {
-        station: last,
-        held: 0,
-        wants: Wants::Nothing,
-        at,
+impl Session {
+    // The input has ended: what is held is its last request, which has no line feed.
+    fn last_turn(&mut self, block: &[u8], lists: &mut Lists, out: &mut Text)
+        requires { Valid self.old.station × (self.old.held ≤ length block.now) }
+        ensures { LastTurn self.old block.now self.new out.new }
+    {
+        let request = &block[..self.held];
+        out.clear();
+        reply::answer(&mut self.station, request, lists, out);
+        self.held = 0;
+        self.wants = Wants::Nothing;
     }
-}
 
-// One turn. After the bytes that are held stand `count` bytes that were read; none, where some were wanted, are the end of
-// the input. The bytes that are not yet answered move to the front of the block: all of them where the buffer is full, and of
-// a request that goes on no more than is kept.
-pub fn turn(
-    session: Session,
-    count: usize,
-    block: &mut [u8],
-    numbers: &mut [u32],
-    list: &mut [u32],
-    out: &mut [u8],
-) -> Session
-    requires { Valid session.station × ((session.held + count ≤ length block.old) × Room numbers.old list.old out.old) }
-    ensures { Turned session count block.old result block.new out.new }
-{
-    let wants = session.wants;
-    if input_ends(wants, count) {
-        return last_turn(session, block, numbers, list, out);
-    }
-    let station = session.station;
-    let filled = session.held + count;
-    let replies = answer_requests(station, &block[..filled], numbers, list, out);
-    let from = replies.from;
-    let at = replies.at;
-    let mut to = kept_to(from, filled);
-    let mut then = Wants::Bytes;
-    if at > FULL {
-        to = filled;
-        then = Wants::Room;
-    }
-    let held = text::carry(block, from, to);
-    let after = replies.station;
-    Session {
-        station: after,
-        held,
-        wants: then,
-        at,
+    // One turn. After the bytes that are held stand `count` bytes that were read; none, where some were wanted, are the end of
+    // the input. The bytes that are not yet answered move to the front of the block: all of them where there is no more room for answers, and
+    // of a request that goes on no more than is kept.
+    pub fn turn(&mut self, count: usize, buffers: &mut Buffers)
+        requires { Valid self.old.station × (self.old.held + count ≤ length buffers.old.block) }
+        ensures { Turned self.old count buffers.old.block self.new buffers.new.block buffers.new.out }
+    {
+        let Buffers { block, lists, out } = buffers;
+        if input_ends(self.wants, count) {
+            self.last_turn(block, lists, out);
+            return;
+        }
+        let filled = self.held + count;
+        let station = &mut self.station;
+        let from = answer_requests(station, &block[..filled], lists, out);
+        let mut to = kept_to(from, filled);
+        let mut then = Wants::Bytes;
+        if out.as_bytes().len() > FULL {
+            to = filled;
+            then = Wants::Room;
+        }
+        self.held = carry(block, from, to);
+        self.wants = then;
     }
 }

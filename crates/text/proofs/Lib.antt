@@ -1,4 +1,3 @@
 pub mod Values
 pub mod Splitting
 pub mod Printing
-pub mod Blocks

@@ -1,76 +1,44 @@
--- Texts that are put into a buffer one after another.
-use mathlib.Core.Path.{◌≡◌, refl, sym, ap, ◌∙◌}
-use mathlib.Core.List.{List, [], ◌∷◌, ◌++◌, append_assoc, append-nil}
-use Prim.Native.Nat.{ℕ, suc, ◌+◌, ◌/◌, ◌%◌, ◌^◌, ◌≤◌, ◌<◌}
-use native.Mathlib.Nat.{add-zero, add-suc, suc-add}
+-- Numbers that are printed one after another: what stands there, and those that are left, are the whole text.
+use mathlib.Core.Path.{◌≡◌, sym, ap, ◌∙◌}
+use mathlib.Core.List.{List, ◌∷◌, ◌++◌, append_assoc}
+use Prim.Native.Nat.{ℕ, ◌+◌, ◌<◌}
 use native.Mathlib.Numerals.{add-one}
-use native.Mathlib.Omega.{arith}
-use lib.ListN.{length, take, get_or, set, length-append}
-use lib.Seq.{sets, length-sets, take-suc, take-length}
-use Rattle.text.specs.Numbers.{decimal}
-use Rattle.text.proofs.Values.{decimal_small, decimal_more}
-use Rattle.text.specs.Printed.{Printed, spaced, listed}
+use lib.ListN.{length, drop, get_or}
+use lib.Seq.{drop-cons}
+use Rattle.text.specs.Printed.{field, spaced, listed, fields_text, fields_of, room_of}
+use denote.Ref.{Bor}
 
-pub sets_join : (l : List ℕ) (i : ℕ) (xs ys : List ℕ) → sets l i (xs ++ ys) ≡ sets (sets l i xs) (i + length xs) ys
-sets_join l i [] ys = rw (add-zero i)
-sets_join l i (x ∷ xs) ys = rw (sets_join (set l i x) (suc i) xs ys, add-suc i (length xs), suc-add i (length xs))
-
-pub printed_none : (buffer : List ℕ) (at : ℕ) → at ≤ length buffer → Printed [] buffer at buffer at
-printed_none buffer at h = record { bytes = refl; place = sym (add-zero at); within = h }
-
-pub printed_byte :
-    (b : ℕ) (buffer : List ℕ) (at : ℕ) → at < length buffer → Printed (b ∷ []) buffer at (set buffer at b) (at + 1)
-printed_byte b buffer at h = record { bytes = refl; place = refl; within = omega arith }
-
--- what was printed is the text that was to be printed: a function's proof ends in this equation of two texts
-pub printed_as :
-    {xs ys before : List ℕ} {at : ℕ} {after : List ℕ} {next : ℕ} → Printed xs before at after next → xs ≡ ys → Printed ys before at after next
-printed_as p e = rw e at p
-
--- one text after another
-pub printed_then :
-    {xs ys first : List ℕ} {at : ℕ} {second : List ℕ} {next : ℕ} {third : List ℕ} {last : ℕ}
-    → Printed xs first at second next → Printed ys second next third last → Printed (xs ++ ys) first at third last
-printed_then {xs} {ys} {first} {at} p q =
-    record {
-      bytes = q.bytes ∙ rw (p.bytes, p.place, sets_join first at xs ys);
-      place = omega (arith, length-append xs ys, p.place, q.place);
-      within = omega (arith, q.within, ap length p.bytes, length-sets first at xs);
-    }
-
--- one byte more of a text
-pub printed_more :
-    (text before : List ℕ) (at i : ℕ) (after : List ℕ) → i < length text → at + i < length after → Printed (take i text) before at after (at + i)
-    → Printed (take (i + 1) text) before at (set after (at + i) (get_or text i 0)) (at + (i + 1))
-printed_more text before at i after h r p =
-    let e : at + (i + 1) ≡ at + i + 1 = omega arith in
-    rw (e, add-one i, take-suc text i 0 h) (printed_then p (printed_byte (get_or text i 0) after (at + i) r))
-
--- the whole of a text
-pub printed_all :
-    (text before : List ℕ) (at i : ℕ) (after : List ℕ) → i ≡ length text → Printed (take i text) before at after (at + i)
-    → Printed text before at after (at + length text)
-printed_all text before at i after e p = rw (e, take-length text) at p
-
--- the digits of a number
-pub printed_digit :
-    (n : ℕ) (before : List ℕ) (at : ℕ) → n < 10 → at < length before → Printed (decimal n) before at (set before at (48 + n)) (at + 1)
-printed_digit n before at h k = rw (decimal_small n h) (printed_byte (48 + n) before at k)
-
-pub printed_digits :
-    (n : ℕ) (before : List ℕ) (at : ℕ) (after : List ℕ) (next : ℕ) {digit : ℕ} → 10 ≤ n → n < 2 ^ 64 → next < length after
-    → Printed (decimal (n / 10)) before at after next
-    → digit ≡ n % 10
-    → Printed (decimal n) before at (set after next (48 + digit)) (next + 1)
-printed_digits n before at after next h k r p e =
-    rw (decimal_more n h k, e) (printed_then p (printed_byte (48 + n % 10) after next r))
-
-listed_join : (xs ys : List ℕ) → listed (xs ++ ys) ≡ listed xs ++ listed ys
-listed_join [] ys = refl
-listed_join (x ∷ xs) ys = rw (listed_join xs ys, append_assoc (spaced x) (listed xs) (listed ys))
+-- what is printed is the first part of what is left
+moved : (self text rest whole : List ℕ) {new : List ℕ} → self ++ (text ++ rest) ≡ whole → new ≡ self ++ text → new ++ rest ≡ whole
+moved self text rest whole e put = rw put (append_assoc self text rest ∙ e)
 
 -- one number more of a list
-pub listed_more :
-    (list : List ℕ) (i : ℕ) → i < length list → listed (take (i + 1) list) ≡ listed (take i list) ++ spaced (get_or list i 0)
-listed_more list i h =
-    rw (add-one i, take-suc list i 0 h, listed_join (take i list) (get_or list i 0 ∷ []), append-nil (spaced (get_or list i 0)))
+module _ (list : List ℕ) (i : ℕ) (h : i < length list) where
+  list_left : listed (drop i list) ≡ spaced (get_or list i 0) ++ listed (drop (i + 1) list)
+  list_left = rw (drop-cons list i 0 h, add-one i)
+
+  pub listed_more :
+      (self whole : List ℕ) {new : List ℕ} → self ++ listed (drop i list) ≡ whole → new ≡ self ++ spaced (get_or list i 0)
+      → new ++ listed (drop (i + 1) list) ≡ whole
+  listed_more self whole e put =
+      moved self (spaced (get_or list i 0)) (listed (drop (i + 1) list)) whole (ap (λ x. self ++ x) (sym list_left) ∙ e) put
+
+-- one field more
+module _ (fs : List (Bor (List ℕ) × ℕ)) (i : ℕ) (none : Bor (List ℕ) × ℕ) (h : i < length fs) where
+  abbrev text : List ℕ
+  text = (get_or fs i none).0.now
+
+  abbrev number : ℕ
+  number = (get_or fs i none).1
+
+  fields_left : fields_of (drop i fs) ≡ (text, number) ∷ fields_of (drop (i + 1) fs)
+  fields_left = rw (drop-cons fs i none h, add-one i)
+
+  pub room_left : room_of (fields_of (drop i fs)) ≡ length text + (20 + room_of (fields_of (drop (i + 1) fs)))
+  room_left = rw fields_left
+
+  pub fields_more :
+      (self whole : List ℕ) {new : List ℕ} → self ++ fields_text (fields_of (drop i fs)) ≡ whole → new ≡ self ++ field text number
+      → new ++ fields_text (fields_of (drop (i + 1) fs)) ≡ whole
+  fields_more self whole e put =
+      moved self (field text number) (fields_text (fields_of (drop (i + 1) fs))) whole (ap (λ x. self ++ fields_text x) (sym fields_left) ∙ e) put

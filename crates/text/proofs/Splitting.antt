@@ -1,97 +1,73 @@
--- Where the parts of a text end, and when two texts are the same.
-use mathlib.Core.Path.{◌≡◌, refl, ap, ◌∙◌}
+-- What is before and behind the first separator of a text.
+use mathlib.Core.Path.{◌≡◌, refl, sym, ap, ◌∙◌}
 use mathlib.Core.Bool.{Bool, true, false, cond}
-use mathlib.Core.List.{List, [], ◌∷◌}
-use Prim.Native.Nat.{ℕ, zero, suc, ◌+◌, ◌-◌, ◌≤◌, ◌<◌}
-use native.Mathlib.Nat.{suc-add, add-suc}
-use native.Mathlib.Numerals.{add-one}
-use native.Mathlib.Omega.{arith}
+use mathlib.Core.List.{List, [], ◌∷◌, ◌++◌}
 use mathlib.Core.Logic.{⊎_elim}
-use borrow.Author.Tests.{lt-ltb, le-ltb, eq-eqb, ne_eqb}
-use lib.Dec.{ltb, eqb, leb-suc-suc}
-use lib.ListN.{length, take, drop, get_or, drop_of_length-le}
-use lib.Seq.{slice, length-slice, take-take, drop-drop, drop-cons}
-use Rattle.text.specs.Parts.{split, PartEnd, same_text}
+use Prim.Native.Nat.{ℕ, suc, ◌+◌, ◌-◌, ◌≤◌, ◌<◌}
+use native.Mathlib.Nat.{zero-add}
+use native.Mathlib.Omega.{arith}
+use borrow.Author.Tests.{lt-ltb, le-ltb, eqb-true}
+use lib.Dec.{eqb, ltb}
+use lib.ListN.{length, take, drop}
+use lib.Seq.{slice}
+use Rattle.std.specs.Prelude.{Option, Some, None, MatchOption}
+use Rattle.std.specs.List.{slice_split, onto_first, copy_within, position_or_len, before_first, after_first}
+use Rattle.std.proofs.lemmas.Slice.{between_is}
+use Rattle.std.proofs.lemmas.List.{take_rest}
+use Rattle.std.proofs.lemmas.List.Splits.{slice_split_first}
+use Rattle.std.proofs.lemmas.List.Sums.{split_at_first, passes_at_first}
 use Rattle.rules.proofs.Ranges.{below_or_not}
+use Rattle.text.specs.Parts.{joined, split, FirstPart}
+
+-- the parts between separators are those of the library
+pub split_slices : (s : ℕ) (bs : List ℕ) → split s bs ≡ slice_split (λ b. eqb b s) bs
+unfolding split
+split_slices s [] = refl
+split_slices s (b ∷ bs) = rw (split_slices s bs) (ends (slice_split (λ b. eqb b s) bs) (eqb b s))
+  where
+    ends : (parts : List (List ℕ)) (t : Bool) → cond t ([] ∷ parts) (joined (b ∷ []) parts) ≡ cond t ([] ∷ parts) (onto_first b parts)
+    ends parts true = refl
+    ends [] false = refl
+    ends (part ∷ parts) false = refl
 
 -- the place of the first separator, or the length where there is none
-unfoldable pub index_of : ℕ → List ℕ → ℕ
-index_of b [] = 0
-index_of b (x ∷ bs) = cond (eqb x b) 0 (suc (index_of b bs))
+abbrev end_of : ℕ → List ℕ → ℕ
+end_of s bs = position_or_len (λ b. eqb b s) bs
 
--- the parts of a text: the first one up to the first separator, and those after it
-pub first_part :
-    (b : ℕ) (bs : List ℕ)
-    → split b bs
-    ≡ take (index_of b bs) bs ∷ cond (ltb (index_of b bs) (length bs)) (split b (drop (suc (index_of b bs)) bs)) []
-unfolding split index_of
-first_part b [] = refl
-first_part b (x ∷ bs) = by_test (eqb x b) refl (first_part b bs)
+not_found : (s : ℕ) (bs : List ℕ) → length bs ≤ end_of s bs → split s bs ≡ bs ∷ []
+unfolding split
+not_found s [] h = refl
+not_found s (b ∷ bs) h = go (eqb b s) refl (not_found s bs)
   where
-    by_test :
-        (t : Bool) → eqb x b ≡ t
-        → split b bs
-        ≡ take (index_of b bs) bs ∷ cond (ltb (index_of b bs) (length bs)) (split b (drop (suc (index_of b bs)) bs)) []
-        → split b (x ∷ bs)
-        ≡ take (index_of b (x ∷ bs)) (x ∷ bs)
-        ∷ cond (ltb (index_of b (x ∷ bs)) (length (x ∷ bs))) (split b (drop (suc (index_of b (x ∷ bs))) (x ∷ bs))) []
-    by_test true e h = rw (e, lt-ltb 0 (suc (length bs)) (omega arith))
-    by_test false e h = rw (e, h, leb-suc-suc (suc (index_of b bs)) (length bs))
+    go : (t : Bool) → eqb b s ≡ t → (length bs ≤ end_of s bs → split s bs ≡ bs ∷ []) → split s (b ∷ bs) ≡ (b ∷ bs) ∷ []
+    go true e ih = let k : suc (length bs) ≤ 0 = rw e at h in absurd (omega arith)
+    go false e ih = let k : suc (length bs) ≤ 1 + end_of s bs = rw e at h in rw (e, ih (omega arith))
 
--- a part of a part
-pub take_slice : (from k to : ℕ) (l : List ℕ) → from + k ≤ to → take k (slice from to l) ≡ slice from (from + k) l
-take_slice zero k to l h = let e : 0 + k ≡ k = omega arith in rw e (take-take k to l (omega arith))
-take_slice (suc from) k zero l h = absurd (omega arith)
-take_slice (suc from) k (suc to) [] h = rw (suc-add from k) (nothing k)
-  where
-    nothing : (k : ℕ) → ◌≡◌ {A = List ℕ} (take k []) []
-    nothing zero = refl
-    nothing (suc k) = refl
-take_slice (suc from) k (suc to) (x ∷ l) h = rw (suc-add from k) (take_slice from k to l (omega arith))
-
-same_test : (from k to : ℕ) → from ≤ to → ltb (from + k) to ≡ ltb k (to - from)
-same_test from k to h =
-    ⊎_elim
-    (λ p. rw (lt-ltb (from + k) to p, lt-ltb k (to - from) (omega arith)))
-    (λ p. rw (le-ltb (from + k) to p, le-ltb k (to - from) (omega arith)))
-    (below_or_not (from + k) to)
-
-pub part_ends :
-    (b : ℕ) (bytes : List ℕ) (from to end : ℕ) {begun : ℕ} → from ≤ to → to ≤ length bytes
-    → end ≡ begun + index_of b (slice begun to bytes) → begun ≡ from → end ≤ to → PartEnd b bytes from to end
-part_ends b bytes from to end h k found same m =
-    let i : ℕ = index_of b (slice from to bytes) in
-    let e : end ≡ from + i = rw same at found in
-    record {
-      low = omega arith;
-      high = m;
+found :
+    (s : ℕ) (bs : List ℕ) → end_of s bs < length bs
+    → FirstPart s bs (take (end_of s bs) bs) (take (length bs - (end_of s bs + 1)) (drop (end_of s bs + 1) bs))
+found s bs h =
+    rw (take_rest bs (end_of s bs + 1))
+    (record {
+      whole =
+          split_at_first (λ b. eqb b s) bs 0 h
+          ∙ ap (λ b. before_first (λ b. eqb b s) bs ++ (b ∷ after_first (λ b. eqb b s) bs)) (eqb-true _ _ (passes_at_first (λ b. eqb b s) bs 0 h));
       parts =
-          first_part b (slice from to bytes)
-          ∙ rw (length-slice from to bytes k, drop-drop (suc i) from (take to bytes), add-suc from i, take_slice from i to bytes (rw e at m), e, same_test from i to h);
-    }
+          split_slices s bs
+          ∙ slice_split_first (λ b. eqb b s) bs 0 h
+          ∙ ap (λ parts. before_first (λ b. eqb b s) bs ∷ parts) (sym (split_slices s (after_first (λ b. eqb b s) bs)));
+    })
 
--- Texts
+-- what the place of the first separator says
+pub by_place :
+    (s : ℕ) (bs : List ℕ) {r : Option ℕ} → r ≡ cond (ltb (end_of s bs) (length bs)) (Some (end_of s bs)) None
+    → MatchOption r (split s bs ≡ bs ∷ []) (λ end. FirstPart s bs (take end bs) (take (length bs - (end + 1)) (drop (end + 1) bs)))
+by_place s bs e =
+    ⊎_elim
+    (λ h. rw (e, lt-ltb (end_of s bs) (length bs) h) (found s bs h))
+    (λ h. rw (e, le-ltb (end_of s bs) (length bs) h) (not_found s bs h))
+    (below_or_not (end_of s bs) (length bs))
 
-never : (t : Bool) → cond t false false ≡ false
-never true = refl
-never false = refl
-
-pub lengths_differ : (a b : List ℕ) → (length a ≡ length b → ⊥) → same_text a b ≡ false
-unfolding same_text
-lengths_differ [] [] h = absurd (h refl)
-lengths_differ [] (y ∷ ys) h = refl
-lengths_differ (x ∷ xs) [] h = refl
-lengths_differ (x ∷ xs) (y ∷ ys) h = rw (lengths_differ xs ys (λ e. h (ap suc e))) (never (eqb x y))
-
-module _ (a b : List ℕ) (i : ℕ) (h : i < length a) (k : i < length b) where
-  pub byte_same : get_or a i 0 ≡ get_or b i 0 → same_text (drop i a) (drop i b) ≡ same_text (drop (i + 1) a) (drop (i + 1) b)
-  unfolding same_text
-  byte_same e = rw (drop-cons a i 0 h, drop-cons b i 0 k, eq-eqb (get_or a i 0) (get_or b i 0) e, add-one i)
-
-  pub byte_differs : (get_or a i 0 ≡ get_or b i 0 → ⊥) → same_text (drop i a) (drop i b) ≡ false
-  unfolding same_text
-  byte_differs e = rw (drop-cons a i 0 h, drop-cons b i 0 k, ne_eqb (get_or a i 0) (get_or b i 0) e)
-
-pub all_same : (a b : List ℕ) (i : ℕ) → length a ≤ i → length b ≤ i → same_text (drop i a) (drop i b) ≡ true
-unfolding same_text
-all_same a b i h k = rw (drop_of_length-le a h, drop_of_length-le b k)
+-- what stands between two places, copied to the front
+pub carried : (from to : ℕ) (bs : List ℕ) → copy_within bs from to 0 ≡ slice from to bs ++ drop (to - from) bs
+carried from to bs = rw (zero-add (to - from), between_is bs from to)

@@ -1,19 +1,21 @@
 -- The value of a word, digit by digit, over a part of a text; and that the digits of a number are read back as that number.
-use mathlib.Core.Path.{◌≡◌, ap, ◌∙◌}
+use mathlib.Core.Path.{◌≡◌, refl, sym, ap, ◌∙◌}
 use mathlib.Core.Logic.{⊎_elim}
-use mathlib.Core.Bool.{cond}
+use mathlib.Core.Bool.{true, false, false≢true, cond}
 use mathlib.Core.List.{List, [], ◌∷◌, ◌++◌, append_assoc, append-nil}
-use Prim.Native.Nat.{ℕ, zero, suc, ◌+◌, ◌-◌, ◌*◌, ◌/◌, ◌%◌, ◌^◌, ◌≤◌, ◌<◌, zero-le}
-use native.Mathlib.Nat.{pow-succ', le_antisymm}
+use Prim.Native.Nat.{ℕ, zero, suc, ◌+◌, ◌-◌, ◌*◌, ◌/◌, ◌%◌, ◌^◌, ◌≤◌, ◌<◌, min, zero-le}
+use native.Mathlib.Nat.{pow-succ'}
 use native.Mathlib.Numerals.{add-one}
 use native.Mathlib.Omega.{arith}
-use borrow.Author.Tests.{lt-ltb, le-ltb, le-leb, lt-leb}
-use lib.Dec.{ltb}
-use lib.ListN.{length, get_or, length-append}
-use lib.Seq.{slice, slice-cons, slice_empty}
+use borrow.Author.Tests.{lt-ltb, le-ltb, le-leb, eqb-true}
+use lib.Dec.{ltb, eqb}
+use lib.ListN.{length, drop, get_or, length-append, drop_of_length-le}
+use lib.Seq.{drop-cons}
 use Rattle.rules.proofs.Ranges.{below_or_not}
-use Rattle.text.specs.Numbers.{value_from, number_of, digits_within, decimal}
-use Rattle.text.specs.declared.number.Number.TheVariants.{Value, NotANumber, TooLarge}
+use Rattle.text.specs.Numbers.{is_digit, value_from, number_of, digits_within, decimal}
+use Rattle.text.specs.declared.number.NumberError.TheVariants.{NotANumber, TooLarge}
+use Rattle.std.specs.Prelude.{Result, Ok, Err}
+use Rattle.std.specs.Result.{OkIff, result_or}
 
 -- past 32 bits the digits so far no longer matter
 too_large_stays :
@@ -23,50 +25,49 @@ too_large_stays n m [] p q = rw (le-ltb n 4294967296 p, le-ltb m 4294967296 q)
 too_large_stays n m (b ∷ bs) p q =
     rw (too_large_stays (10 * n + (b - 48)) (10 * m + (b - 48)) bs (omega arith) (omega arith))
 
+-- so that a sum that stays at the largest number of 64 bits says the same
 pub digit_kept :
-    (n d : ℕ) (bs : List ℕ) → value_from (10 * n + d) bs ≡ value_from (cond (ltb n 4294967296) (10 * n + d) n) bs
-digit_kept n d bs =
+    (n d m : ℕ) (bs : List ℕ) → m ≡ min (min (n * 10) 18446744073709551615 + d) 18446744073709551615
+    → value_from (10 * n + d) bs ≡ value_from m bs
+digit_kept n d m bs e =
     ⊎_elim
-    (λ h. rw (lt-ltb n 4294967296 h))
-    (λ h. rw (le-ltb n 4294967296 h) (too_large_stays (10 * n + d) n bs (omega arith) h))
-    (below_or_not n 4294967296)
+    (λ h. let same : 10 * n + d ≡ m = omega arith in ap (λ k. value_from k bs) same)
+    (λ h. too_large_stays (10 * n + d) m bs (omega arith) (omega arith))
+    (below_or_not (10 * n + d) 18446744073709551616)
 
-pub no_word : (from to : ℕ) (text : List ℕ) → from ≡ to → number_of (slice from to text) ≡ NotANumber
+pub no_word : (text : List ℕ) → eqb (length text) 0 ≡ true → number_of text ≡ Err NotANumber
 unfolding number_of
-no_word from to text e = rw (e, slice_empty to text)
+no_word [] e = refl
+no_word (b ∷ bs) e = absurd (omega (arith, eqb-true (length (b ∷ bs)) 0 e))
 
-pub some_word :
-    (from to : ℕ) (text : List ℕ) → from < to → to ≤ length text
-    → number_of (slice from to text) ≡ value_from 0 (slice from to text)
+pub some_word : (text : List ℕ) → eqb (length text) 0 ≡ false → number_of text ≡ value_from 0 text
 unfolding number_of
-some_word from to text h k = rw (slice-cons from to text 0 h k)
+some_word [] e = absurd (false≢true (sym e))
+some_word (b ∷ bs) e = refl
 
-module _ (n i to : ℕ) (text : List ℕ) (h : i < to) (k : to ≤ length text) where
+module _ (n i : ℕ) (text : List ℕ) (h : i < length text) where
   pub a_digit :
-      48 ≤ get_or text i 0 → get_or text i 0 ≤ 57
-      → value_from n (slice i to text) ≡ value_from (10 * n + (get_or text i 0 - 48)) (slice (i + 1) to text)
+      is_digit (get_or text i 0) ≡ true
+      → value_from n (drop i text) ≡ value_from (10 * n + (get_or text i 0 - 48)) (drop (i + 1) text)
   unfolding value_from
-  a_digit p q = rw (slice-cons i to text 0 h k, le-leb 48 (get_or text i 0) p, le-leb (get_or text i 0) 57 q, add-one i)
+  a_digit e = rw (drop-cons text i 0 h, e, add-one i)
 
-  pub below_digits : get_or text i 0 < 48 → value_from n (slice i to text) ≡ NotANumber
+  pub no_digit : is_digit (get_or text i 0) ≡ false → value_from n (drop i text) ≡ Err NotANumber
   unfolding value_from
-  below_digits p = rw (slice-cons i to text 0 h k, lt-leb 48 (get_or text i 0) p)
-
-  pub above_digits : 57 < get_or text i 0 → value_from n (slice i to text) ≡ NotANumber
-  unfolding value_from
-  above_digits p =
-      let q : 48 ≤ get_or text i 0 = omega arith in
-      rw (slice-cons i to text 0 h k, le-leb 48 (get_or text i 0) q, lt-leb (get_or text i 0) 57 p)
+  no_digit e = rw (drop-cons text i 0 h, e)
 
 -- no digit is left
-module _ (n i to : ℕ) (text : List ℕ) (h : i ≤ to) (k : to ≤ i) where
-  pub value_left : n ≤ 4294967295 → value_from n (slice i to text) ≡ Value n
-  unfolding value_from
-  value_left l = rw (le_antisymm h k, slice_empty to text, lt-ltb n 4294967296 (omega arith))
+pub value_left :
+    (n i : ℕ) (text : List ℕ) → length text ≤ i → value_from n (drop i text) ≡ cond (ltb n 4294967296) (Ok n) (Err TooLarge)
+unfolding value_from
+value_left n i text h = rw (drop_of_length-le text h)
 
-  pub too_large_left : 4294967295 < n → value_from n (slice i to text) ≡ TooLarge
-  unfolding value_from
-  too_large_left l = rw (le_antisymm h k, slice_empty to text, le-ltb n 4294967296 (omega arith))
+-- the number of 32 bits, where there is one
+pub settled :
+    {E : Type 0} (n : ℕ) (r : Result ℕ E) → OkIff r (n < 4294967296) n
+    → result_or r (Err TooLarge) ≡ cond (ltb n 4294967296) (Ok n) (Err TooLarge)
+settled n (Ok m) h = rw (lt-ltb n 4294967296 h.0, h.1)
+settled n (Err e) h = rw (le-ltb n 4294967296 (omega arith))
 
 -- The digits of a number
 
@@ -102,6 +103,18 @@ decimal_more n h k =
 
 pub decimal_longer : (n : ℕ) → 10 ≤ n → n < 2 ^ 64 → length (decimal n) ≡ length (decimal (n / 10)) + 1
 decimal_longer n h k = ap length (decimal_more n h k) ∙ length-append (decimal (n / 10)) ((48 + n % 10) ∷ [])
+
+-- the last digit, behind those before it
+pub digit_alone :
+    {n digit : ℕ} (old : List ℕ) {mid new : List ℕ} → new ≡ mid ++ ((48 + digit) ∷ []) → digit ≡ n % 10
+    → n < 10 → mid ≡ old → new ≡ old ++ decimal n
+digit_alone {n} {digit} old put last h p = let e : digit ≡ n = omega arith in put ∙ rw (p, e, decimal_small n h)
+
+pub digit_behind :
+    {n digit : ℕ} (old : List ℕ) {mid new : List ℕ} → new ≡ mid ++ ((48 + digit) ∷ []) → digit ≡ n % 10
+    → 10 ≤ n → n < 2 ^ 64 → mid ≡ old ++ decimal (n / 10) → new ≡ old ++ decimal n
+digit_behind {n} {digit} old put last h k p =
+    put ∙ rw (p, last, append_assoc old (decimal (n / 10)) ((48 + n % 10) ∷ []), decimal_more n h k)
 
 length_digits : (k n : ℕ) → length (digits_within k n) ≤ k
 unfolding digits_within
@@ -142,7 +155,7 @@ digits_some (suc k) n bs =
     (below_or_not n 10)
 
 -- a number of 32 bits that is printed is read back as that number
-pub read_back : (n : ℕ) → n < 2 ^ 32 → number_of (decimal n) ≡ Value n
+pub read_back : (n : ℕ) → n < 2 ^ 32 → number_of (decimal n) ≡ Ok n
 unfolding value_from
 read_back n h =
     rw (← append-nil (decimal n), digits_some 19 n [], digits_worth 20 n [] (omega arith), lt-ltb n 4294967296 h)

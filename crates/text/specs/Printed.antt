@@ -1,13 +1,7 @@
--- What it means that a text is printed into a buffer, and numbers as text.
-use Rattle.std.specs.Prelude.{ℕ, ◌+◌, ◌≤◌, ◌≡◌, List, [], ◌∷◌, ◌++◌, length}
-use Rattle.std.proofs.lemmas.List.Edits.{sets}
+-- Numbers as text.
+use Rattle.std.specs.Prelude.{ℕ, ◌+◌, List, [], ◌∷◌, ◌++◌, length, map}
+use denote.Ref.{Bor}
 use Rattle.text.specs.Numbers.{decimal}
-
--- The text stands in the buffer from place `at` on, whole, every other byte is kept, and `next` is the place after it.
-pub record Printed (text before : List ℕ) (at : ℕ) (after : List ℕ) (next : ℕ) : Type 0 where
-  pub bytes : after ≡ sets before at text
-  pub place : next ≡ at + length text
-  pub within : next ≤ length before
 
 -- a text and a number after it
 abbrev pub field : List ℕ → ℕ → List ℕ
@@ -24,15 +18,16 @@ listed (n ∷ ns) = spaced n ++ listed ns
 abbrev pub line_feed : List ℕ
 line_feed = 10 ∷ []
 
--- one to four numbers, each after a text, and the line feed
-abbrev pub one : List ℕ → ℕ → List ℕ
-one text n = field text n ++ line_feed
+-- numbers, each after a text, and the line feed
+abbrev pub fields_text : List (List ℕ × ℕ) → List ℕ
+fields_text [] = line_feed
+fields_text (f ∷ fs) = field f.0 f.1 ++ fields_text fs
 
-abbrev pub two : List ℕ → ℕ → List ℕ → ℕ → List ℕ
-two text n next m = field text n ++ one next m
+-- room for them, where a number has 20 digits
+abbrev pub room_of : List (List ℕ × ℕ) → ℕ
+room_of [] = 1
+room_of (f ∷ fs) = length f.0 + (20 + room_of fs)
 
-abbrev pub three : List ℕ → ℕ → ℕ → ℕ → List ℕ
-three text a b c = field text a ++ two (32 ∷ []) b (32 ∷ []) c
-
-abbrev pub four : List ℕ → ℕ → ℕ → ℕ → ℕ → List ℕ
-four text a b c d = field text a ++ three (32 ∷ []) b c d
+-- the texts and numbers that are lent
+abbrev pub fields_of : List (Bor (List ℕ) × ℕ) → List (List ℕ × ℕ)
+fields_of fs = map (λ f. (f.0.now, f.1)) fs

@@ -7,11 +7,6 @@ pub fn carry(buffer: &mut [u8], from: usize, to: usize) -> usize
     requires { (from ≤ to) × (to ≤ length buffer.old) }
     ensures { (result ≡ to - from) × (buffer.new ≡ slice from to buffer.old ++ drop (to - from) buffer.old) }
 {
-    let count = to - from;
-    let mut i = 0;
-    while i < count {
-        buffer[i] = buffer[from + i];
-        i += 1;
-    }
-    count
+    buffer.copy_within(from..to, 0);
+    to - from
 }

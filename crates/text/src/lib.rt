@@ -3,13 +3,11 @@
 #![tactic(auto)]
 
 mod block;
-mod fields;
 mod number;
 mod part;
 mod printer;
 
 pub use block::carry;
-pub use fields::{print_four, print_one, print_three, print_two};
-pub use number::{Number, read_number};
-pub use part::{part_end, same_text};
-pub use printer::{print_field, print_list, print_text};
+pub use number::{NumberError, read_number};
+pub use part::split_once;
+pub use printer::Text;

@@ -1,53 +1,29 @@
-// A decimal number of 32 bits, read from a part of a text.
-ghost use Rattle.std.specs.Prelude.{◌≡◌, cond, ◌+◌, ◌*◌, ◌≤◌, ◌<◌, ltb, length};
-ghost use Rattle.std.proofs.Math.Seq.{slice};
+// A decimal number of 32 bits, read from a word.
+ghost use Rattle.std.specs.Prelude.{◌≡◌};
 ghost use Rattle.text.specs.Numbers.{number_of};
 
-// What a word that should be a number says.
+// Why a word is no number.
 #[derive(Clone, Copy)]
-pub enum Number {
-    Value(u32),
+pub enum NumberError {
     NotANumber,
     TooLarge,
 }
 
-// The value with one digit more. Past 32 bits it stays, since the number is too large whatever digits follow.
-fn with_digit(value: u64, digit: u64) -> u64
-    requires { digit < 10 }
-    ensures { result ≡ cond (ltb value 4294967296) (10 * value + digit) value }
+// The number that a word says. What does not fit 64 bits stays at the largest number of these, which is too large whatever
+// digits follow. The library's `parse` would take a sign, too.
+pub fn read_number(word: &[u8]) -> Result<u32, NumberError>
+    ensures { result ≡ number_of word.now }
 {
-    if value < 4294967296 {
-        10 * value + digit
-    } else {
-        value
-    }
-}
-
-// The number that stands from place `from` up to, not including, place `to`.
-pub fn read_number(text: &[u8], from: usize, to: usize) -> Number
-    requires { (from ≤ to) × (to ≤ length text.now) }
-    ensures { result ≡ number_of (slice from to text.now) }
-{
-    if from == to {
-        return Number::NotANumber;
+    if word.is_empty() {
+        return Err(NumberError::NotANumber);
     }
     let mut value: u64 = 0;
-    let mut i = from;
-    while i < to {
-        let byte = text[i];
-        if byte < 48 {
-            return Number::NotANumber;
+    for byte in word {
+        if !byte.is_ascii_digit() {
+            return Err(NumberError::NotANumber);
         }
-        if byte > 57 {
-            return Number::NotANumber;
-        }
-        let digit = byte - 48;
-        value = with_digit(value, digit as u64);
-        i += 1;
+        let digit = u64::from(*byte - b'0');
+        value = value.saturating_mul(10).saturating_add(digit);
     }
-    if value > 4294967295 {
-        return Number::TooLarge;
-    }
-    let small = value as u32;
-    Number::Value(small)
+    u32::try_from(value).or(Err(NumberError::TooLarge))
 }

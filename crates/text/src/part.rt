@@ -1,33 +1,12 @@
-// The parts of a text between separators, and whether two texts are the same.
-ghost use Rattle.std.specs.Prelude.{◌≡◌, ◌≤◌, length};
-ghost use Rattle.text.specs.Parts.{PartEnd, same_text};
+// The parts of a text between separators.
+ghost use Rattle.std.specs.Prelude.{◌≡◌, [], ◌∷◌, MatchOption};
+ghost use Rattle.text.specs.Parts.{split, FirstPart};
 
-// Where the part ends that starts at `from`: at the next separator, or at `to` where none is left. A word of a
-// request ends so at a space, a request of a block at a line feed.
-pub fn part_end(bytes: &[u8], from: usize, to: usize, separator: u8) -> usize
-    requires { (from ≤ to) × (to ≤ length bytes.now) }
-    ensures { PartEnd separator bytes.now from to result }
+// The first part of a text, and what stands behind its separator; none where no separator is left. A request of a block ends so at a
+// line feed.
+pub fn split_once(bytes: &[u8], separator: u8) -> Option<(&[u8], &[u8])>
+    ensures { MatchOption result (split separator bytes.now ≡ bytes.now ∷ []) (λ p. FirstPart separator bytes.now p.0.now p.1.now) }
 {
-    for i in from..to {
-        if bytes[i] == separator {
-            return i;
-        }
-    }
-    to
-}
-
-pub fn same_text(a: &[u8], b: &[u8]) -> bool
-    ensures { result ≡ same_text a.now b.now }
-{
-    if a.len() != b.len() {
-        return false;
-    }
-    let mut i = 0;
-    while i < a.len() {
-        if a[i] != b[i] {
-            return false;
-        }
-        i += 1;
-    }
-    true
+    let end = bytes.iter().position(|byte| *byte == separator)?;
+    Some((&bytes[..end], &bytes[end + 1..]))
 }

@@ -1,56 +1,112 @@
-// Texts and decimal numbers, put into a buffer at a place. Each function answers the place after what it put there.
-ghost use Rattle.std.specs.Prelude.{◌+◌, ◌*◌, ◌≤◌, length, take};
+// Text that is printed: each function puts its text behind what stands there.
+ghost use Rattle.std.specs.Prelude.{◌≡◌, ◌+◌, ◌*◌, ◌≤◌, ◌∷◌, [], ◌++◌, length};
 ghost use Rattle.text.specs.Numbers.{decimal};
-ghost use Rattle.text.specs.Printed.{Printed, field, listed};
+ghost use Rattle.text.specs.Printed.{field, listed, fields_text, fields_of, room_of};
 
-pub fn print_text(text: &[u8], buffer: &mut [u8], at: usize) -> usize
-    requires { at + length text.now ≤ length buffer.old }
-    ensures { Printed text.now buffer.old at buffer.new result }
-{
-    let mut i = 0;
-    while i < text.len() {
-        buffer[at + i] = text[i];
-        i += 1;
-    }
-    at + text.len()
+use std::marker::Model;
+
+// Printed bytes, in a fixed place.
+//
+// A number is printed by hand, and not by `write!`: what the library promises of `write!` holds only where it answers `Ok`, and that it
+// does is promised nowhere, so that printing, which cannot fail, could.
+#[derive(Drop)]
+pub struct Text {
+    bytes: [u8; Text::CAPACITY],
+    length: usize,
 }
 
-// The digits of n, the most significant first.
-pub fn print_decimal(n: u64, buffer: &mut [u8], at: usize) -> usize
-    requires { at + length (decimal n) ≤ length buffer.old }
-    ensures { Printed (decimal n) buffer.old at buffer.new result }
-{
-    if n < 10 {
-        buffer[at] = 48 + n as u8;
-        return at + 1;
-    }
-    let last = print_decimal(n / 10, buffer, at);
-    let digit = n % 10;
-    buffer[last] = 48 + digit as u8;
-    last + 1
+impl Model for Text {
+    ghost use Rattle.std.specs.Prelude.{ℕ, ◌≤◌, List, take};
+
+    ghost Value = { List ℕ };
+
+    ghost view = { λ t. take t.length t.bytes };
+
+    ghost invariant = { λ t. t.length ≤ 36864 };
 }
 
-// A text and a number after it. A number has at most 20 digits.
-pub fn print_field(text: &[u8], n: u64, buffer: &mut [u8], at: usize) -> usize
-    requires { at + length text.now + 20 ≤ length buffer.old }
-    ensures printed { Printed (field text.now n) buffer.old at buffer.new result }
-    ensures upper_bound { result ≤ at + length text.now + 20 }
-{
-    let next = print_text(text, buffer, at);
-    print_decimal(n, buffer, next)
-}
+impl Text {
+    // The longest answer takes 30,336 bytes, behind up to 6,000 of those before it.
+    pub const CAPACITY: usize = 36864;
 
-// The first count numbers of a list, each after a space.
-pub fn print_list(list: &[u32], count: usize, buffer: &mut [u8], at: usize) -> usize
-    requires { (count ≤ length list.now) × (at + 21 * count ≤ length buffer.old) }
-    ensures printed { Printed (listed (take count list.now)) buffer.old at buffer.new result }
-    ensures upper_bound { result ≤ at + 21 * count }
-{
-    let mut next = at;
-    let mut i = 0;
-    while i < count {
-        next = print_field(b" ", list[i] as u64, buffer, next);
-        i += 1;
+    pub fn new() -> Self
+        ensures { result ≡ [] }
+    {
+        Text {
+            bytes: [0; Text::CAPACITY],
+            length: 0,
+        }
     }
-    next
+
+    pub fn as_bytes(&self) -> &[u8]
+        ensures { result.now ≡ self.now }
+    {
+        &self.bytes[..self.length]
+    }
+
+    pub fn clear(&mut self)
+        ensures { self.new ≡ [] }
+    {
+        self.length = 0;
+    }
+
+    pub fn push(&mut self, byte: u8)
+        requires { length self.old + 1 ≤ Text.CAPACITY }
+        ensures { self.new ≡ self.old ++ byte ∷ [] }
+    {
+        self.bytes[self.length] = byte;
+        self.length += 1;
+    }
+
+    pub fn print(&mut self, text: &[u8])
+        requires { length self.old + length text.now ≤ Text.CAPACITY }
+        ensures { self.new ≡ self.old ++ text.now }
+    {
+        let end = self.length + text.len();
+        self.bytes[self.length..end].copy_from_slice(text);
+        self.length = end;
+    }
+
+    // The digits of n, the most significant first.
+    fn print_number(&mut self, n: u64)
+        requires { length self.old + length (decimal n) ≤ Text.CAPACITY }
+        ensures { self.new ≡ self.old ++ decimal n }
+    {
+        if n >= 10 {
+            self.print_number(n / 10);
+        }
+        self.push(b'0' + (n % 10) as u8);
+    }
+
+    // A text and a number after it. A number has at most 20 digits.
+    pub fn print_field(&mut self, text: &[u8], n: u64)
+        requires { length self.old + length text.now + 20 ≤ Text.CAPACITY }
+        ensures printed { self.new ≡ self.old ++ field text.now n }
+        ensures upper_bound { length self.new ≤ length self.old + length text.now + 20 }
+    {
+        self.print(text);
+        self.print_number(n);
+    }
+
+    // Numbers, each after a text, and a line feed.
+    pub fn print_fields(&mut self, fields: &[(&[u8], u64)])
+        requires { length self.old + room_of (fields_of fields.now) ≤ Text.CAPACITY }
+        ensures { self.new ≡ self.old ++ fields_text (fields_of fields.now) }
+    {
+        for (text, n) in fields {
+            self.print_field(text, *n);
+        }
+        self.push(b'\n');
+    }
+
+    // The numbers of a list, each after a space.
+    pub fn print_list(&mut self, list: &[u32])
+        requires { length self.old + 21 * length list.now ≤ Text.CAPACITY }
+        ensures printed { self.new ≡ self.old ++ listed list.now }
+        ensures upper_bound { length self.new ≤ length self.old + 21 * length list.now }
+    {
+        for n in list {
+            self.print_field(b" ", u64::from(*n));
+        }
+    }
 }

@@ -3,8 +3,10 @@
 
 mod show;
 
+use text::Text;
+
 fn main(rt: HostRuntime) {
     let mut image = [0u8; 65536];
-    let mut out = [0u8; 65536];
+    let mut out = Text::new();
     show::show(rt.stdin(), rt.stdout(), &mut image, &mut out);
 }

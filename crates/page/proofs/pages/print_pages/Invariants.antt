@@ -1,11 +1,9 @@
 -- `page::print_pages` meets its contract: page by page.
-use mathlib.Core.Path.{◌≡◌}
-use Prim.Native.Nat.{◌*◌, ◌≤◌}
-use lib.ListN.{length}
+use Rattle.std.proofs.Common.{◌≡◌, ◌+◌, ◌*◌, ◌++◌, length}
 use Rattle.charges.specs.Arrays.{charges_of}
-use Rattle.text.specs.Printed.{Printed}
 use Rattle.page.specs.Pages.{texts, page}
 use Rattle.page.proofs.pages.print_pages.Given as goal
 
 abbrev pub invariant-loop-k : goal.invariant-loop-k
-invariant-loop-k l = (l.k ≤ l.count) × (length l.buffer ≡ length l.initial.buffer) × (l.next ≡ 950 * l.k) × Printed (texts (page l.clock (charges_of l.charges)) l.k) l.initial.buffer 0 l.buffer l.next
+invariant-loop-k l =
+    (l.out ≡ l.initial.out ++ texts (page l.clock (charges_of l.charges)) l.k) × (length l.out ≡ length l.initial.out + 950 * l.k)

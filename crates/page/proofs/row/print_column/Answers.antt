@@ -1,15 +1,18 @@
 -- `page::print_column` meets its contract: the number, and then a space.
+use mathlib.Core.Path.{ap}
 use native.Mathlib.Omega.{arith}
+use lib.ListN.{length, length-append}
 use Rattle.text.specs.Numbers.{decimal}
-use Rattle.text.proofs.Printing.{printed_then}
-use Rattle.page.proofs.Aligning.{printed_as, length_right}
+use Rattle.page.specs.Lines.{at_right}
+use Rattle.page.proofs.Aligning.{length_right}
 use Rattle.page.proofs.row.print_column.Goals as goal
 
-pub print_text-requires : goal.print_text-requires
-print_text-requires c = omega (arith, c.requires.1, c.print_right-next.auto.buffer, c.print_right-next.ensures.place, length_right c.args.width (decimal c.args.n) c.requires.0)
+pub print-requires : goal.print-requires
+print-requires c =
+    let digits = decimal c.args.n in
+    omega (arith, ap length c.print_right.ensures, length-append c.args.out.now (at_right c.args.width digits), length_right c.args.width digits c.requires.0, c.requires.1)
 
-pub returns : goal.returns
-returns c = record {
-  printed = printed_as (printed_then c.print_right-next.ensures c.print_text.ensures) (search);
-  value = omega (arith, c.print_right-next.ensures.place, c.print_text.ensures.place, length_right c.args.width (decimal c.args.n) c.requires.0);
-}
+pub returns-clause-value : goal.returns-clause-value
+returns-clause-value c =
+    let digits = decimal c.args.n in
+    omega (arith, ap length c.print.ensures, length-append c.print_right.new.out, ap length c.print_right.ensures, length-append c.args.out.now (at_right c.args.width digits), length_right c.args.width digits c.requires.0)

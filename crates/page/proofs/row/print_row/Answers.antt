@@ -1,33 +1,30 @@
 -- `page::print_row` meets its contract: its columns are printed one after another.
+use mathlib.Core.List.{append_assoc}
 use native.Mathlib.Omega.{arith}
-use Rattle.text.proofs.Printing.{printed_then}
 use Rattle.page.specs.Lines.{row_of}
-use Rattle.page.proofs.Aligning.{printed_as, ticket_digits, line_digits, start_digits, end_digits}
-use borrow.Author.Rules.{rules}
+use Rattle.page.proofs.Aligning.{ticket_digits, line_digits, start_digits, end_digits}
 use Rattle.page.proofs.row.print_row.Goals as goal
 
-pub print_column-a-requires : goal.print_column-a-requires
-print_column-a-requires c = (ticket_digits c.requires.0, search rules)
+pub print_column-requires : goal.print_column-requires
+print_column-requires c = (ticket_digits c.requires.0, omega arith)
 
-pub print_column-b-requires : goal.print_column-b-requires
-print_column-b-requires c = (line_digits c.requires.0, search rules)
+pub print_column-requires-2 : goal.print_column-requires-2
+print_column-requires-2 c = (line_digits c.requires.0, omega arith)
 
-pub print_column-c-requires : goal.print_column-c-requires
-print_column-c-requires c = (start_digits c.requires.0, search rules)
+pub print_column-requires-3 : goal.print_column-requires-3
+print_column-requires-3 c = (start_digits c.requires.0, omega arith)
 
-pub print_column-d-requires : goal.print_column-d-requires
-print_column-d-requires c = (end_digits c.requires.0, search rules)
+pub print_column-requires-4 : goal.print_column-requires-4
+print_column-requires-4 c = (end_digits c.requires.0, omega arith)
 
-pub returns-then-begun : goal.returns-then-begun
+pub returns-then-begun-clause-printed : goal.returns-then-begun-clause-printed
 unfolding row_of
-returns-then-begun c = record {
-  printed = rw c.if-begun.true (printed_as (printed_then c.print_column-a.ensures.printed (printed_then c.print_column-b.ensures.printed (printed_then c.print_column-c.ensures.printed (printed_then c.print_column-d.ensures.printed c.print_text.ensures)))) (search));
-  value = omega (arith, c.print_column-a.ensures.value, c.print_column-b.ensures.value, c.print_column-c.ensures.value, c.print_column-d.ensures.value, c.print_text.ensures.place);
-}
+returns-then-begun-clause-printed c =
+    rw (c.if-begun.true, c.print.ensures, c.print_column-4.ensures.printed, c.print_column-3.ensures.printed, c.print_column-2.ensures.printed, c.print_column.ensures.printed)
+    (simp append_assoc)
 
-pub returns : goal.returns
+pub returns-else-begun-clause-printed : goal.returns-else-begun-clause-printed
 unfolding row_of
-returns c = record {
-  printed = rw c.if-begun.false (printed_as (printed_then c.print_column-a.ensures.printed (printed_then c.print_column-b.ensures.printed (printed_then c.print_column-c.ensures.printed (printed_then c.print_column-d.ensures.printed c.print_text-2.ensures)))) (search));
-  value = omega (arith, c.print_column-a.ensures.value, c.print_column-b.ensures.value, c.print_column-c.ensures.value, c.print_column-d.ensures.value, c.print_text-2.ensures.place);
-}
+returns-else-begun-clause-printed c =
+    rw (c.if-begun.false, c.print-else-begun.ensures, c.print_column-4.ensures.printed, c.print_column-3.ensures.printed, c.print_column-2.ensures.printed, c.print_column.ensures.printed)
+    (simp append_assoc)

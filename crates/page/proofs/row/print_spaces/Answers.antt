@@ -1,11 +1,15 @@
+use mathlib.Core.Path.{ap}
+use mathlib.Core.List.{[], ◌∷◌, append_assoc}
 use native.Mathlib.Omega.{arith}
-use lib.ListN.{length-set}
-use Rattle.page.proofs.Aligning.{printed_space}
+use lib.ListN.{length, length-append}
+use Rattle.page.specs.Lines.{spaces}
+use Rattle.page.proofs.Aligning.{length_spaces, spaces_more}
 use Rattle.page.proofs.row.print_spaces.Goals as goal
 
+pub push-requires : goal.push-requires
+push-requires c =
+    omega (arith, ap length c.loop-i.invariant, length-append c.args.out.now (spaces c.loop-i._i), length_spaces c.loop-i._i)
+
 pub loop-i-preserved : goal.loop-i-preserved
-loop-i-preserved c = (
-  omega arith,
-  simp length-set c.loop-i.invariant.1,
-  printed_space c.args.buffer.now c.args.at c.loop-i.i c.loop-i.buffer (search) (omega arith) c.loop-i.invariant.2,
-)
+loop-i-preserved c =
+    rw (c.push.ensures, c.loop-i.invariant, spaces_more c.loop-i._i) (append_assoc c.args.out.now (spaces c.loop-i._i) (32 ∷ []))

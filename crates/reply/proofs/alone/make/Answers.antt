@@ -1,12 +1,6 @@
--- The numbers that the call reads, the list that is lent, and what the call leaves there.
-use native.Mathlib.Omega.{arith}
-use Rattle.reply.proofs.Replies.{call_replied}
+-- `reply::make` meets its contract: the feeder that is left is put back where the only one stood.
+use Rattle.reply.proofs.OnlyFeeder.{applies_back}
 use Rattle.reply.proofs.alone.make.Goals as goal
 
 pub returns : goal.returns
-returns c =
-    let h =
-    call_replied c.args.call c.args.numbers.now c.args.list.now c.args.from c.args.places c.requires.0.valid c.requires.1.0 c.requires.1.1.0 c.requires.1.1.1.0 c.requires.1.1.1.1
-    c.places_lent-lent.ensures.0 c.places_lent-lent.ensures.1 c.make-made.auto.list (omega arith) c.make-made.ensures.applies
-    in
-    record { says = h.0; list_after = h.1 }
+returns c = applies_back c.requires c.if-station-ne1.false c.one-one.ensures c.make-made.result.left c.make-made.ensures.applies c.put_back.ensures

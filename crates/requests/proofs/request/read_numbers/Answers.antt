@@ -1,24 +1,34 @@
-use mathlib.Core.Path.{refl, sym, ◌∙◌}
+use mathlib.Core.Path.{sym, ◌∙◌}
+use borrow.Author.Rules.{rules}
 use native.Mathlib.Omega.{arith}
-use Rattle.requests.proofs.Reading.{reads_missing, reads_all, reads_wrong, reads_more, reads_extra}
-use Rattle.text.specs.declared.number.Number.TheVariants as number
-use Rattle.requests.specs.declared.request.Reason.TheVariants as reason
+use Rattle.std.proofs.lemmas.Iterator.Consumers.{YieldsList-turn, YieldsList-end}
+use Rattle.requests.proofs.Reading.{error_is, words_of, word_left, words_end, reads_extra, reads_wrong, reads_more, reads_missing, reads_all}
+use Rattle.std.proofs.lemmas.List.{length_push}
+use Rattle.requests.specs.Requests.{reason_of}
 use Rattle.requests.proofs.request.read_numbers.Goals as goal
 
-pub returns-then-count-most : goal.returns-then-count-most
-returns-then-count-most c = reads_extra c.loop-at.invariant c.loop-at-test.true (omega (arith, c.if-count-most.true))
+pub returns-then-count-takes : goal.returns-then-count-takes
+returns-then-count-takes c =
+    let turn = YieldsList-turn (words_of c.args.text.now c.split.ensures.rest c.split.ensures.done c.split.ensures.closure (λ x b q k. search rules) c.skip-word-items.ensures.source c.skip-word-items.ensures.count c.into_iter-word-iterator.ensures.into_iter_gives) c.loop-word.yielded _ c.loop-word.yielded_by _ _ c.in-Some.word c.in-Some.is c.next.ensures.steps in
+    reads_extra c.loop-word.invariant.1 (word_left c.args.text.now turn c.loop-word.invariant.0) (omega (arith, c.if-count-takes.true))
 
-pub returns-in-NotANumber : goal.returns-in-NotANumber
-returns-in-NotANumber c = reads_wrong c.loop-at.invariant c.loop-at-test.true c.part_end-end.ensures (omega arith) (omega arith) number.NotANumber reason.NotANumber (λ rest. refl) (λ ns. refl) (sym c.read_number-number.ensures ∙ c.in-NotANumber.is)
+pub returns-in_err-numbers : goal.returns-in_err-numbers
+returns-in_err-numbers c =
+    let turn = YieldsList-turn (words_of c.args.text.now c.split.ensures.rest c.split.ensures.done c.split.ensures.closure (λ x b q k. search rules) c.skip-word-items.ensures.source c.skip-word-items.ensures.count c.into_iter-word-iterator.ensures.into_iter_gives) c.loop-word.yielded _ c.loop-word.yielded_by _ _ c.in-Some.word c.in-Some.is c.next.ensures.steps in
+    rw (error_is c.from_residual.result (reason_of c.in_err-numbers.field-0.0) c.from_residual.ensures.1)
+    (reads_wrong c.loop-word.invariant.1 (word_left c.args.text.now turn c.loop-word.invariant.0) (omega arith) c.in_err-numbers.field-0.0 (sym c.read_number.ensures ∙ c.in_err-numbers.was))
 
-pub returns-in-TooLarge : goal.returns-in-TooLarge
-returns-in-TooLarge c = reads_wrong c.loop-at.invariant c.loop-at-test.true c.part_end-end.ensures (omega arith) (omega arith) number.TooLarge reason.NumberTooLarge (λ rest. refl) (λ ns. refl) (sym c.read_number-number.ensures ∙ c.in-TooLarge.is)
+pub loop-word-preserved : goal.loop-word-preserved
+loop-word-preserved c =
+    let turn = YieldsList-turn (words_of c.args.text.now c.split.ensures.rest c.split.ensures.done c.split.ensures.closure (λ x b q k. search rules) c.skip-word-items.ensures.source c.skip-word-items.ensures.count c.into_iter-word-iterator.ensures.into_iter_gives) c.loop-word.yielded _ c.loop-word.yielded_by _ _ c.in-Some.word c.in-Some.is c.next.ensures.steps in
+    (omega (arith, length_push c.loop-word.yielded c.in-Some.word), reads_more c.loop-word.invariant.1 (word_left c.args.text.now turn c.loop-word.invariant.0) (omega arith) c.in_ok-numbers.field-0 (omega arith) (sym c.read_number.ensures ∙ c.in_ok-numbers.was))
 
-pub loop-at-preserved : goal.loop-at-preserved
-loop-at-preserved c = reads_more c.loop-at.invariant c.loop-at-test.true c.part_end-end.ensures (omega arith) (omega arith) c.in-Value.value (omega arith) (sym c.read_number-number.ensures ∙ c.in-Value.is)
-
-pub returns-then-count-least : goal.returns-then-count-least
-returns-then-count-least c = reads_missing c.loop-at.invariant c.loop-at-test.false (omega (arith, c.if-count-least.true))
+pub returns-then-count-takes-2 : goal.returns-then-count-takes-2
+returns-then-count-takes-2 c =
+    let end = YieldsList-end (words_of c.args.text.now c.split.ensures.rest c.split.ensures.done c.split.ensures.closure (λ x b q k. search rules) c.skip-word-items.ensures.source c.skip-word-items.ensures.count c.into_iter-word-iterator.ensures.into_iter_gives) c.loop-word.yielded _ c.loop-word.yielded_by _ _ c.in-None.is c.next.ensures.steps in
+    reads_missing c.loop-word.invariant.1 (words_end c.args.text.now end.1 c.loop-word.invariant.0) (omega (arith, c.if-count-takes-2.true))
 
 pub returns : goal.returns
-returns c = reads_all c.loop-at.invariant c.loop-at-test.false (omega (arith, c.if-count-least.false))
+returns c =
+    let end = YieldsList-end (words_of c.args.text.now c.split.ensures.rest c.split.ensures.done c.split.ensures.closure (λ x b q k. search rules) c.skip-word-items.ensures.source c.skip-word-items.ensures.count c.into_iter-word-iterator.ensures.into_iter_gives) c.loop-word.yielded _ c.loop-word.yielded_by _ _ c.in-None.is c.next.ensures.steps in
+    reads_all c.loop-word.invariant.1 (words_end c.args.text.now end.1 c.loop-word.invariant.0) (omega (arith, c.if-count-takes-2.false))

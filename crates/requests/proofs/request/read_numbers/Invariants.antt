@@ -1,11 +1,10 @@
--- `requests::read_numbers` meets its contract: the numbers in the list, and those that are left to read, are those of the request.
-use Prim.Native.Nat.{◌-◌}
-use lib.ListN.{length}
+-- `requests::read_numbers` meets its contract: the numbers in the list, and those of the words that are left, are those of the request.
+use Rattle.std.proofs.Common.{◌≡◌, length, drop}
+use Rattle.text.specs.Parts.{split}
 use Rattle.requests.proofs.Reading.{Reads}
 use Rattle.requests.proofs.request.read_numbers.Given as goal
 
-abbrev pub invariant-loop-at : goal.invariant-loop-at
-invariant-loop-at l = Reads l.text l.from l.least l.most l.initial.numbers l.numbers l.at l.count
-
-abbrev pub decreases-loop-at : goal.decreases-loop-at
-decreases-loop-at l = length l.text - l.at
+abbrev pub invariant-loop-word : goal.invariant-loop-word
+invariant-loop-word l =
+    (l.count ≡ length l.yielded)
+    × Reads (drop 1 (split 32 l.text)) l.takes.least l.takes.most l.initial.numbers l.numbers l.count

@@ -1,19 +1,16 @@
--- The invariant: the requests up to `from` are answered. The measure is what is left of the block.
-use mathlib.Core.Path.{◌≡◌}
-use Prim.Native.Nat.{◌-◌}
-use lib.ListN.{length}
+-- The invariant: the requests before what is left are answered. The measure is what is left.
+use Rattle.std.proofs.Common.{length, ◌-◌}
 use Rattle.station.specs.View.{view}
 use Rattle.session.specs.Turns.{Answers}
+use Rattle.session.proofs.Serving.{Left}
 use Rattle.session.proofs.turn.answer_requests.Given as goal
 
-abbrev pub invariant-loop-at : goal.invariant-loop-at
-invariant-loop-at l =
+abbrev pub invariant-loop-left : goal.invariant-loop-left
+invariant-loop-left l =
     record {
-      answers : Answers (view l.initial.next) l.block (record { station = l.next; from = l.from; at = l.at }) l.out;
-      numbers_long : length l.numbers ≡ length l.initial.numbers;
-      list_long : length l.list ≡ length l.initial.list;
-      out_long : length l.out ≡ length l.initial.out;
+      answers : Answers (view l.initial.station) l.block l.station (length l.block - length l.left) l.out;
+      left : Left l.block l.left;
     }
 
-abbrev pub decreases-loop-at : goal.decreases-loop-at
-decreases-loop-at l = length l.block - l.from
+abbrev pub decreases-loop-left : goal.decreases-loop-left
+decreases-loop-left l = length l.left

@@ -1,6 +1,0 @@
--- `text::print_one` meets its contract: its parts are printed one after another.
-use Rattle.text.proofs.Printing.{printed_as, printed_then}
-use Rattle.text.proofs.fields.print_one.Goals as goal
-
-pub returns : goal.returns
-returns c = printed_as (printed_then c.print_field-a.ensures.printed c.print_text.ensures) (search)
