@@ -44,11 +44,14 @@ rises_above a (x ∷ xs) low h =
     (rises_above (suc x) xs (λ l. h 0 (omega arith)) (λ k l. let e : suc k + 1 ≡ suc (k + 1) = omega arith in rw e at (h (suc k) (omega arith))))
 
 -- what the library says of neighbours that were compared
-pub rises_answer : (xs : List ℕ) (r : Bool) → IsAllAdjacentAnswer (λ x y b. b ≡ ltb x y) xs r → r ≡ rises_from 0 xs
-rises_answer xs true h = sym (rises_above 0 xs (λ l. omega arith) (λ k l. ltb-true (get_or xs k 0) (get_or xs (k + 1) 0) (sym (h k 0 l))))
-rises_answer xs false h = go (rises_from 0 xs) refl
+pub rises_answer : (xs : List ℕ) {ys : List ℕ} (r : Bool) → IsAllAdjacentAnswer (λ x y b. b ≡ ltb x y) ys r → ys ≡ xs → r ≡ rises_from 0 xs
+rises_answer xs r h e = answer r (rw e at h)
   where
-    go : (b : Bool) → rises_from 0 xs ≡ b → false ≡ b
-    go false e = refl
-    go true e =
-        absurd (omega (arith, ltb-false (get_or xs h.0 0) (get_or xs (h.0 + 1) 0) (sym (h.2 0)), rises_apart 0 xs e h.0 (h.0 + 1) (omega arith) h.1))
+    answer : (r : Bool) → IsAllAdjacentAnswer (λ x y b. b ≡ ltb x y) xs r → r ≡ rises_from 0 xs
+    answer true h = sym (rises_above 0 xs (λ l. omega arith) (λ k l. ltb-true (get_or xs k 0) (get_or xs (k + 1) 0) (sym (h k 0 l))))
+    answer false h = go (rises_from 0 xs) refl
+      where
+        go : (b : Bool) → rises_from 0 xs ≡ b → false ≡ b
+        go false e = refl
+        go true e =
+            absurd (omega (arith, ltb-false (get_or xs h.0 0) (get_or xs (h.0 + 1) 0) (sym (h.2 0)), rises_apart 0 xs e h.0 (h.0 + 1) (omega arith) h.1))

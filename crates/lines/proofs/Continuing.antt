@@ -16,7 +16,7 @@ use Rattle.rules.proofs.Fitting.{none_below_stays}
 use Rattle.charges.specs.declared.Charges.{Charges}
 use Rattle.charges.specs.Arrays.{charge_at, charges_of}
 use Rattle.profile.specs.declared.loads.Draw.{Draw}
-use Rattle.profile.specs.Shows as shown_as
+use Rattle.profile.specs.Shows as profile
 use Rattle.profile.specs.Shows.{Profile, LoadAdded, CanAdd}
 use Rattle.profile.proofs.Shown.{last_added}
 use Rattle.search.specs.declared.caps.LineCaps.{LineCaps}
@@ -70,7 +70,7 @@ module _ {size : ℕ} {caps : LineCaps} {k : Task} {line : ℕ} {left : List ℕ
       v.below v.near
 
   -- what it draws is added
-  module _ {a : Draw} (drawn : shown_as.draw_of a ≡ draw_of who) where
+  module _ {a : Draw} (drawn : profile.draw_of a ≡ draw_of who) where
     pub next_can_add : CanAdd p size a t.start
     next_can_add =
         plan_can_add h.ready.listed v.plan i t.start low_place near_now drawn (spacious_room b h.space) h.space.most
@@ -90,10 +90,14 @@ module _ {size : ℕ} {caps : LineCaps} {k : Task} {line : ℕ} {left : List ℕ
             let s = stood h.ready.listed v.are r.inside j low in rw s.same (w.shortest_low s.old s.inside);
       }
 
-  pub line_next : {a : Draw} → shown_as.draw_of a ≡ draw_of who → {after : Profile} → LoadAdded p after a t.start → LineSoFar cap b c line (remove left t.place) after (set by_place i t.start) t.crowd t.start
+  pub line_next :
+      {a : Draw} → profile.draw_of a ≡ draw_of who → {after : Profile} → LoadAdded p after a t.start
+      → LineSoFar cap b c line (remove left t.place) after (set by_place i t.start) t.crowd t.start
   line_next drawn {after} added =
       let one_less : length left ≡ suc (length (remove left t.place)) = omega (arith, length-remove left t.place r.inside) in
-      let below = none_below (crowd_of (of_line line (waiting_of b.clock c))) loads_now h.ready.listed on shown v.plan.shows v.are r number_now total_now v.below v.near in
+      let below =
+      none_below (crowd_of (of_line line (waiting_of b.clock c))) loads_now h.ready.listed on shown v.plan.shows v.are r number_now total_now
+      v.below v.near in
       record {
         placed = v.placed ++ (starting who t.start ∷ []);
         rest = without_ticket who.ticket v.rest;
@@ -104,8 +108,7 @@ module _ {size : ℕ} {caps : LineCaps} {k : Task} {line : ℕ} {left : List ℕ
             (next_picked (crowd_of (of_line line (waiting_of b.clock c))) loads_now h.ready.listed on shown v.plan.shows v.are r number_now total_now
             v.below v.near);
         are = left_next h.ready.listed v.are r.inside;
-        plan =
-            plan_on h.ready.listed v.plan i t.start low_place near_now drawn (v.fresh t.place r.inside) added;
+        plan = plan_on h.ready.listed v.plan i t.start low_place near_now drawn (v.fresh t.place r.inside) added;
         many = omega (arith, v.many, length-append v.placed (starting who t.start ∷ []));
         fresh = λ j low.
             let s = stood h.ready.listed v.are r.inside j low in

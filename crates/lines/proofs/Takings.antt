@@ -1,5 +1,5 @@
 -- The charge that the code takes is the one that the rules take: at the smallest start, and foremost there.
-use mathlib.Core.Logic.{◌⊎◌, inl, inr, ⊎_elim}
+use mathlib.Core.Logic.{inl, inr, ⊎_elim}
 use mathlib.Core.Path.{◌≡◌, refl, sym, ◌∙◌, ap, subst}
 use Prim.Native.Nat.{ℕ, ◌-◌, ◌*◌, max, ◌≤◌, ◌<◌}
 use mathlib.Core.Bool.{Bool, true, false, ◌||◌, true≢false}
@@ -19,6 +19,7 @@ use Rattle.rules.proofs.Foremost.{foremost_first}
 use Rattle.charges.specs.declared.Charges.{Charges}
 use Rattle.charges.specs.Held.{Listed}
 use Rattle.profile.specs.Shows.{Profile, Shows}
+use Rattle.profile.proofs.Levels.{same_or_not}
 use Rattle.search.specs.declared.caps.LineCaps.{LineCaps}
 use Rattle.search.specs.Caps.{CapsShown, room_under}
 use Rattle.search.proofs.Unders.{run_shows, misses_fails}
@@ -135,7 +136,7 @@ module _ {cap : Caps} {caps : LineCaps} {site clock : ℕ} {c : Charges} {line :
   foremost_is = go (taken_some (taken_before own s) (fits s) rest some_fits)
     where
       go : Taken (taken_before own s) (keep (fits s) rest) → foremost (taken_before own s) (keep (fits s) rest) ≡ chosen (left_at c left next.place)
-      go t = t.gives ∙ ap chosen (split (below_or_not w.place next.place) (below_or_not next.place w.place))
+      go t = t.gives ∙ ap chosen (⊎_elim (λ e. w.is ∙ ap (left_at c left) e) other (same_or_not w.place next.place))
         where
           w : PlaceOf (left_at c left) (length left) t.who
           w = are.from t.who (among_keep (fits s) t.who rest t.member)
@@ -157,11 +158,6 @@ module _ {cap : Caps} {caps : LineCaps} {site clock : ℕ} {c : Charges} {line :
               ∙ subst (λ (y : Charge). taken_before own s (left_at c left next.place) y ≡ false) w.is
               (among_each (λ x. taken_before own s x t.who ≡ false)
               (among_kept (fits s) (are.to next.place r.inside) taken_fits) first.1)))
-
-          split : (w.place < next.place) ⊎ (next.place ≤ w.place) → (next.place < w.place) ⊎ (w.place ≤ next.place) → t.who ≡ left_at c left next.place
-          split (inl l) m = other (λ e. omega arith)
-          split (inr l) (inl m) = other (λ e. omega arith)
-          split (inr l) (inr m) = let e : w.place ≡ next.place = omega arith in w.is ∙ ap (left_at c left) e
 
   pub next_picked : picked (fits_at site cap) clock loads own rest ≡ chosen (starting (left_at c left next.place) s)
   next_picked = picked_is (fits_at site cap) clock loads own rest s (left_at c left next.place) first-is foremost_is

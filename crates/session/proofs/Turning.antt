@@ -57,11 +57,11 @@ turned_last {s} {count} {block} {next} {r} {out} e l =
       within = omega (arith, l.none_held);
     }
 
--- Up to where the bytes that are left stay, and what is wanted then: all of them stay where the buffer is full, and else what
+-- Up to where the bytes that are left stay, and what is wanted then: all of them stay where there is no more room, and else what
 -- is kept of the last request.
-pub data Stays (at filled kept to : ℕ) (wants : Wants) : Type 0 where
-  all : full < at → to ≡ filled → wants ≡ Space → Stays at filled kept to wants
-  part : at ≤ full → to ≡ kept → wants ≡ Bytes → Stays at filled kept to wants
+pub data Stays (printed from filled to : ℕ) (wants : Wants) : Type 0 where
+  all : full < printed → to ≡ filled → wants ≡ Space → Stays printed from filled to wants
+  part : printed ≤ full → KeptTo from filled to → wants ≡ Bytes → Stays printed from filled to wants
 
 -- the bytes from `from` on that stay, moved to the front
 carried_front :
@@ -142,12 +142,11 @@ module _ (s : Session) (count : ℕ) (block : List ℕ) {station : Station} {fro
         within = omega (arith, c.0, kt.low, kt.high, ap length c.1, length-append (slice from to block) (drop (to - from) block), length-slice from to block (omega (arith, kt.high)));
       }
 
-  -- either, for a session that has the station and the end of the text
+  -- either
   pub turned_on :
-      {kept to held : ℕ} {q : Station} {wants : Wants} {next : List ℕ} → Stops (take filled block) from out → KeptTo from filled kept
-      → Stays (length out) filled kept to wants
+      {to held : ℕ} {wants : Wants} {next : List ℕ} → Stops (take filled block) from out
+      → Stays (length out) from filled to wants
       → (held ≡ to - from) × (next ≡ slice from to block ++ drop (to - from) block)
-      → q ≡ station
-      → Turned s count block (record { station = q; held = held; wants = wants }) next out
-  turned_on st k (all f e w) c same = rw (same, w) (turned_full f (rw e at c))
-  turned_on st k (part f e w) c same = rw (same, w) (turned_waiting f st k (rw e at c))
+      → Turned s count block (record { station = station; held = held; wants = wants }) next out
+  turned_on st (all f e w) c = rw w (turned_full f (rw e at c))
+  turned_on st (part f k w) c = rw w (turned_waiting f st k c)

@@ -62,11 +62,7 @@ fn kept_to(from: usize, filled: usize) -> usize
     requires { from ≤ filled }
     ensures { KeptTo from filled result }
 {
-    if filled - from > 4097 {
-        from + 4097
-    } else {
-        filled
-    }
+    from + (filled - from).min(4097)
 }
 
 fn input_ends(wants: Wants, count: usize) -> bool
@@ -107,12 +103,11 @@ impl Session {
         let filled = self.held + count;
         let station = &mut self.station;
         let from = answer_requests(station, &block[..filled], lists, out);
-        let mut to = kept_to(from, filled);
-        let mut then = Wants::Bytes;
-        if out.as_bytes().len() > FULL {
-            to = filled;
-            then = Wants::Room;
-        }
+        let (to, then) = if out.as_bytes().len() > FULL {
+            (filled, Wants::Room)
+        } else {
+            (kept_to(from, filled), Wants::Bytes)
+        };
         self.held = carry(block, from, to);
         self.wants = then;
     }

@@ -1,5 +1,5 @@
 -- A record that is not right, or the plan by its own test.
-use mathlib.Core.Path.{refl, sym, ◌∙◌}
+use mathlib.Core.Path.{sym, ◌∙◌}
 use Rattle.validity.proofs.Settling.{valid_fails, valid_told, all_profiled}
 use Rattle.station.proofs.Held.{none_others}
 use Rattle.validity.proofs.Alone.{alone_spacious}

@@ -15,7 +15,7 @@ from_both : {A B C : Type 0} → (A → B → C) → A × B → C
 from_both f p = f p.0 p.1
 
 pub beside-beside-requires : goal.beside-beside-requires
-beside-beside-requires c = none_others _ c.none.ensures
+beside-beside-requires c = none_others _ (search c.none.ensures)
 
 pub commit-done-requires : goal.commit-done-requires
 commit-done-requires c = (station_of c.args.one, (alone_of c.requires, alone_names c.requires _, ap (λ (r : Result). r.answer) c.preview_alone-found.ensures.result))

@@ -1,5 +1,7 @@
+-- Of a line its own waiting charges are left first, and each turn places the one that the rules take.
 use native.Mathlib.Omega.{arith}
 use mathlib.Core.Path.{refl, ap}
+use Prim.Native.Nat.{ℕ}
 use lib.ListN.{length}
 use Rattle.std.proofs.lemmas.List.Edits.{length-remove}
 use Rattle.lines.proofs.Beginning.{own_range, line_start}
@@ -31,7 +33,7 @@ add-requires g c =
 pub loop-next-smaller : goal.loop-next-smaller
 loop-next-smaller g c =
     let r = rw (c.steps.ensures, c.as_slice-in-loop-next.ensures.0) at c.in-Some.ensures in
-    omega (arith, ap length c.remove.ensures, length-remove c.loop-next.left c.in-Some.next.place r.inside)
+    omega (arith, ap length c.remove.ensures, length-remove {X = ℕ})
 
 pub loop-next-preserved : goal.loop-next-preserved
 loop-next-preserved g c =

@@ -1,3 +1,4 @@
+-- Line by line, from no waiting charge placed.
 use native.Mathlib.Omega.{arith}
 use mathlib.Core.Path.{refl}
 use Rattle.lines.proofs.Beginning.{lines_start}

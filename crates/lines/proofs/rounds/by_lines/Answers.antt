@@ -1,3 +1,4 @@
+-- Each round that lowers a cap leaves one less.
 use native.Mathlib.Omega.{arith}
 use Rattle.planner.proofs.Showing.{listed_profiled}
 use Rattle.lines.proofs.Counting.{rounds_start, rounds_spent, rounds_done, rounds_next}
