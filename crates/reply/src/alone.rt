@@ -18,14 +18,24 @@ fn put_back(station: &mut Station, one: One)
     station.feeders[0] = one.feeder;
 }
 
+// A call of a station of several feeders. It is not inlined, since room for a whole station is cleared at each call of the function it
+// stands in.
+#[inline(never)]
+fn make_of_several(station: &mut Station, call: Call, numbers: &[u32], list: &mut [u32]) -> Answer
+    requires { Valid station.old }
+    ensures { Applies (view station.old) call numbers.now list.old list.new result station.new }
+{
+    let applied = calls::apply(*station, call, numbers, list);
+    *station = applied.station;
+    applied.answer
+}
+
 pub fn make(station: &mut Station, call: Call, numbers: &[u32], list: &mut [u32]) -> Answer
     requires { Valid station.old }
     ensures { Applies (view station.old) call numbers.now list.old list.new result station.new }
 {
     if station.count != 1 {
-        let applied = calls::apply(*station, call, numbers, list);
-        *station = applied.station;
-        return applied.answer;
+        return make_of_several(station, call, numbers, list);
     }
     let one = station.one(0);
     if calls::keeps(call) {

@@ -6,14 +6,16 @@ pub mod alone;
 ghost use Rattle.std.specs.Prelude.{◌≡◌, ◌+◌, ◌≤◌, ◌++◌, length, drop, take};
 ghost use Rattle.std.proofs.lemmas.List.Edits.{sets};
 ghost use Rattle.requests.specs.Requests.{read_request, request_values, meaning, Fits, Asks};
+ghost use Rattle.rules.specs.Calls.{opening};
 ghost use Rattle.station.specs.View.{view, Valid};
+ghost use Rattle.station.specs.Opened.{asked_of, Opens};
 ghost use Rattle.reply.specs.Reply.{reply, answered, lent_by, lent_to, request_written, said_text, SaidFits, Says, Replied, places_of};
 
 use crate::alone::make;
 use calls::Answer;
 use requests::{Reason, Request};
 use station::Station;
-use station::open::OpenAnswer;
+use station::open::{Asked, OpenAnswer};
 use text::Text;
 
 // The lists that are lent to a call: for the numbers of its request, and for what it writes.
@@ -58,6 +60,16 @@ pub fn read(text: &[u8], lists: &mut Lists) -> Result<Request, Reason>
     Ok(request)
 }
 
+// Opens the station anew. It is not inlined, since room for a whole station is cleared at each call of the function it stands in.
+#[inline(never)]
+fn reopen(station: &mut Station, asked: Asked) -> OpenAnswer
+    ensures { Opens (opening (asked_of asked)) result station.new }
+{
+    let opened = Station::open(asked);
+    *station = opened.station;
+    opened.answer
+}
+
 // Does what a request asks for, with the lists that `read` left.
 pub fn reply_request(
     station: &mut Station,
@@ -72,9 +84,8 @@ pub fn reply_request(
     match request {
         Request::Nothing => Said::Nothing,
         Request::Open { asked } => {
-            let opened = Station::open(asked);
-            *station = opened.station;
-            Said::Opening(opened.answer)
+            let answer = reopen(station, asked);
+            Said::Opening(answer)
         }
         Request::Call {
             call,
