@@ -5,10 +5,12 @@ ghost use Rattle.std.specs.Prelude.{◌≡◌, ◌&&◌, ◌≤◌, leb, ltb, le
 ghost use Rattle.rules.specs.Basics.{first_of};
 ghost use Rattle.rules.specs.Site.{places, State};
 ghost use Rattle.rules.specs.Calls.{refusals, board as board_call, rises_from, not_held, written};
+ghost use Rattle.refusals.specs.Refusals.{refusal_in};
 ghost use Rattle.charges.specs.Arrays.{charges_of};
 ghost use Rattle.boards.specs.Board.{CanBoard, Boarded};
 
 use charges::{Charges, PLACES};
+use refusals::Refusal;
 
 // "4,294,967,295 for one not held"
 const NOT_HELD: u32 = u32::MAX;
@@ -20,17 +22,17 @@ fn rises(list: &[u32]) -> bool
     list.is_sorted_by(|before, next| *before < *next)
 }
 
-// The number of the first refusal of a board, 0 where none applies, whatever the station holds.
-pub fn board_refusal(asked: &[u32], answers: &[u32]) -> u32
-    ensures { (s : State) → result ≡ first_of (refusals s (board_call asked.now answers.now)) }
+// The first refusal of a board, whatever the station holds.
+pub fn board_refusal(asked: &[u32], answers: &[u32]) -> Result<(), Refusal>
+    ensures { (s : State) → refusal_in result ≡ first_of (refusals s (board_call asked.now answers.now)) }
 {
     if !rises(asked) || PLACES < asked.len() {
-        return 23;
+        return Err(Refusal::TicketsNotRising);
     }
     if answers.len() < asked.len() {
-        return 24;
+        return Err(Refusal::AnswersTooShort);
     }
-    0
+    Ok(())
 }
 
 // Whether a charge is held at the place, with a ticket that is not above this one.

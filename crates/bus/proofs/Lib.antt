@@ -1,4 +1,4 @@
-pub mod Calling
+pub mod Copying
 pub mod Openings
 pub mod Chaining
 pub mod Returning

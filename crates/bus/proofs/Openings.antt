@@ -1,55 +1,34 @@
 -- The ways that an opening can go: refused by the size of the image or by its own table, of several feeders, and saved.
 use mathlib.Core.Path.{◌≡◌, refl, sym, ap, subst, ◌∙◌}
-use Prim.Native.Nat.{ℕ, zero, suc, ◌<◌}
+use Prim.Native.Nat.{ℕ, zero, suc}
 use native.Mathlib.Omega.{arith}
-use mathlib.Core.Bool.{Bool, true, false, cond}
+use mathlib.Core.Bool.{Bool, true, false}
 use mathlib.Core.List.{List, [], ◌∷◌, map}
-use lib.ListN.{length, take}
+use lib.ListN.{length, take, get_or}
 use borrow.Author.Tests.{eqb-true, eqb-false}
+use Rattle.std.specs.Prelude.{Result, Ok, Err}
 use Rattle.rules.specs.Basics.{first_of}
 use Rattle.rules.specs.Site.{State, Feeder}
-use Rattle.rules.specs.Calls.{Asked, Answer, refused, opened, previewed, committed, moved, planned, waiting, charging, looked, withdrawn, Result, fresh, least, open_refusals, answering, opening, written}
+use Rattle.rules.specs.Calls.{Asked, Answer, refused, opened, previewed, committed, moved, planned, waiting, charging, looked, withdrawn, Result as Given, fresh, least, open_refusals, answering, opening, written}
 use Rattle.rules.proofs.Sites.{map_length}
+use Rattle.refusals.specs.declared.Refusal.{Refusal}
+use Rattle.refusals.specs.declared.Refusal.TheVariants.{ImageLength}
+use Rattle.refusals.specs.Refusals.{number_of}
 use Rattle.layout.specs.Image.{image_of}
 use Rattle.layout.specs.Blocks.{differing}
 use Rattle.layout.specs.Saving.{SaveResult, has_one, saving}
 use Rattle.layout.proofs.Refusing.{saving_written, saving_several, saving_refused}
 use Rattle.station.specs.declared.Station.{Station}
 use Rattle.station.specs.View.{view}
-use Rattle.station.specs.declared.open.OpenAnswer.{OpenAnswer}
-use Rattle.station.specs.declared.open.OpenAnswer.TheVariants.{Opened, Refused}
+use Rattle.station.specs.declared.open.Opened.{Opened}
 use Rattle.station.specs.Opened.{open_answer, Opens as OpensStation}
-use Rattle.image.specs.declared.saving.Saved.{Saved}
+use Rattle.station.proofs.Refusing.{number_some}
 use Rattle.image.specs.Answers.{Saves}
-use Rattle.service.specs.Left.{told, told_over, leaving, left, Whole}
-use Rattle.service.proofs.Serving.{refused_left}
-use Rattle.bus.specs.Images.{opened_over, Opens}
-
--- how it ends with an answer: its number, the numbers behind the references and the image
-pub record Ends (a : Answer) (s : State) (numbers image : List ℕ) (number : ℕ) (behind after : List ℕ) : Type 0 where
-  pub number_is : number ≡ (told a).number
-  pub numbers_are : behind ≡ written (told_over image a s) numbers
-  pub image_is : after ≡ cond (told a).is_refused image (image_of s)
-
-pub end_refused :
-    {a : Answer} {k number : ℕ} {s : State} {numbers behind image after : List ℕ}
-    → a ≡ refused k
-    → number ≡ k
-    → behind ≡ numbers
-    → after ≡ image
-    → Ends a s numbers image number behind after
-end_refused e n b i = record { number_is = rw e n; numbers_are = rw e b; image_is = rw e i }
-
--- `x` is the answer taken apart, of which the numbers can be read
-pub end_saved :
-    {a x : Answer} {s : State} {numbers behind image after : List ℕ} {number : ℕ}
-    → a ≡ x
-    → (told x).is_refused ≡ false
-    → number ≡ (told x).number
-    → behind ≡ written (differing image (image_of s) ∷ (told x).numbers) numbers
-    → after ≡ image_of s
-    → Ends a s numbers image number behind after
-end_saved e f n b i = record { number_is = rw e n; numbers_are = rw (e, f) b; image_is = rw (e, f) i }
+use Rattle.service.specs.Left.{leaving, left, Whole}
+use Rattle.service.proofs.Serving.{saved_blocks, saved_whole, refused_left}
+use Rattle.bus.specs.declared.open.Told.{Told}
+use Rattle.bus.specs.Images.{opened_over, OpenedOver}
+use Rattle.bus.proofs.Copying.{save_refused}
 
 -- The answer and the station of an opening
 
@@ -66,7 +45,7 @@ Fits (charging start end rate) s = Unit {0}
 Fits (looked count) s = Unit {0}
 Fits withdrawn s = Unit {0}
 
-abbrev given : Asked → Result
+abbrev given : Asked → Given
 given x = record { answer = opened (map (λ (g : Feeder). g.bound) (fresh x).feeders); state = fresh x; list = [] }
 
 opening_fits : (x : Asked) → Fits (opening x).answer (opening x).state
@@ -87,45 +66,48 @@ saved_one s image w e = go (has_one s) refl
         let several : (saving s image image).refusal ≡ 22 = ap (λ (r : SaveResult). r.refusal) (saving_several s image image (eqb-false (length s.feeders) 1 f) w w) in
         absurd (omega (arith, several, e))
 
--- the first of the bounds is the only one
-only_bound : (count one two three four : ℕ) → length (take count (one ∷ two ∷ three ∷ four ∷ [])) ≡ 1
-    → take count (one ∷ two ∷ three ∷ four ∷ []) ≡ one ∷ []
-only_bound zero one two three four e = absurd (omega (arith, e))
-only_bound (suc zero) one two three four e = refl
-only_bound (suc (suc k)) one two three four e = absurd (omega (arith, e))
+-- where the only bound is told, it is the first
+only_bound : (count : ℕ) (bounds : List ℕ) → length (take count bounds) ≡ 1 → take count bounds ≡ get_or bounds 0 0 ∷ []
+only_bound zero bounds e = absurd (omega (arith, e))
+only_bound (suc count) [] e = absurd (omega (arith, e))
+only_bound (suc count) (b ∷ bounds) e = ap (λ (bs : List ℕ). b ∷ bs) (none (take count bounds) (omega (arith, e)))
+  where
+    none : (bs : List ℕ) → length bs ≡ 0 → bs ≡ []
+    none [] e = refl
+    none (b ∷ bs) e = absurd (omega (arith, e))
 
 -- Over an image
 
-module _ {numbers image behind after : List ℕ} {x : Asked} {number : ℕ} where
+module _ {image after : List ℕ} {x : Asked} where
   -- refused by the save, for its size or for several feeders
-  open_unsaved :
-      0 < number
-      → number ≡ (saving (opening x).state image image).refusal
-      → behind ≡ numbers
-      → after ≡ image
-      → Opens numbers image x number behind after
+  open_unsaved : (k : Refusal) → number_of k ≡ (saving (opening x).state image image).refusal → after ≡ image → OpenedOver image x (Err k) after
   unfolding opened_over
-  open_unsaved h n b i =
+  open_unsaved k n i =
       record {
         result =
-            rw (b, i) (
-            refused_left number numbers image [] (opening x).state (opening x) h
-            ∙ ap (λ (k : ℕ). left numbers image (answering k (opening x).state [] (opening x))) n
+            λ numbers.
+            rw i (
+            refused_left (number_of k) numbers image [] (opening x).state (opening x) (number_some k)
+            ∙ ap (λ (j : ℕ). left numbers image (answering j (opening x).state [] (opening x))) n
             );
       }
 
-  pub open_unsized : (Whole image → ⊥) → number ≡ 20 → behind ≡ numbers → after ≡ image → Opens numbers image x number behind after
-  open_unsized h n b i =
-      open_unsaved (omega (arith, n))
-      (n ∙ sym (ap (λ (r : SaveResult). r.refusal) (saving_refused (opening x).state image image (λ p q. h p)))) b i
+  pub open_unsized : (k : Refusal) → (Whole image → ⊥) → k ≡ ImageLength → after ≡ image → OpenedOver image x (Err k) after
+  open_unsized k h e i =
+      open_unsaved k
+      (ap number_of e ∙ sym (ap (λ (r : SaveResult). r.refusal) (saving_refused (opening x).state image image (λ p q. h p)))) i
 
-ends_left :
-    {r : Result} {a : OpenAnswer} {s : Station} {numbers image behind after : List ℕ} {number : ℕ}
-    → OpensStation r a s
-    → Ends (open_answer a) (view s) numbers image number behind after
-    → leaving number behind after [] ≡ left numbers image r
-unfolding left
-ends_left g h = rw (h.number_is, h.numbers_are, h.image_is) (ap (left _ _) g.result)
+  pub open_several :
+      {s : Station} {a : Result Opened Refusal} {q : Result ℕ Refusal} (k : Refusal)
+      → OpensStation (opening x) a s
+      → Saves (view s) image image after q
+      → q ≡ Err k
+      → OpenedOver image x (Err k) after
+  open_several {s} k g v e =
+      let unsaved : Saves (view s) image image after (Err k) = rw e at v in
+      open_unsaved k
+      (ap (λ (y : SaveResult). y.refusal) unsaved.result ∙ ap (λ (y : Given). (saving y.state image image).refusal) g.result)
+      (save_refused k unsaved)
 
 -- an opening whose station has one feeder
 opened_is :
@@ -136,50 +118,57 @@ opened_is :
 unfolding opened_over
 opened_is numbers image x w one = rw (saving_written (opening x).state image image one w w) refl
 
-answer_fits : (x : Asked) {r : Result} {a : OpenAnswer} {s : Station} → r ≡ opening x → OpensStation r a s → Fits (open_answer a) (view s)
-answer_fits x same g = subst (λ (r : Result). Fits r.answer r.state) (sym (g.result ∙ same)) (opening_fits x)
+-- what is left of an image by an answer with these numbers, and by a refusal
+left_opened :
+    (numbers image bounds : List ℕ) (s : State)
+    → leaving 0 (written (differing image (image_of s) ∷ bounds) numbers) (image_of s) []
+    ≡ left numbers image (record { answer = opened bounds; state = s; list = [] })
+unfolding left
+left_opened numbers image bounds s = refl
 
-pub one_saved :
-    {s : State} {image after : List ℕ} {saved : Saved}
+left_refused :
+    (numbers image : List ℕ) (k : ℕ) (s : State)
+    → leaving k numbers image [] ≡ left numbers image (record { answer = refused k; state = s; list = [] })
+unfolding left
+left_refused numbers image k s = refl
+
+answer_fits : (x : Asked) {a : Result Opened Refusal} {s : Station} → OpensStation (opening x) a s → Fits (open_answer a) (view s)
+answer_fits x g = subst (λ (r : Given). Fits r.answer r.state) (sym g.result) (opening_fits x)
+
+given_left :
+    (numbers image : List ℕ) (x : Asked) {s : Station} {a : Result Opened Refusal}
     → Whole image
-    → Saves s image image after saved
-    → saved.answer ≡ 0
-    → length s.feeders ≡ 1
-one_saved {s} {image} w v z = saved_one s image w (sym (ap (λ (r : SaveResult). r.refusal) v.result) ∙ z)
+    → OpensStation (opening x) a s
+    → length (view s).feeders ≡ 1
+    → left numbers image (record { answer = open_answer a; state = view s; list = [] }) ≡ opened_over numbers image x
+given_left numbers image x w g one =
+    ap (left numbers image) g.result
+    ∙ opened_is numbers image x w (sym (ap (λ (r : Given). length r.state.feeders) g.result) ∙ one)
 
-module _ {numbers image behind after : List ℕ} {x : Asked} {number : ℕ} {r : Result} {a : OpenAnswer} {s : Station} (w : Whole image)
-    (g : OpensStation r a s) (same : r ≡ opening x) where
-  open_left :
-      length (view s).feeders ≡ 1
-      → Ends (open_answer a) (view s) numbers image number behind after
-      → Opens numbers image x number behind after
-  open_left one h =
-      let feeders : length (opening x).state.feeders ≡ 1 = sym (ap (λ (y : Result). length y.state.feeders) (g.result ∙ same)) ∙ one in
-      record { result = ends_left g h ∙ ap (left numbers image) same ∙ opened_is numbers image x w feeders }
+module _ {image after : List ℕ} {x : Asked} {s : Station} (w : Whole image) where
+  pub open_refused : {a : Result Opened Refusal} (k : Refusal) → OpensStation (opening x) a s → a ≡ Err k → after ≡ image → OpenedOver image x (Err k) after
+  open_refused k g e i =
+      let gives : OpensStation (opening x) (Err k) s = rw e at g in
+      record { result = λ numbers. rw i (left_refused numbers image (number_of k) (view s) ∙ given_left numbers image x w gives (answer_fits x gives)) }
 
-  pub open_refused :
-      {k : ℕ} → a ≡ Refused k → number ≡ k → behind ≡ numbers → after ≡ image → Opens numbers image x number behind after
-  open_refused e n b i =
-      open_left (subst (λ (z : OpenAnswer). Fits (open_answer z) (view s)) e (answer_fits x same g)) (end_refused (ap open_answer e) n b i)
-
-  module _ {saved : Saved} {after_save : List ℕ} (v : Saves (view s) image image after_save saved) where
-    pub open_several : 0 < saved.answer → number ≡ saved.answer → behind ≡ numbers → after ≡ image → Opens numbers image x number behind after
-    open_several h n b i =
-        open_unsaved (omega (arith, h, n))
-        (n ∙ ap (λ (y : SaveResult). y.refusal) v.result
-        ∙ ap (λ (y : Result). (saving y.state image image).refusal) (g.result ∙ same)) b i
-
-    pub open_saved :
-        {count one two three four : ℕ}
-        → saved.answer ≡ 0
-        → a ≡ Opened count one two three four
-        → number ≡ 0
-        → behind ≡ written (differing image (image_of (view s)) ∷ one ∷ []) numbers
-        → after ≡ image_of (view s)
-        → Opens numbers image x number behind after
-    open_saved {count} {one} {two} {three} {four} z e n b i =
-        let single : length (view s).feeders ≡ 1 = one_saved w v z in
-        let fits : length (take count (one ∷ two ∷ three ∷ four ∷ [])) ≡ length (view s).feeders =
-        subst (λ (t : OpenAnswer). Fits (open_answer t) (view s)) e (answer_fits x same g) in
-        open_left single
-        (end_saved (ap open_answer e ∙ ap opened (only_bound count one two three four (fits ∙ single))) refl n b i)
+  pub open_saved :
+      {a : Result Opened Refusal} {q : Result ℕ Refusal} (o : Opened) (t : Told)
+      → OpensStation (opening x) a s
+      → Saves (view s) image image after q
+      → a ≡ Ok o
+      → q ≡ Ok t.blocks
+      → t.bound ≡ get_or o.bounds 0 0
+      → OpenedOver image x (Ok t) after
+  open_saved o t g v e b f =
+      let gives : OpensStation (opening x) (Ok o) s = rw e at g in
+      let kept : Saves (view s) image image after (Ok t.blocks) = rw b at v in
+      let one : length (view s).feeders ≡ 1 = saved_one (view s) image w (sym (ap (λ (r : SaveResult). r.refusal) kept.result)) in
+      let bounds : take o.count o.bounds ≡ get_or o.bounds 0 0 ∷ [] = only_bound o.count o.bounds (answer_fits x gives ∙ one) in
+      record {
+        result =
+            λ numbers.
+            rw (saved_blocks one w kept, f, saved_whole one w kept)
+            (ap (λ (bs : List ℕ). leaving 0 (written (differing image (image_of (view s)) ∷ bs) numbers) (image_of (view s)) []) (sym bounds)
+            ∙ left_opened numbers image (take o.count o.bounds) (view s)
+            ∙ given_left numbers image x w gives one);
+      }

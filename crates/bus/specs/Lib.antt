@@ -1,4 +1,3 @@
-pub mod Askings
 pub mod Images
 pub mod Plans
 pub mod Chains

@@ -16,11 +16,12 @@ pub extern "C" fn togbeyis_board(
 ) -> u32
     ensures { Leaves (blocks.old ∷ looked.old ∷ []) image.old (board_call asked.now answers.old) result (blocks.new ∷ looked.new ∷ []) image.new answers.new }
 {
-    let told = serve(image, Call::Board, asked, answers);
-    if 0 < told.refusal {
-        return told.refusal;
+    match serve(image, Call::Board, asked, answers) {
+        Ok(told) => {
+            *blocks = told.blocks;
+            *looked = told.looked;
+            0
+        }
+        Err(refusal) => refusal.number(),
     }
-    *blocks = told.blocks;
-    *looked = told.looked;
-    0
 }

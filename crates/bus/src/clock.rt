@@ -18,12 +18,13 @@ pub extern "C" fn togbeyis_move(
     ensures { Leaves (blocks.old ∷ reported.old ∷ dropped.old ∷ []) image.old (move_call target report.old) result (blocks.new ∷ reported.new ∷ dropped.new ∷ []) image.new report.new }
 {
     let call = Call::Move { target };
-    let told = serve(image, call, &[], report);
-    if 0 < told.refusal {
-        return told.refusal;
+    match serve(image, call, &[], report) {
+        Ok(told) => {
+            *blocks = told.blocks;
+            *reported = told.reported;
+            *dropped = told.dropped;
+            0
+        }
+        Err(refusal) => refusal.number(),
     }
-    *blocks = told.blocks;
-    *reported = told.reported;
-    *dropped = told.dropped;
-    0
 }

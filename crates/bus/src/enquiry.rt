@@ -19,16 +19,17 @@ pub extern "C" fn togbeyis_enquire(
     ensures { Leaves (blocks.old ∷ charging.old ∷ start.old ∷ rate.old ∷ end.old ∷ []) image.old (enquire_call ticket) result (blocks.new ∷ charging.new ∷ start.new ∷ rate.new ∷ end.new ∷ []) image.new [] }
 {
     let call = Call::Enquire { ticket };
-    let told = serve_alone(image, call);
-    if 0 < told.refusal {
-        return told.refusal;
+    match serve_alone(image, call) {
+        Ok(told) => {
+            *blocks = told.blocks;
+            *charging = told.charging;
+            *start = told.start;
+            *rate = told.rate;
+            if 0 < told.charging {
+                *end = told.end;
+            }
+            0
+        }
+        Err(refusal) => refusal.number(),
     }
-    *blocks = told.blocks;
-    *charging = told.charging;
-    *start = told.start;
-    *rate = told.rate;
-    if 0 < told.charging {
-        *end = told.end;
-    }
-    0
 }

@@ -7,7 +7,6 @@ pub mod board;
 pub mod clock;
 pub mod copy;
 pub mod enquiry;
-pub mod given;
 pub mod open;
 pub mod order;
 pub mod plan;

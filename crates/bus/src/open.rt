@@ -1,12 +1,35 @@
 // An opening, which reads no image: whatever the list holds, it becomes the image of the fresh station, if this has one feeder.
 ghost use Rattle.std.specs.Prelude.{[], ◌∷◌};
-ghost use Rattle.bus.specs.Askings.{asked_from};
-ghost use Rattle.bus.specs.Images.{Opens};
+ghost use Rattle.station.specs.Opened.{asked_of, asked_from};
+ghost use Rattle.bus.specs.Images.{OpenedOver, Opens};
 
-use crate::given::asked_from;
+use blocks::contents::IMAGE;
 use image::saving::save_back;
+use refusals::Refusal;
 use station::Station;
-use station::open::OpenAnswer;
+use station::open::Asked;
+
+// What an opening tells: the bound D of the only feeder, and how many blocks of the image changed.
+#[derive(Clone, Copy)]
+struct Told {
+    bound: u32,
+    blocks: u32,
+}
+
+fn opened_over(image: &mut [u8], asked: Asked) -> Result<Told, Refusal>
+    ensures { OpenedOver image.old (asked_of asked) result image.new }
+{
+    if image.len() != IMAGE {
+        return Err(Refusal::ImageLength);
+    }
+    let opened = Station::open(asked);
+    let bounds = opened.answer?.bounds;
+    let blocks = save_back(&opened.station, image)?;
+    Ok(Told {
+        bound: bounds[0],
+        blocks,
+    })
+}
 
 #[unsafe(no_mangle)]
 pub extern "C" fn togbeyis_open(
@@ -19,30 +42,12 @@ pub extern "C" fn togbeyis_open(
 ) -> u32
     ensures { Opens (blocks.old ∷ bound.old ∷ []) image.old (asked_from count site settings.now) result (blocks.new ∷ bound.new ∷ []) image.new }
 {
-    if image.len() != 4608 {
-        return 20;
-    }
-    let asked = asked_from(count, site, settings);
-    let opened = Station::open(asked);
-    let answer = opened.answer;
-    match answer {
-        OpenAnswer::Opened {
-            count: feeders,
-            one,
-            two,
-            three,
-            four,
-        } => {
-            let station = opened.station;
-            let saved = save_back(&station, image);
-            let refusal = saved.answer;
-            if 0 < refusal {
-                return refusal;
-            }
-            *blocks = saved.blocks;
-            *bound = one;
+    match opened_over(image, Asked::from_numbers(count, site, settings)) {
+        Ok(told) => {
+            *blocks = told.blocks;
+            *bound = told.bound;
             0
         }
-        OpenAnswer::Refused(number) => number,
+        Err(refusal) => refusal.number(),
     }
 }

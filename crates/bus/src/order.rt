@@ -28,13 +28,14 @@ pub extern "C" fn togbeyis_preview(
         rate,
     };
     let call = Call::Preview { order };
-    let told = serve_alone(image, call);
-    if 0 < told.refusal {
-        return told.refusal;
+    match serve_alone(image, call) {
+        Ok(told) => {
+            *blocks = told.blocks;
+            *start = told.start;
+            0
+        }
+        Err(refusal) => refusal.number(),
     }
-    *blocks = told.blocks;
-    *start = told.start;
-    0
 }
 
 #[unsafe(no_mangle)]
@@ -60,12 +61,13 @@ pub extern "C" fn togbeyis_commit(
         rate,
     };
     let call = Call::Commit { order, shown };
-    let told = serve_alone(image, call);
-    if 0 < told.refusal {
-        return told.refusal;
+    match serve_alone(image, call) {
+        Ok(told) => {
+            *blocks = told.blocks;
+            *ticket = told.ticket;
+            *start = told.start;
+            0
+        }
+        Err(refusal) => refusal.number(),
     }
-    *blocks = told.blocks;
-    *ticket = told.ticket;
-    *start = told.start;
-    0
 }

@@ -5,12 +5,13 @@ ghost use Rattle.service.specs.Left.{Leaves};
 ghost use Rattle.bus.specs.Plans.{TellsPlan};
 
 use calls::Call;
+use refusals::Refusal;
 use service::numbers::Numbers;
 use service::{serve, serve_alone};
 
 // Tells what was planned, or leaves everything where it was refused.
 fn tell_plan(
-    told: Numbers,
+    told: Result<Numbers, Refusal>,
     cause: &mut u32,
     before: &mut u64,
     after: &mut u64,
@@ -19,15 +20,17 @@ fn tell_plan(
 ) -> u32
     ensures { TellsPlan told (blocks.old ∷ cause.old ∷ before.old ∷ after.old ∷ rounds.old ∷ []) result (blocks.new ∷ cause.new ∷ before.new ∷ after.new ∷ rounds.new ∷ []) }
 {
-    if 0 < told.refusal {
-        return told.refusal;
+    match told {
+        Ok(told) => {
+            *blocks = told.blocks;
+            *cause = told.cause;
+            *before = told.before;
+            *after = told.after;
+            *rounds = told.rounds;
+            0
+        }
+        Err(refusal) => refusal.number(),
     }
-    *blocks = told.blocks;
-    *cause = told.cause;
-    *before = told.before;
-    *after = told.after;
-    *rounds = told.rounds;
-    0
 }
 
 #[unsafe(no_mangle)]

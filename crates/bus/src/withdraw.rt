@@ -11,10 +11,11 @@ pub extern "C" fn togbeyis_withdraw(image: &mut [u8], ticket: u32, blocks: &mut 
     ensures { Leaves (blocks.old ∷ []) image.old (withdraw_call ticket) result (blocks.new ∷ []) image.new [] }
 {
     let call = Call::Withdraw { ticket };
-    let told = serve_alone(image, call);
-    if 0 < told.refusal {
-        return told.refusal;
+    match serve_alone(image, call) {
+        Ok(told) => {
+            *blocks = told.blocks;
+            0
+        }
+        Err(refusal) => refusal.number(),
     }
-    *blocks = told.blocks;
-    0
 }

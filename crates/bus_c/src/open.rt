@@ -1,6 +1,6 @@
 // An opening, which reads no image: whatever the list holds, it becomes the image of the fresh station, if this has one feeder.
 ghost use Rattle.std.specs.Prelude.{[], ◌∷◌};
-ghost use Rattle.bus.specs.Askings.{asked_from};
+ghost use Rattle.station.specs.Opened.{asked_from};
 ghost use Rattle.bus.specs.Images.{Opens};
 
 #[unsafe(no_mangle)]

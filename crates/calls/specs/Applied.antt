@@ -1,20 +1,19 @@
 -- A call given as a value: the call of the rules that it is, and what applying it gives.
-use Rattle.std.specs.Prelude.{◌≡◌, ℕ, ◌+◌, ◌≤◌, ◌<◌, Bool, true, false, List, []}
+use Rattle.std.specs.Prelude.{◌≡◌, ℕ, List, [], Result}
 use Rattle.rules.specs.Calls as rules
 use Rattle.rules.specs.Site.{State}
-use Rattle.rules.specs.Calls.{preview, commit, move, offer, replan_latest, replan_lines, enquire, board, withdraw, step}
+use Rattle.rules.specs.Calls.{preview, commit, move, offer, replan_latest, replan_lines, enquire, board, withdraw, step, previewed, looked, withdrawn}
+use Rattle.refusals.specs.declared.Refusal.{Refusal}
+use Rattle.refusals.specs.Refusals.{answer_by}
 use Rattle.station.specs.declared.Station.{Station}
 use Rattle.calls.specs.declared.Call.{Call}
 use Rattle.calls.specs.declared.Call.TheVariants.{Preview, Commit, Move, Offer, ReplanLatest, ReplanLines, Enquire, Board, Withdraw}
 use Rattle.calls.specs.declared.Answer.{Answer}
-use Rattle.calls.specs.declared.Answer.TheVariants.{Preview as PreviewOf, Commit as CommitOf, Move as MoveOf, Plan as PlanOf, Enquiry as EnquiryOf, Board as BoardOf, Withdrawal as WithdrawalOf}
-use Rattle.calls.specs.declared.Applied.{Applied}
-use Rattle.station.specs.Holders.{Holding}
+use Rattle.calls.specs.declared.Answer.TheVariants.{Previewed, Committed, Moved, Planned, Enquiry, Looked, Withdrawn}
 use Rattle.station.specs.Given.{Gives}
-use Rattle.orders.specs.Shown.{preview_answer}
-use Rattle.ordering.specs.Answers.{commit_answer}
-use Rattle.planning.specs.Answers.{plan_answer}
-use Rattle.site.specs.Answers.{move_answer, enquiry_answer, board_answer, withdrawal_answer}
+use Rattle.ordering.specs.Answers.{committed_of}
+use Rattle.planning.specs.Answers.{planned_of}
+use Rattle.site.specs.Answers.{moved_of, enquiry_of}
 
 -- the call of the rules, with the lists that are lent to it
 abbrev pub call_of : Call → List ℕ → List ℕ → rules.Call
@@ -63,44 +62,20 @@ ListStays reads before after = after ≡ before
 ListStays writes before after = Unit {0}
 ListStays both before after = Unit {0}
 
-abbrev pub answer_of : Answer → rules.Answer
-answer_of (PreviewOf a) = preview_answer a
-answer_of (CommitOf a) = commit_answer a
-answer_of (MoveOf a) = move_answer a
-answer_of (PlanOf a) = plan_answer a
-answer_of (EnquiryOf a) = enquiry_answer a
-answer_of (BoardOf a) = board_answer a
-answer_of (WithdrawalOf a) = withdrawal_answer a
+-- what a call tells where it is not refused
+abbrev pub told_of : Answer → rules.Answer
+told_of (Previewed start) = previewed start
+told_of (Committed c) = committed_of c
+told_of (Moved m) = moved_of m
+told_of (Planned p) = planned_of p
+told_of (Enquiry e) = enquiry_of e
+told_of (Looked n) = looked n
+told_of Withdrawn = withdrawn
+
+abbrev pub answer_of : Result Answer Refusal → rules.Answer
+answer_of = answer_by told_of
 
 -- exactly what one step of the rules gives
-pub record Applies (s : State) (call : Call) (numbers before after : List ℕ) (answer : Answer) (next : Station) : Type 0 where
+pub record Applies (s : State) (call : Call) (numbers before after : List ℕ) (answer : Result Answer Refusal) (next : Station) : Type 0 where
   pub gives : Gives (step s (call_of call numbers before)) (answer_of answer) next (list_after call numbers after)
   pub stays : ListStays (lends call) before after
-
--- "changes nothing": it leaves every station as it is
-abbrev pub keeps_of : Call → Bool
-keeps_of (Preview o) = true
-keeps_of (Commit o shown) = false
-keeps_of (Move target) = false
-keeps_of (Offer feeder) = false
-keeps_of (ReplanLatest feeder) = false
-keeps_of (ReplanLines feeder allowance) = false
-keeps_of (Enquire ticket) = true
-keeps_of Board = true
-keeps_of (Withdraw ticket) = false
-
--- what `apply` hands back
-abbrev pub applied_of : Answer → Station → Applied
-applied_of answer s = record { answer = answer; station = s }
-
--- Which feeder a call is about
-
--- the place of a feeder: of that with the number, if there is one
-pub record NamedPlace (count number place : ℕ) : Type 0 where
-  pub inside : place < count
-  pub names : 1 ≤ number → number ≤ count → number ≡ place + 1
-
--- of that which holds the ticket, if one does
-pub record HeldPlace (s : Station) (ticket place : ℕ) : Type 0 where
-  pub inside : place < s.count
-  pub holding : Holding s ticket place

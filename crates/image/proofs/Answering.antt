@@ -11,7 +11,9 @@ use Rattle.rules.specs.Site.{State}
 use Rattle.rules.specs.Calls.{bound_of, fresh, least}
 use Rattle.rules.proofs.Ranges.{and_right, fails}
 use Rattle.rules.proofs.Lists.{length_tabulate}
-use Rattle.station.specs.declared.One.{One}
+use Rattle.refusals.specs.declared.Refusal.{Refusal}
+use Rattle.refusals.specs.Refusals.{number_of}
+use Rattle.station.specs.declared.only.One.{One}
 use Rattle.station.specs.View.{view, station_of, Alone}
 use Rattle.station.proofs.Ones.{only_formed}
 use Rattle.layout.specs.Image.{only}
@@ -27,8 +29,8 @@ use Rattle.blocks.specs.Contents.{contents_in, BlocksTaken}
 use Rattle.blocks.proofs.Chunks.{same_part_told}
 use Rattle.records.specs.Contents.{contents_of, charge_from, state_from, header_right}
 use Rattle.records.specs.Columns.{ReadFrom}
+use Rattle.std.specs.Prelude.{Result, Ok, Err}
 use Rattle.image.specs.Answers.{is_from, restored, Restores}
-use Rattle.image.specs.declared.restoring.Restored.{Restored}
 use Rattle.image.proofs.Imaging.{contents_long, state_taken, right_taken}
 
 -- Contents
@@ -103,13 +105,13 @@ module _ (xs cs : List ℕ) (right : Bool) (long : length xs ≡ 4608) (small : 
 
 module _ (xs : List ℕ) where
   pub restores_refused :
-      (n k : ℕ) (r : Restored)
+      (n : ℕ) (k : Refusal) (r : Result Unit Refusal) (o : One)
       → eqb n 0 ≡ false
-      → (r.answer ≡ k) × (view (station_of r.one) ≡ fresh least) × Alone r.one
-      → k ≡ n
+      → (r ≡ Err k) × (view (station_of o) ≡ fresh least) × Alone o
+      → number_of k ≡ n
       → restore_refusal xs ≡ n
-      → Restores xs r
-  restores_refused n k r z p d e = record { result = rw (p.0, d, p.1, e, z); alone = p.2 }
+      → Restores xs r o
+  restores_refused n k r o z p d e = record { result = rw (p.0, d, p.1, e, z); alone = p.2 }
 
   pub restores_accepted :
       (o : One) (cs : List ℕ)
@@ -117,7 +119,7 @@ module _ (xs : List ℕ) where
       → cs ≡ contents_in xs
       → ReadFrom cs o
       → restore_refusal xs ≡ 0
-      → Restores xs (record { answer = 0; one = o })
+      → Restores xs (Ok tt) o
   restores_accepted o cs l c p e =
       record {
         result = whole;
@@ -136,5 +138,5 @@ module _ (xs : List ℕ) where
       state_is : view (station_of o) ≡ state_in xs
       state_is = p.state ∙ ap state_from c ∙ state_taken xs l
 
-      whole : restored (record { answer = 0; one = o }) ≡ restoring xs
+      whole : restored (Ok tt) o ≡ restoring xs
       whole = rw (e, state_is)

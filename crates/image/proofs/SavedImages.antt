@@ -7,12 +7,17 @@ use native.Mathlib.Omega.{arith}
 use lib.Dec.{eqb}
 use lib.ListN.{length}
 use borrow.Author.Tests.{eqb-true, ne_eqb}
+use Rattle.std.specs.Prelude.{Result, Ok, Err}
 use Rattle.rules.specs.Basics.{first_of}
 use Rattle.rules.specs.Site.{State}
 use Rattle.rules.proofs.Ranges.{and_left, and_right, fails}
+use Rattle.refusals.specs.declared.Refusal.{Refusal}
+use Rattle.refusals.specs.declared.Refusal.TheVariants.{ImageLength}
+use Rattle.refusals.specs.Refusals.{number_of}
 use Rattle.station.specs.declared.Station.{Station}
-use Rattle.station.specs.declared.One.{One}
+use Rattle.station.specs.declared.only.One.{One}
 use Rattle.station.specs.View.{view, Valid, one_at, station_of}
+use Rattle.station.proofs.Refusing.{number_some}
 use Rattle.station.proofs.Views.{view_length}
 use Rattle.station.proofs.Ones.{taken_whole}
 use Rattle.layout.specs.Image.{image_of}
@@ -20,7 +25,6 @@ use Rattle.layout.specs.Reading.{sized}
 use Rattle.layout.specs.Blocks.{differing}
 use Rattle.layout.specs.Saving.{save_rows, save_refusal, saving}
 use Rattle.layout.proofs.Refusing.{saving_written}
-use Rattle.image.specs.declared.saving.Saved.{Saved}
 use Rattle.image.specs.Answers.{count_refusal, Saves, SavesFirst}
 
 module _ (count : ℕ) (previous xs : List ℕ) where
@@ -35,17 +39,17 @@ module _ (count : ℕ) (previous xs : List ℕ) where
   rows_pass true false e = absurd (omega arith)
   rows_pass false q e = absurd (omega arith)
 
-  pub passed : (n : ℕ) → n ≡ count_refusal count previous xs → n ≡ 0 → Passed
+  pub passed : 0 ≡ count_refusal count previous xs → Passed
   unfolding count_refusal
-  passed n e z =
-      let p = rows_pass (sized previous && sized xs) (eqb count 1) (sym e ∙ z) in
+  passed e =
+      let p = rows_pass (sized previous && sized xs) (eqb count 1) (sym e) in
       record {
         previous_long = eqb-true (length previous) 4608 (and_left (sized previous) (sized xs) p.0);
         long = eqb-true (length xs) 4608 (and_right (sized previous) (sized xs) p.0);
         one = eqb-true count 1 p.1;
       }
 
-  pub size_refused : (length xs ≡ 4608 → ⊥) → 20 ≡ count_refusal count previous xs
+  pub size_refused : (length xs ≡ 4608 → ⊥) → number_of ImageLength ≡ count_refusal count previous xs
   unfolding count_refusal
   size_refused h =
       rw (fails (sized previous && sized xs) (λ t. h (eqb-true (length xs) 4608 (and_right (sized previous) (sized xs) t))))
@@ -56,18 +60,20 @@ module _ (count : ℕ) (first : State) (previous xs : List ℕ) where
   unfolding count_refusal save_refusal
   station_refused s e = rw e
 
-  pub first_refused :
-      (n : ℕ) → n ≡ count_refusal count previous xs → (n ≡ 0 → ⊥) → SavesFirst count first previous xs xs (record { answer = n; blocks = 0 })
+  pub first_refused : (k : Refusal) → number_of k ≡ count_refusal count previous xs → SavesFirst count first previous xs xs (Err k)
   unfolding saving
-  first_refused n e h =
-      record { saves = λ s m w. record { result = rw (← (e ∙ station_refused s m), ne_eqb n 0 h) } }
+  first_refused k e =
+      let some = number_some k in
+      record {
+        saves = λ s m w. record { result = rw (← (e ∙ station_refused s m), ne_eqb (number_of k) 0 (λ z. omega (arith, some, z))) };
+      }
 
   pub first_saved :
       (ys : List ℕ) (n : ℕ)
       → Passed count previous xs
       → ys ≡ image_of first
       → n ≡ differing previous ys
-      → SavesFirst count first previous xs ys (record { answer = 0; blocks = n })
+      → SavesFirst count first previous xs ys (Ok n)
   first_saved ys n h w e =
       record {
         saves = λ s m f.
@@ -77,7 +83,7 @@ module _ (count : ℕ) (first : State) (previous xs : List ℕ) where
 
 -- the first feeder that is taken out of a station is the whole of it where there is no other
 pub saves_taken :
-    (s : Station) (o : One) {previous before after : List ℕ} {r : Saved}
+    (s : Station) (o : One) {previous before after : List ℕ} {r : Result ℕ Refusal}
     → Valid s
     → o ≡ one_at s 0
     → SavesFirst s.count (view (station_of o)) previous before after r

@@ -1,5 +1,5 @@
 // An image accepted, or refused with 20, 21 or 22.
-ghost use Rattle.std.specs.Prelude.{◌≡◌};
+ghost use Rattle.std.specs.Prelude.{◌≡◌, Err};
 ghost use Rattle.rules.specs.Calls.{fresh, least};
 ghost use Rattle.station.specs.View.{view, station_of, Alone};
 ghost use Rattle.validity.specs.Settled.{Settled};
@@ -8,16 +8,10 @@ ghost use Rattle.image.specs.Answers.{is_from, Restores};
 use blocks::contents::{CONTENTS, IMAGE, take_blocks};
 use records::reading::{header_right, read};
 use records::writing::contents_of;
-use station::One;
+use refusals::Refusal;
+use station::Done;
+use station::only::One;
 use validity::is_valid;
-
-// 0 or the refusal, and the only feeder of the station beside it. No whole station is made of it: an image is of one feeder, and a
-// copy of the places of four costs more than most calls.
-#[derive(Clone, Copy)]
-pub struct Restored {
-    pub answer: u32,
-    pub one: One,
-}
 
 // Whether the contents are those of this feeder's station, and the station valid: "All else is zero" is found by writing them again.
 fn is_of(contents: &[u8; CONTENTS], one: &One) -> bool
@@ -28,29 +22,36 @@ fn is_of(contents: &[u8; CONTENTS], one: &One) -> bool
 }
 
 // "Beside a refused restore stands the fresh station of 1, 100 and r = 0": "one feeder and W 720".
-fn refused(answer: u32) -> Restored
-    ensures { (result.answer ≡ answer) × (view (station_of result.one) ≡ fresh least) × Alone result.one }
+fn refused(refusal: Refusal) -> Done<Result<(), Refusal>, One>
+    ensures { (result.answer ≡ Err refusal) × (view (station_of result.station) ≡ fresh least) × Alone result.station }
 {
-    let one = One::least();
-    Restored { answer, one }
+    Done {
+        answer: Err(refusal),
+        station: One::least(),
+    }
 }
 
-pub fn restore(image: &[u8]) -> Restored
-    ensures { Restores image.now result }
+// An image accepted or refused, and the only feeder of the station beside it. No whole station is made of it: an image is of one
+// feeder, and a copy of the places of four costs more than most calls.
+pub fn restore(image: &[u8]) -> Done<Result<(), Refusal>, One>
+    ensures { Restores image.now result.answer result.station }
 {
     if image.len() != IMAGE {
-        return refused(20);
+        return refused(Refusal::ImageLength);
     }
     let mut contents = [0; CONTENTS];
     if !take_blocks(image, &mut contents) {
-        return refused(21);
+        return refused(Refusal::ImageDamaged);
     }
     if !header_right(&contents) {
-        return refused(22);
+        return refused(Refusal::ImageInvalid);
     }
     let one = read(&contents);
     if !is_of(&contents, &one) {
-        return refused(22);
+        return refused(Refusal::ImageInvalid);
     }
-    Restored { answer: 0, one }
+    Done {
+        answer: Ok(()),
+        station: one,
+    }
 }

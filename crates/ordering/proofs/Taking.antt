@@ -1,115 +1,69 @@
 -- A commit that is taken: the charge behind the others of its feeder.
-use mathlib.Core.Path.{◌≡◌, ap, sym, ◌∙◌}
-use Prim.Native.Nat.{ℕ, suc, ◌+◌, ◌-◌, ◌≤◌, ◌<◌}
+use mathlib.Core.Path.{◌≡◌, refl, ap, sym, ◌∙◌}
+use Prim.Native.Nat.{ℕ, ◌+◌, ◌-◌, ◌≤◌, ◌<◌}
 use mathlib.Core.List.{[], ◌∷◌, ◌++◌}
 use native.Mathlib.Omega.{arith}
 use native.Mathlib.Numerals.{add-one}
-use lib.ListN.{set}
-use borrow.Author.Tests.{le-ltb}
 use Rattle.rules.specs.Basics.{at}
 use Rattle.rules.specs.Charge.{Charge}
-use Rattle.rules.specs.Site as rules
-use Rattle.rules.specs.Site.{with_charges}
-use Rattle.rules.specs.Calls.{Answer, Result, committed, committing, step}
-use Rattle.rules.proofs.Tables.{NoneHolds}
+use Rattle.rules.specs.Calls.{Answer, previewed, committed, committing, step}
 use Rattle.rules.proofs.Shown.{commit_taken}
 use Rattle.charges.specs.declared.Charges.{Charges}
 use Rattle.charges.specs.Arrays.{charge, charges_of, Columns, Holds}
-use Rattle.orders.specs.declared.sought.PreviewAnswer.{PreviewAnswer}
-use Rattle.orders.specs.declared.sought.PreviewAnswer.TheVariants.{Previewed}
-use Rattle.orders.specs.Shown.{preview_answer}
 use Rattle.station.specs.declared.Station.{Station}
-use Rattle.station.specs.declared.One.{One}
-use Rattle.station.specs.View.{view, one_at, Of, Names}
-use Rattle.station.specs.Given.{Leaves}
+use Rattle.station.specs.View.{feeder_at, view, Valid}
+use Rattle.station.specs.Given.{Keeps, Gives}
+use Rattle.station.proofs.Changed.{changed_at, changed_view, changed_formed}
+use Rattle.station.proofs.Refusing.{gives_by}
 use Rattle.ordering.specs.declared.Order.{Order}
 use Rattle.ordering.specs.Ordered.{preview_of, commit_of}
-use Rattle.ordering.proofs.Rows.{refusals_of, is_named}
-use Rattle.ordering.proofs.Seeking.{granted, inside, here, room, active_most}
+use Rattle.ordering.proofs.Seeking.{granted, none_holds, inside, here, charges_here, room, active_most}
 use Rattle.ordering.proofs.Answering.{start_granted}
 
+-- the place of the feeder that an order names
+abbrev pub place_of : Order → ℕ
+place_of o = o.feeder - 1
+
 -- the charge of an order
-abbrev pub ordered : One → Order → ℕ → Charge
-ordered one o start =
-    charge one.next o.line one.clock o.time (o.time + one.feeder.tail) o.due start o.rate
-
--- the feeder with other charges, and the next ticket given
-abbrev pub holding : One → Charges → One
-holding one c =
-    record {
-      count = one.count;
-      site = one.site;
-      clock = one.clock;
-      next = one.next + 1;
-      place = one.place;
-      feeder = record { limit = one.feeder.limit; percent = one.feeder.percent; bound = one.feeder.bound; tail = one.feeder.tail; charges = c };
-    }
-
--- what a commit gives, by the feeder of its order
-abbrev given_by : Station → Order → ℕ → rules.Feeder → Result
-given_by s o start g =
-    record {
-      answer = committed s.next start;
-      state =
-          record {
-            feeders =
-                set (view s).feeders (o.feeder - 1)
-                (with_charges g (g.charges ++ (charge s.next o.line s.clock o.time (o.time + g.tail) o.due start o.rate ∷ [])));
-            site = s.site;
-            clock = s.clock;
-            next = suc s.next;
-          };
-      list = [];
-    }
+abbrev pub ordered : Station → Order → ℕ → Charge
+ordered s o start =
+    charge s.next o.line s.clock o.time (o.time + (feeder_at s (place_of o)).tail) o.due start o.rate
 
 -- the feeder has a place for the charge, and the station a ticket
-pub record Room (one : One) (o : Order) : Type 0 where
-  pub columns : Columns one.feeder.charges
-  pub room : one.feeder.charges.held < 180
-  pub active_most : o.time + one.feeder.tail ≤ 1445
-  pub ticket_left : one.next ≤ 65535
+pub record Room (s : Station) (o : Order) : Type 0 where
+  pub columns : Columns (feeder_at s (place_of o)).charges
+  pub room : (feeder_at s (place_of o)).charges.held < 180
+  pub active_most : o.time + (feeder_at s (place_of o)).tail ≤ 1445
+  pub ticket_left : s.next ≤ 65535
 
-module _
-    {s : Station} {one : One} (f : Of s one) (o : Order) (n : Names one o.feeder) {a : PreviewAnswer}
-    (told : preview_answer a ≡ (step (view s) (preview_of o)).answer) {start : ℕ} (e : a ≡ Previewed start) where
-  free : NoneHolds (refusals_of s o)
-  free = (start_granted f o n told e).0
+module _ {s : Station} (o : Order) (v : Valid s) {start : ℕ} (told : Keeps (step (view s) (preview_of o)) s (previewed start) []) where
+  named : o.feeder ≡ place_of o + 1
+  named = omega (arith, (granted (start_granted o v told).0).is_feeder_lem.low)
 
-  same : one ≡ one_at s (o.feeder - 1)
-  same = is_named f o n (omega (arith, (inside s o free).0), omega (arith, (inside s o free).0, (inside s o free).1))
+  there : place_of o < s.count
+  there = inside (start_granted o v told).0 (place_of o) named
 
-  pub has_room : Room one o
+  pub has_room : Room s o
   has_room =
-      rw same
-      (record {
-        columns = f.valid.formed.columns (o.feeder - 1) (inside s o free).1;
-        room = room s o free;
-        active_most = active_most s o free f.valid;
-        ticket_left = omega (arith, (granted s o free).ticket_left);
-      })
+      let u = (start_granted o v told).0 in
+      record {
+        columns = v.formed.columns (place_of o) there;
+        room = room u (place_of o) named;
+        active_most = active_most u (place_of o) named;
+        ticket_left = (granted u).ticket_left;
+      }
 
   pub taken :
-      (shown : ℕ) {c : Charges} {left : One} {answer : Answer}
+      (shown : ℕ) {c : Charges} {t : Station} {answer : Answer}
       → start ≡ shown
-      → Holds (charges_of one.feeder.charges ++ (ordered one o start ∷ [])) c
-      → left ≡ holding one c
-      → answer ≡ committed one.next start
-      → Leaves (step (view s) (commit_of o shown)) s answer left []
+      → Holds (charges_of (feeder_at s (place_of o)).charges ++ (ordered s o start ∷ [])) c
+      → t ≡ changed_at s (place_of o) c (s.next + 1)
+      → answer ≡ committed s.next start
+      → Gives (step (view s) (commit_of o shown)) answer t []
   unfolding committing
-  taken shown = rw same (λ equal h left answer. go shown equal h left answer)
-    where
-      go :
-          (shown : ℕ) {c : Charges} {left : One} {answer : Answer}
-          → start ≡ shown
-          → Holds (charges_of (one_at s (o.feeder - 1)).feeder.charges ++ (ordered (one_at s (o.feeder - 1)) o start ∷ [])) c
-          → left ≡ holding (one_at s (o.feeder - 1)) c
-          → answer ≡ committed s.next start
-          → Leaves (step (view s) (commit_of o shown)) s answer left []
-      go shown equal h l t =
-          record {
-            result =
-                rw (l, t, le-ltb s.clock s.clock (omega arith), h.charges, equal, add-one s.next)
-                (ap (given_by s o shown) (sym (here s o free))
-                ∙ sym (commit_taken (view s) o.feeder o.line o.time o.due o.rate free shown ((start_granted f o n told e).1 ∙ ap at equal)));
-            fits = rw l (record { inside = (inside s o free).1; columns = h.columns });
-          }
+  taken shown {c} equal h left answer =
+      let found = start_granted o v told in
+      rw (left, answer)
+      (gives_by (commit_of o shown) v (changed_formed s v.formed (place_of o) c (s.next + 1) there h.columns)
+      (rw (changed_view s v.formed (place_of o) c (s.next + 1) there, ← named, h.charges, equal, add-one s.next, charges_here found.0 (place_of o) named, here found.0 (place_of o) named) refl
+      ∙ sym (commit_taken (view s) o.feeder o.line o.time o.due o.rate (none_holds found.0) shown (found.1 ∙ ap at equal))))

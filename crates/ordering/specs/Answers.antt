@@ -1,8 +1,15 @@
--- What a commit answers.
-use Rattle.rules.specs.Calls.{Answer, refused, committed}
-use Rattle.ordering.specs.declared.commit.CommitAnswer.{CommitAnswer}
-use Rattle.ordering.specs.declared.commit.CommitAnswer.TheVariants.{Committed, Refused}
+-- What a preview and a commit answer.
+use Rattle.std.specs.Prelude.{ℕ, Result}
+use Rattle.rules.specs.Calls.{Answer, previewed, committed}
+use Rattle.refusals.specs.declared.Refusal.{Refusal}
+use Rattle.refusals.specs.Refusals.{answer_by}
+use Rattle.ordering.specs.declared.commit.Committed.{Committed}
 
-abbrev pub commit_answer : CommitAnswer → Answer
-commit_answer (Committed ticket start) = committed ticket start
-commit_answer (Refused number) = refused number
+abbrev pub preview_answer : Result ℕ Refusal → Answer
+preview_answer = answer_by previewed
+
+abbrev pub committed_of : Committed → Answer
+committed_of c = committed c.ticket c.start
+
+abbrev pub commit_answer : Result Committed Refusal → Answer
+commit_answer = answer_by committed_of

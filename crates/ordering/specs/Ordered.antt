@@ -1,12 +1,12 @@
 -- An order in the words of the rules, its refusals by numbers, and what is sought for it on its feeder.
-use Rattle.std.specs.Prelude.{ℕ, Bool, ◌||◌, List, [], ◌∷◌, ltb, leb}
-use Rattle.rules.specs.Basics.{first_of}
+use Rattle.std.specs.Prelude.{ℕ, ◌≡◌, Bool, ◌||◌, List, [], ◌∷◌, ltb, leb}
+use Rattle.rules.specs.Basics.{Found, first_of}
 use Rattle.rules.specs.Site.{places}
-use Rattle.rules.specs.Calls.{Call, preview, commit}
+use Rattle.rules.specs.Calls.{Call, preview, commit, refusals, draw_for, start_for}
 use Rattle.search.specs.declared.limits.Limits.{Limits}
 use Rattle.orders.specs.declared.sought.Sought.{Sought}
-use Rattle.station.specs.declared.One.{One}
-use Rattle.station.specs.View.{limits_for}
+use Rattle.station.specs.declared.Station.{Station}
+use Rattle.station.specs.View.{feeder_at, view, Valid, limits_for}
 use Rattle.ordering.specs.declared.Order.{Order}
 
 abbrev pub preview_of : Order → Call
@@ -27,18 +27,23 @@ order_rows y held next o =
     ∷ (ltb 65535 next, 14)
     ∷ []
 
--- the number of the first of them on a feeder
-abbrev pub refusal_by : One → Order → ℕ
-refusal_by one o = first_of (order_rows (limits_for one) one.feeder.charges.held one.next o)
-
--- what is sought for it on the feeder
-abbrev pub sought_by : One → Order → Sought
-sought_by one o =
+-- what is sought for it on the feeder at the place
+abbrev pub sought_by : Station → ℕ → Order → Sought
+sought_by s p o =
     record {
-      limits = limits_for one;
-      clock = one.clock;
-      tail = one.feeder.tail;
+      limits = limits_for (feeder_at s p) s.site;
+      clock = s.clock;
+      tail = (feeder_at s p).tail;
       line = o.line;
       time = o.time;
       rate = o.rate;
     }
+
+-- the start that the rules give an order
+abbrev pub start_of : Station → Order → Found
+start_of s o = start_for (view s) o.feeder (draw_for (view s) o.feeder o.line o.time o.rate)
+
+-- an order of a valid station that nothing refuses
+pub record Unrefused (s : Station) (o : Order) : Type 0 where
+  pub valid : Valid s
+  pub none : first_of (refusals (view s) (preview_of o)) ≡ 0

@@ -1,11 +1,5 @@
-// What is sought for an order, and what it is shown: the first refusal, or its start.
+// What is sought for an order.
 use search::limits::Limits;
-
-#[derive(Clone, Copy)]
-pub enum PreviewAnswer {
-    Previewed(u32),
-    Refused(u32),
-}
 
 // What is sought for an order on its feeder: a start from the clock on, within the limits, for its charging time and the tail. These are
 // added up in the search alone, since an order that is refused may name any time.

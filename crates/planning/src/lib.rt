@@ -5,38 +5,28 @@ pub mod offer;
 pub mod replan;
 pub mod tested;
 
-ghost use Rattle.planner.specs.Others.{Others};
-ghost use Rattle.planning.specs.Answers.{BesideFor};
+ghost use Rattle.std.specs.Prelude.{◌≡◌};
+ghost use Rattle.planner.specs.Causes.{cause_number};
 
-use charges::loads::Loads;
-use planner::Beside;
-use station::One;
+use planner::cause::Cause;
 
+// The cause for keeping the held plan, none where the new one is taken; the lateness before and after, and the rounds made.
 #[derive(Clone, Copy)]
-pub enum PlanAnswer {
-    Planned {
-        cause: u32,
-        before: u64,
-        after: u64,
-        rounds: u32,
-    },
-    Refused(u32),
+pub struct Planned {
+    pub cause: Option<Cause>,
+    pub before: u64,
+    pub after: u64,
+    pub rounds: u32,
 }
 
-#[derive(Clone, Copy)]
-pub struct Planning {
-    pub answer: PlanAnswer,
-    pub left: One,
-}
-
-// What a plan of the feeder stands beside, where the others draw this.
-pub fn beside<'a>(one: &One, others: Loads<'a>) -> Beside<'a>
-    requires { Others others }
-    ensures { BesideFor one.now others.entry result }
-{
-    Beside {
-        clock: one.clock,
-        limits: one.limits(),
-        others,
+impl Planned {
+    // The number of the cause, 0 where there is none: "Cause 0 means taken".
+    pub fn cause_number(&self) -> u32
+        ensures { result ≡ cause_number self.now.cause }
+    {
+        match self.cause {
+            Some(cause) => cause.number(),
+            None => 0,
+        }
     }
 }

@@ -1,81 +1,72 @@
 // The test that an offer and both replans end with.
-ghost use Rattle.std.specs.Prelude.{◌≡◌, ◌+◌, length};
+ghost use Rattle.std.specs.Prelude.{◌≡◌, ◌+◌, ◌<◌, length};
 ghost use Rattle.rules.specs.Replan.{starts as starts_of};
 ghost use Rattle.planner.specs.Starts.{waiting_count};
 ghost use Rattle.planner.specs.Answers.{proposal_of};
-ghost use Rattle.station.specs.declared.Station.{Station};
-ghost use Rattle.station.specs.View.{Of, SameHead};
+ghost use Rattle.station.specs.View.{Valid, feeder_at};
 ghost use Rattle.station.specs.Beside.{BesideOf};
-ghost use Rattle.planning.specs.Answers.{plan_answer, CanPlan, Tests};
+ghost use Rattle.planning.specs.Answers.{CanTest, Tests};
 
-use crate::{PlanAnswer, Planning};
+use crate::Planned;
 use charges::PLACES;
 use planner::Beside;
 use planner::cause::Cause;
 use plans::judged;
-use station::One;
+use station::Station;
 
-// With no cause the waiting charges get these starts. Otherwise the feeder is unchanged.
-pub fn tested(one: One, beside: Beside<'_>, starts: &[u32], rounds: u32) -> Planning
-    requires { CanPlan one beside × (length starts.now ≡ waiting_count one.clock one.feeder.charges) }
-    ensures tests { (s : Station) → Of s one → BesideOf s one.place beside.entry → Tests s (one.place + 1) rounds (starts_of starts.now) (plan_answer result.answer) result.left }
-    ensures same_head { SameHead one result.left }
+// With no cause the waiting charges of the feeder at the place get these starts. Otherwise the station is unchanged.
+pub fn tested(
+    station: &mut Station,
+    place: usize,
+    beside: Beside<'_>,
+    starts: &[u32],
+    rounds: u32,
+) -> Planned
+    requires { CanTest station.old place beside × (length starts.now ≡ waiting_count station.old.clock (feeder_at station.old place).charges) }
+    ensures { Tests station.old (place + 1) rounds (starts_of starts.now) result station.new }
 {
-    let judgement = judged(beside, &one.feeder.charges, starts);
-    let before = judgement.before;
-    let after = judgement.after;
-    match judgement.taken {
+    let feeder = &mut station.feeders[place];
+    let judgement = judged(beside, &feeder.charges, starts);
+    let cause = match judgement.taken {
         Ok(charges) => {
-            let mut left = one;
-            left.feeder.charges = charges;
-            Planning {
-                answer: PlanAnswer::Planned {
-                    cause: 0,
-                    before,
-                    after,
-                    rounds,
-                },
-                left,
-            }
+            feeder.charges = charges;
+            None
         }
-        Err(cause) => Planning {
-            answer: PlanAnswer::Planned {
-                cause: cause.number(),
-                before,
-                after,
-                rounds,
-            },
-            left: one,
-        },
+        Err(cause) => Some(cause),
+    };
+    Planned {
+        cause,
+        before: judgement.before,
+        after: judgement.after,
+        rounds,
     }
 }
 
 // What a replan proposes meets the test, or its cause keeps the held plan.
 pub fn replanned(
-    one: One,
+    station: &mut Station,
+    place: usize,
     beside: Beside<'_>,
     proposed: Result<[u32; PLACES], Cause>,
     rounds: u32,
-) -> Planning
-    requires { CanPlan one beside }
-    ensures tests { (s : Station) → Of s one → BesideOf s one.place beside.entry → Tests s (one.place + 1) rounds (proposal_of (waiting_count one.clock one.feeder.charges) proposed) (plan_answer result.answer) result.left }
-    ensures same_head { SameHead one result.left }
+) -> Planned
+    requires { CanTest station.old place beside }
+    ensures { Tests station.old (place + 1) rounds (proposal_of (waiting_count station.old.clock (feeder_at station.old place).charges) proposed) result station.new }
 {
+    let clock = station.clock;
+    let charges = &station.feeders[place].charges;
     match proposed {
         Ok(starts) => {
-            let count = one.feeder.charges.waiting_count(one.clock);
-            tested(one, beside, &starts[..count], rounds)
+            let count = charges.waiting_count(clock);
+            tested(station, place, beside, &starts[..count], rounds)
         }
         Err(cause) => {
-            let before = one.feeder.charges.lateness();
-            Planning {
-                answer: PlanAnswer::Planned {
-                    cause: cause.number(),
-                    before,
-                    after: before,
-                    rounds,
-                },
-                left: one,
+            let before = charges.lateness();
+            Planned {
+                cause: Some(cause),
+                before,
+                after: before,
+                rounds,
             }
         }
     }

@@ -8,7 +8,7 @@ use Rattle.std.proofs.lemmas.List.{length-take-le, get_or-take}
 use borrow.Author.Tests.{lt-ltb, le-ltb}
 use Rattle.rules.specs.Site.{State}
 use Rattle.charges.specs.Arrays.{charge_at, Filled, Columns}
-use Rattle.station.specs.declared.One.{One}
+use Rattle.station.specs.declared.only.One.{One}
 use Rattle.validity.specs.declared.ranges.Header.{Header}
 use Rattle.validity.specs.Settled.{held_by, single}
 use Rattle.layout.specs.Bytes.{byte_of, packed_from, packed}

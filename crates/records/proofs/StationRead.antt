@@ -14,7 +14,7 @@ use Rattle.rules.proofs.Ranges.{and_left, and_right}
 use Rattle.rules.proofs.Lists.{tabulate_same}
 use Rattle.charges.specs.declared.Charges.{Charges}
 use Rattle.charges.specs.Arrays.{charge_at, charges_of}
-use Rattle.station.specs.declared.One.{One}
+use Rattle.station.specs.declared.only.One.{One}
 use Rattle.layout.specs.Reading.{header_at}
 use Rattle.layout.specs.Validity.{settings_ranged}
 use Rattle.validity.specs.declared.ranges.Header.{Header}

@@ -2,7 +2,7 @@
 use Rattle.std.specs.Prelude.{ℕ, zero, suc, ◌+◌, ◌*◌, ◌<◌, ◌≡◌, List, length, get_or}
 use Rattle.charges.specs.declared.Charges.{Charges}
 use Rattle.charges.specs.Arrays.{charge_at, Filled, Columns}
-use Rattle.station.specs.declared.One.{One}
+use Rattle.station.specs.declared.only.One.{One}
 use Rattle.station.specs.View.{view, station_of}
 use Rattle.validity.specs.Settled.{Settled}
 use Rattle.records.specs.Contents.{record_in, field_in, charge_from, state_from}

@@ -8,7 +8,8 @@ use crate::arrangement::place_of;
 use blocks::bytes::number_at;
 use charges::{Charges, PLACES};
 use profile::balance::nearest_hundreds;
-use station::{Feeder, One};
+use station::Feeder;
+use station::only::One;
 use validity::ranges::Header;
 
 // The first so many records of some contents.

@@ -9,7 +9,7 @@ ghost use Rattle.records.specs.Rows.{HeaderPut, RowPut, ColumnPut};
 use crate::arrangement::place_of;
 use blocks::bytes::{byte_of, put_number};
 use blocks::contents::CONTENTS;
-use station::One;
+use station::only::One;
 use validity::ranges::Header;
 
 // The numbers of block 0.

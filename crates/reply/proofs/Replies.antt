@@ -9,6 +9,7 @@ use Rattle.std.specs.Prelude.{Result as Outcome, Ok, Err}
 use Rattle.std.proofs.lemmas.Slice.{between_is}
 use Rattle.rules.specs.Site.{State}
 use Rattle.rules.specs.Calls.{Result}
+use Rattle.refusals.specs.declared.Refusal.{Refusal}
 use Rattle.answers.specs.Answers.{answer_text, listed_of}
 use Rattle.requests.specs.Requests.{Asked, error, read_request, meaning, lent_list, Fits, Lent, Asks}
 use Rattle.requests.specs.Errors.{error_text}
@@ -17,10 +18,10 @@ use Rattle.requests.specs.declared.request.Reason.{Reason}
 use Rattle.station.specs.declared.Station.{Station}
 use Rattle.calls.specs.declared.Call.{Call}
 use Rattle.calls.specs.declared.Call.TheVariants.{Preview, Commit, Move, Offer, ReplanLatest, ReplanLines, Enquire, Board, Withdraw}
-use Rattle.calls.specs.declared.Answer as code
+use Rattle.calls.specs.declared.Answer.{Answer}
 use Rattle.station.specs.View.{view, Valid}
 use Rattle.calls.specs.Applied.{call_of, lends, answer_of, Applies}
-use Rattle.reply.specs.Reply.{numbers_in, called, reply, written_by, places_of, lent_by, lent_to, said_text, Says, Replied, answered}
+use Rattle.reply.specs.Reply.{Told, numbers_in, called, reply, written_by, places_of, lent_by, lent_to, said_text, Says, Replied, answered}
 use Rattle.reply.specs.declared.Said.{Said}
 use Rattle.reply.specs.declared.Said.TheVariants as said
 use Rattle.reply.proofs.Reports.{Reports, reports, few_reports, text_after}
@@ -37,7 +38,7 @@ numbers_read_lem (Enquire ticket) ss list n places e h = omega (arith, e.0)
 numbers_read_lem Board ss list n places e h = refl
 numbers_read_lem (Withdraw ticket) ss list n places e h = omega (arith, e.0)
 
-module _ {s : Station} (c : Call) {ss list after : List ℕ} {a : code.Answer} {next : Station} (v : Valid s)
+module _ {s : Station} (c : Call) {ss list after : List ℕ} {a : Outcome Answer Refusal} {next : Station} (v : Valid s)
     (p : Applies (view s) c ss list after a next) where
   reports_so : Reports (lends c) (listed_of (answer_of a) (length ss)) (length list)
   reports_so =
@@ -66,7 +67,7 @@ module _ {s : Station} (c : Call) {ss list after : List ℕ} {a : code.Answer} {
 -- The lists that are lent
 
 after_call :
-    (s : State) (c : Call) (ss after : List ℕ) (n places : ℕ) {a : code.Answer} {next : Station} → Lent (lends c) n places
+    (s : State) (c : Call) (ss after : List ℕ) (n places : ℕ) {a : Outcome Answer Refusal} {next : Station} → Lent (lends c) n places
     → Applies s c ss (lent_list places) after a next → after ≡ written_by s (call_of c ss (lent_list places))
 after_call s (Preview o) ss after n places e p = p.stays ∙ ap lent_list e.1
 after_call s (Commit o shown) ss after n places e p = p.stays ∙ ap lent_list e.1
@@ -80,7 +81,7 @@ after_call s (Withdraw ticket) ss after n places e p = p.stays ∙ ap lent_list 
 
 -- the lent front of the list as the call leaves it, and the rest of it as it was
 list_left :
-    {s : State} (c : Call) {ss after : List ℕ} (n places lent : ℕ) (list : List ℕ) {a : code.Answer} {next : Station}
+    {s : State} (c : Call) {ss after : List ℕ} (n places lent : ℕ) (list : List ℕ) {a : Outcome Answer Refusal} {next : Station}
     → Lent (lends c) n places → length after ≡ lent → lent ≤ length list → Applies s c ss (lent_list places) after a next
     → after ++ drop lent list ≡ sets list 0 (written_by s (call_of c ss (lent_list places)))
 list_left {s} c {ss} {after} n places lent list e l h p =
@@ -94,7 +95,7 @@ length_between from until numbers h = rw (between_is numbers from until) (length
 
 -- A call with the numbers between two places, and so many places at the front of a list: what is said, and what is left of the list.
 pub call_replied :
-    {s next : Station} (c : Call) (numbers list : List ℕ) {after : List ℕ} (from until places : ℕ) {lent asked : ℕ} {a : code.Answer}
+    {s next : Station} (c : Call) {made : Call} (numbers list : List ℕ) {read after : List ℕ} (from until places : ℕ) {lent asked : ℕ} {a : Outcome Answer Refusal}
     → Valid s
     → 4096 ≤ length list
     → take (length (lent_list places)) list ≡ lent_list places
@@ -104,11 +105,13 @@ pub call_replied :
     → lent ≤ 4096
     → length after ≡ length (take lent list)
     → asked ≡ until - from
-    → Applies (view s) c (take (until - from) (drop from numbers)) (take lent list) after a next
+    → Applies (view s) made read (take lent list) after a next
+    → made ≡ c
+    → read ≡ take (until - from) (drop from numbers)
     → Says (called (view s) (call_of c (slice from until numbers) (lent_list places))) next (said.Call a asked lent) (after ++ drop lent list)
     × (after ++ drop lent list ≡ sets list 0 (written_by (view s) (call_of c (slice from until numbers) (lent_list places))))
-call_replied {s} {next} c numbers list {after} from until places {lent} {asked} {a} v room front inside e is few keeps same p = (
-  call_says c v applies until places asked lent (after ++ drop lent list) e (omega (arith, read)) (omega (arith, same, read))
+call_replied {s} {next} c {made} numbers list {read} {after} from until places {lent} {asked} {a} v room front inside e is few keeps same p its all = (
+  call_says c v applies until places asked lent (after ++ drop lent list) e (omega (arith, many)) (omega (arith, same, many))
       (take_at after (drop lent list) lent long)
       (omega (arith, long, length-append after (drop lent list)))
       (omega (arith, size)),
@@ -121,14 +124,20 @@ call_replied {s} {next} c numbers list {after} from until places {lent} {asked} 
     long : length after ≡ lent
     long = keeps ∙ length-take-le lent list (omega (arith, few, room))
 
-    read : length (slice from until numbers) ≡ until - from
-    read = length-slice from until numbers inside
+    many : length (slice from until numbers) ≡ until - from
+    many = length-slice from until numbers inside
 
     applies : Applies (view s) c (slice from until numbers) (lent_list places) after a next
     applies =
         subst (λ (l : List ℕ). Applies (view s) c (slice from until numbers) l after a next)
         (ap (λ (n : ℕ). take n list) (sym size) ∙ front)
-        (rw (between_is numbers from until) at p)
+        (rw (its, all, between_is numbers from until) at p)
+
+-- what is said, under other names
+pub says_as :
+    {t : Told} {station left : Station} {said told : Said} {list : List ℕ} → Says t left told list → station ≡ left → said ≡ told
+    → Says t station said list
+says_as {t} {station} {left} {said} {told} {list} h e f = rw (e, f) h
 
 -- The list as it is filled for a request, and what stands at its front
 

@@ -1,9 +1,7 @@
 // One request: read, called, printed.
 #![tactic(auto)]
 
-pub mod alone;
-
-ghost use Rattle.std.specs.Prelude.{◌≡◌, ◌+◌, ◌≤◌, ◌++◌, length, drop, take};
+ghost use Rattle.std.specs.Prelude.{◌≡◌, ◌+◌, ◌≤◌, ◌++◌, length, take};
 ghost use Rattle.std.proofs.lemmas.List.Edits.{sets};
 ghost use Rattle.requests.specs.Requests.{read_request, request_values, meaning, Fits, Asks};
 ghost use Rattle.rules.specs.Calls.{opening};
@@ -11,11 +9,11 @@ ghost use Rattle.station.specs.View.{view, Valid};
 ghost use Rattle.station.specs.Opened.{asked_of, Opens};
 ghost use Rattle.reply.specs.Reply.{reply, answered, lent_by, lent_to, request_written, said_text, SaidFits, Says, Replied, places_of};
 
-use crate::alone::make;
-use calls::Answer;
+use calls::{Answer, make};
+use refusals::Refusal;
 use requests::{Reason, Request};
 use station::Station;
-use station::open::{Asked, OpenAnswer};
+use station::open::{Asked, Opened};
 use text::Text;
 
 // The lists that are lent to a call: for the numbers of its request, and for what it writes.
@@ -29,9 +27,9 @@ pub struct Lists {
 #[derive(Clone, Copy)]
 pub enum Said {
     Nothing,
-    Opening(OpenAnswer),
+    Opening(Result<Opened, Refusal>),
     Call {
-        answer: Answer,
+        answer: Result<Answer, Refusal>,
         asked: usize,
         lent: usize,
     },
@@ -62,7 +60,7 @@ pub fn read(text: &[u8], lists: &mut Lists) -> Result<Request, Reason>
 
 // Opens the station anew. It is not inlined, since room for a whole station is cleared at each call of the function it stands in.
 #[inline(never)]
-fn reopen(station: &mut Station, asked: Asked) -> OpenAnswer
+fn reopen(station: &mut Station, asked: Asked) -> Result<Opened, Refusal>
     ensures { Opens (opening (asked_of asked)) result station.new }
 {
     let opened = Station::open(asked);

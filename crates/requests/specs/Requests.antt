@@ -1,9 +1,9 @@
 -- What a line of text asks for.
-use Rattle.std.specs.Prelude.{ℕ, zero, suc, ◌+◌, ◌-◌, ◌%◌, min, ◌≤◌, ◌≡◌, Bool, true, cond, List, [], ◌∷◌, ltb, eqb, length, get_or, take, drop, replicate, Option, Some, None, Result, Ok, Err, IfOk}
+use Rattle.std.specs.Prelude.{ℕ, zero, suc, ◌-◌, ◌%◌, min, ◌≤◌, ◌≡◌, Bool, true, cond, List, [], ◌∷◌, ltb, eqb, length, get_or, take, drop, replicate, Option, Some, None, Result, Ok, Err, IfOk}
 use Rattle.std.proofs.lemmas.List.Edits.{sets}
 use Rattle.std.proofs.Math.Seq.{slice}
 use Rattle.rules.specs.Calls as rules
-use Rattle.rules.specs.Calls.{settings, Call, preview, commit, move, offer, replan_latest, replan_lines, enquire, board, withdraw}
+use Rattle.rules.specs.Calls.{Call, preview, commit, move, offer, replan_latest, replan_lines, enquire, board, withdraw}
 use Rattle.text.specs.Numbers.{number_of}
 use Rattle.text.specs.Parts.{split}
 use Rattle.text.specs.declared.number.NumberError.{NumberError}
@@ -13,6 +13,7 @@ use Rattle.requests.specs.declared.request.Reason.{Reason}
 use Rattle.requests.specs.declared.request.Reason.TheVariants.{UnknownCall, NotANumber, NumberTooLarge, MissingNumber, ExtraNumber, LineTooLong}
 use Rattle.requests.specs.declared.word.CallName.{CallName}
 use Rattle.requests.specs.declared.word.CallName.TheVariants.{Open, Preview, Commit, Move, Offer, Latest, Lines, Enquire, Board, Withdraw}
+use Rattle.station.specs.Opened as opened
 use Rattle.station.specs.Opened.{asked_of}
 use Rattle.calls.specs.Applied as applied
 use Rattle.requests.specs.declared.request.Request as declared
@@ -74,18 +75,9 @@ values_read (suc most) (word ∷ words) = before (number_of word) (values_read m
 abbrev pub lent_list : ℕ → List ℕ
 lent_list places = replicate (min places 4096) 4294967295
 
--- the settings of a feeder, N, c and r, from a place on: "feeders that are not given count as 0 0 0"
-abbrev pub settings_from : List ℕ → ℕ → rules.Settings
-settings_from ns i = settings (get_or ns i 0) (get_or ns (i + 1) 0) (get_or ns (i + 2) 0)
-
--- the count, W, and the settings of four feeders
+-- the count, W, and the settings of four feeders: "feeders that are not given count as 0 0 0"
 abbrev pub asked_from : List ℕ → rules.Asked
-asked_from ns =
-    record {
-      count = get_or ns 0 0;
-      site = get_or ns 1 0;
-      settings = settings_from ns 2 ∷ settings_from ns 5 ∷ settings_from ns 8 ∷ settings_from ns 11 ∷ [];
-    }
+asked_from ns = opened.asked_from (get_or ns 0 0) (get_or ns 1 0) (drop 2 ns)
 
 -- an opening with its numbers: the last feeder that is given has all three of its own
 abbrev pub open_of : List ℕ → Asked

@@ -1,14 +1,13 @@
 // What a line of text asks for.
-ghost use Rattle.std.specs.Prelude.{◌≡◌, ◌≤◌, ◌<◌, min, ◌∷◌, ◌++◌, length, drop, get_or, replicate};
+ghost use Rattle.std.specs.Prelude.{◌≡◌, ◌≤◌, min, ◌∷◌, ◌++◌, length, drop, replicate};
 ghost use Rattle.text.specs.Parts.{split};
-ghost use Rattle.station.specs.Opened.{settings_of};
 ghost use Rattle.requests.specs.declared.word.CallName.TheVariants.{Open};
-ghost use Rattle.requests.specs.Requests.{taken, settings_from, Calls, read_request, request_values, TakesNumbers, Asks, reason_of};
+ghost use Rattle.requests.specs.Requests.{taken, Calls, read_request, request_values, TakesNumbers, Asks, reason_of};
 
 use crate::word::{CallName, call_named};
 use calls::Call;
 use ordering::Order;
-use station::open::{Asked, Settings};
+use station::open::{Asked, number_at};
 use text::{NumberError, read_number, split_once};
 
 // Why a request is no call.
@@ -103,25 +102,6 @@ fn read_numbers(text: &[u8], takes: Takes, numbers: &mut [u32]) -> Result<usize,
     Ok(count)
 }
 
-// The number at a place; 0 where there is none.
-fn number_at(numbers: &[u32], i: usize) -> u32
-    ensures { result ≡ get_or numbers.now i 0 }
-{
-    numbers.get(i).copied().unwrap_or(0)
-}
-
-// The settings of a feeder, whose N stands at a place.
-fn settings_from(numbers: &[u32], i: usize) -> Settings
-    requires { i < 12 }
-    ensures { settings_of result ≡ settings_from numbers.now i }
-{
-    Settings {
-        limit: number_at(numbers, i),
-        percent: number_at(numbers, i + 1),
-        tail: number_at(numbers, i + 2),
-    }
-}
-
 // An opening with its numbers. Feeders that are not given count as 0 0 0.
 fn open_of(numbers: &[u32]) -> Result<Request, Reason>
     ensures { Calls Open numbers.now result }
@@ -129,21 +109,8 @@ fn open_of(numbers: &[u32]) -> Result<Request, Reason>
     if numbers.len() % 3 != 2 {
         return Err(Reason::MissingNumber);
     }
-    let count = number_at(numbers, 0);
-    let site = number_at(numbers, 1);
-    let one = settings_from(numbers, 2);
-    let two = settings_from(numbers, 5);
-    let three = settings_from(numbers, 8);
-    let four = settings_from(numbers, 11);
     Ok(Request::Open {
-        asked: Asked {
-            count,
-            site,
-            one,
-            two,
-            three,
-            four,
-        },
+        asked: Asked::from_numbers(number_at(numbers, 0), number_at(numbers, 1), &numbers[2..]),
     })
 }
 

@@ -1,167 +1,163 @@
 -- The ways that serving a call can go: refused by the restore or by the call's own table, or saved.
-use mathlib.Core.Path.{◌≡◌, refl, sym, ap, subst, ◌∙◌}
+use mathlib.Core.Path.{◌≡◌, refl, sym, ap, ◌∙◌}
 use Prim.Native.Nat.{ℕ, zero, suc, ◌<◌}
 use native.Mathlib.Omega.{arith}
-use mathlib.Core.Bool.{cond}
-use mathlib.Core.List.{List, []}
+use mathlib.Core.List.{List, ◌∷◌}
 use lib.ListN.{length}
+use Rattle.std.specs.Prelude.{Result, Ok, Err}
 use Rattle.rules.specs.Site.{State}
-use Rattle.rules.specs.Calls.{Answer, Result, answering, Call, lent, step, written}
+use Rattle.rules.specs.Calls.{Answer, Result as Given, answering, Call, lent, step, written}
+use Rattle.refusals.specs.declared.Refusal.{Refusal}
+use Rattle.refusals.specs.Refusals.{number_of, refusal_in}
 use Rattle.layout.specs.Image.{image_of}
 use Rattle.layout.specs.Reading.{RestoreResult, restoring}
 use Rattle.layout.specs.Blocks.{differing}
 use Rattle.layout.specs.Saving.{SaveResult}
+use Rattle.layout.proofs.Calling.{feeders_stay}
 use Rattle.layout.proofs.Refusing.{saving_written, accepted}
 use Rattle.station.specs.declared.Station.{Station}
+use Rattle.station.specs.declared.only.One.{One}
 use Rattle.station.specs.View.{view, station_of}
 use Rattle.station.specs.Given.{Gives}
-use Rattle.calls.specs.declared.Call.{Call as Given}
+use Rattle.station.proofs.Refusing.{number_some}
+use Rattle.calls.specs.Applied as calls
+use Rattle.calls.specs.Applied.{call_of, list_after}
+use Rattle.calls.specs.declared.Answer.{Answer as Told}
+use Rattle.calls.specs.declared.Call.{Call as Made}
 use Rattle.calls.specs.declared.Call.TheVariants.{Preview, Commit, Move, Offer, ReplanLatest, ReplanLines, Enquire, Board, Withdraw}
-use Rattle.calls.specs.Applied.{call_of, Lends, none, reads, writes, both, lends, lent_of, list_after, ListStays}
-use Rattle.image.specs.declared.restoring.Restored.{Restored}
-use Rattle.image.specs.declared.saving.Saved.{Saved}
-use Rattle.image.specs.Answers.{Restores, Saves}
-use Rattle.service.specs.Left.{Left, Told, told, counted, refusing, telling, leaving, left, called, Whole}
-use Rattle.service.specs.Named.{alone, numbers_of, told_of, Tells, Serves}
+use Rattle.image.specs.Answers.{blocks_in, saved, Restores, Saves}
+use Rattle.service.specs.Left.{Left, telling, told, leaving, left, called, Whole}
+use Rattle.service.specs.Named.{numbers_of, Tells, Serves}
 use Rattle.service.specs.declared.numbers.Numbers.{Numbers}
-use Rattle.service.proofs.Telling.{told_by, told_refused, told_granted, with_blocks, same_numbers}
+use Rattle.service.proofs.Telling.{told_by, with_blocks, same_numbers}
 
--- The lent lists
-
-module _ (call : Given) (numbers : List ℕ) {before after : List ℕ} (e : after ≡ before) where
-  pub list_kept : list_after call numbers after ≡ lent (call_of call numbers before)
-  list_kept = rw e (go call)
-    where
-      go : (x : Given) → list_after x numbers before ≡ lent (call_of x numbers before)
-      go (Preview order) = refl
-      go (Commit order shown) = refl
-      go (Move target) = refl
-      go (Offer feeder) = refl
-      go (ReplanLatest feeder) = refl
-      go (ReplanLines feeder allowance) = refl
-      go (Enquire ticket) = refl
-      go Board = refl
-      go (Withdraw ticket) = refl
-
-  pub list_stays : ListStays (lends call) before after
-  list_stays = rw e (go (lends call))
-    where
-      go : (l : Lends) → ListStays l before before
-      go none = refl
-      go reads = refl
-      go writes = tt
-      go both = tt
-
--- a call that takes no list leaves none
-pub no_list : (call : Given) → lends call ≡ none → (read written : List ℕ) → list_after call read written ≡ []
-no_list call e read written = ap (λ (l : Lends). lent_of l read written) e
-
-pub alone_served : {image after list : List ℕ} {c : Call} {n : Numbers} → Serves image c n after list → list ≡ [] → Serves image c n after []
-alone_served {image} {after} {list} {c} {n} h e = subst (λ (xs : List ℕ). Serves image c n after xs) e h
+-- the lists stay where the call is not made
+pub list_kept : (call : Made) (numbers : List ℕ) {before after : List ℕ} → after ≡ before → list_after call numbers after ≡ lent (call_of call numbers before)
+list_kept call numbers {before} e = rw e (go call)
+  where
+    go : (x : Made) → list_after x numbers before ≡ lent (call_of x numbers before)
+    go (Preview order) = refl
+    go (Commit order shown) = refl
+    go (Move target) = refl
+    go (Offer feeder) = refl
+    go (ReplanLatest feeder) = refl
+    go (ReplanLines feeder allowance) = refl
+    go (Enquire ticket) = refl
+    go Board = refl
+    go (Withdraw ticket) = refl
 
 -- A save
 
-module _ {s : State} {image after : List ℕ} {r : Saved} (one : length s.feeders ≡ 1) (w : Whole image)
-    (h : Saves s image image after r) where
-  pub saved_whole : after ≡ image_of s
-  saved_whole = ap (λ (x : SaveResult). x.image) (h.result ∙ saving_written s image image one w w)
+module _ {s : State} {image after : List ℕ} (one : length s.feeders ≡ 1) (w : Whole image) where
+  module _ {r : Result ℕ Refusal} (h : Saves s image image after r) where
+    saved_is : saved r after ≡ record { refusal = 0; blocks = differing image (image_of s); image = image_of s }
+    saved_is = h.result ∙ saving_written s image image one w w
 
-  pub saved_blocks : r.blocks ≡ differing image (image_of s)
-  saved_blocks = ap (λ (x : SaveResult). x.blocks) (h.result ∙ saving_written s image image one w w)
+    pub saved_whole : after ≡ image_of s
+    saved_whole = ap (λ (x : SaveResult). x.image) saved_is
+
+    pub saved_blocks : blocks_in r ≡ differing image (image_of s)
+    saved_blocks = ap (λ (x : SaveResult). x.blocks) saved_is
+
+  -- it is not refused
+  pub not_unsaved : (k : Refusal) → Saves s image image after (Err k) → ⊥
+  not_unsaved k h =
+      let some = number_some k in
+      let none : number_of k ≡ 0 = ap (λ (x : SaveResult). x.refusal) (saved_is h) in
+      omega (arith, some, none)
 
 -- A call
 
 -- a refusal that comes before leaves everything, whatever the call would give
 pub refused_left :
-    (k : ℕ) (numbers image list : List ℕ) (s : State) (r : Result) → 0 < k
+    (k : ℕ) (numbers image list : List ℕ) (s : State) (r : Given) → 0 < k
     → leaving k numbers image list ≡ left numbers image (answering k s list r)
 unfolding left
 refused_left zero numbers image list s r h = absurd (omega arith)
 refused_left (suc k) numbers image list s r h = refl
 
-module _ {image : List ℕ} {restored : Restored} (r : Restores image restored) where
-  pub refusal_is : restored.answer ≡ (restoring image).refusal
+-- what is left where a call is not refused, by the numbers that it tells
+told_left :
+    (numbers image : List ℕ) (a : Answer) (s : State) (list ns : List ℕ) → told a ≡ telling ns
+    → left numbers image (record { answer = a; state = s; list = list })
+    ≡ leaving 0 (written (differing image (image_of s) ∷ ns) numbers) (image_of s) list
+unfolding left
+told_left numbers image a s list ns e = rw e
+
+module _ {image : List ℕ} {answer : Result Unit Refusal} {o : One} (r : Restores image answer o) where
+  pub refusal_is : refusal_in answer ≡ (restoring image).refusal
   refusal_is = ap (λ (x : RestoreResult). x.refusal) r.result
 
-  pub state_is : view (station_of restored.one) ≡ (restoring image).state
+  pub state_is : view (station_of o) ≡ (restoring image).state
   state_is = ap (λ (x : RestoreResult). x.state) r.result
 
-  pub whole : restored.answer ≡ 0 → Whole image
-  whole h = (accepted image (sym refusal_is ∙ h)).size
+-- what is left where the restore answers k
+abbrev restored_to : List ℕ → List ℕ → Call → ℕ → Left
+restored_to image numbers c k = left numbers image (answering k (restoring image).state (lent c) (step (restoring image).state c))
 
-  -- what is left where the restore answers k
-  abbrev restored_to : List ℕ → Call → ℕ → Left
-  restored_to numbers c k = left numbers image (answering k (restoring image).state (lent c) (step (restoring image).state c))
+pub restore_refused :
+    {image after list : List ℕ} {answer : Result Unit Refusal} {o : One} (k : Refusal) {c : Call}
+    → Restores image answer o
+    → answer ≡ Err k
+    → after ≡ image
+    → list ≡ lent c
+    → Serves image c (Err k) after list
+unfolding called
+restore_refused {image} {after} {list} k {c} r e i l =
+    record {
+      result =
+          λ numbers.
+          rw (i, l) (
+          refused_left (number_of k) numbers image (lent c) (restoring image).state (step (restoring image).state c) (number_some k)
+          ∙ ap (restored_to image numbers c) (sym (ap refusal_in e) ∙ refusal_is r)
+          );
+    }
 
-  pub restore_refused :
-      {n : Numbers} {c : Call} {after list : List ℕ}
-      → 0 < restored.answer
-      → n ≡ alone restored.answer
-      → after ≡ image
-      → list ≡ lent c
-      → Serves image c n after list
-  unfolding called
-  restore_refused {n} {c} {after} {list} h e i l =
-      let is : n.refusal ≡ restored.answer = ap (λ (x : Numbers). x.refusal) e in
-      record {
-        result =
-            λ numbers.
-            ap (λ (t : Told). leaving n.refusal (written (counted n.blocks t) numbers) after list) (told_refused c n (omega (arith, h, is)))
-            ∙ rw (is, i, l) (
-            refused_left restored.answer numbers image (lent c) (restoring image).state (step (restoring image).state c) h
-            ∙ ap (restored_to numbers c) refusal_is
-            );
-      }
+module _ {image : List ℕ} {answer : Result Unit Refusal} {o : One} (r : Restores image answer o) (granted : answer ≡ Ok tt) where
+  none_refused : 0 ≡ (restoring image).refusal
+  none_refused = sym (ap refusal_in granted) ∙ refusal_is r
 
-  module _ (c : Call) {a : Answer} {next : Station} {list : List ℕ} {n : Numbers} (z : restored.answer ≡ 0)
-      (g : Gives (step (view (station_of restored.one)) c) a next list) (t : Tells a n) where
+  pub whole : Whole image
+  whole = (accepted image (sym none_refused)).size
+
+  module _ (c : Call) {s next : Station} {a : Answer} {list : List ℕ} (same : s ≡ station_of o) (g : Gives (step (view s) c) a next list) where
+    step_is : record { answer = a; state = view next; list = list } ≡ step (view (station_of o)) c
+    step_is = g.result ∙ ap (λ (x : Station). step (view x) c) same
+
     -- the step, where the restore is not refused
     called_is : (numbers : List ℕ) → left numbers image (record { answer = a; state = view next; list = list }) ≡ called numbers image c
     unfolding called
     called_is numbers =
-        ap (left numbers image) (g.result ∙ ap (λ (x : State). step x c) state_is)
-        ∙ ap (restored_to numbers c) (sym z ∙ refusal_is)
+        ap (left numbers image) (step_is ∙ ap (λ (x : State). step x c) (state_is r))
+        ∙ ap (restored_to image numbers c) none_refused
 
-    told_is : told a ≡ told_of c n
-    told_is =
-        let same : a ≡ (step (view (station_of restored.one)) c).answer = ap (λ (x : Result). x.answer) g.result in
-        ap told same ∙ told_by (view (station_of restored.one)) c n r.alone.valid.state (subst (λ (x : Answer). Tells x n) same t)
+    -- the next station has one feeder too
+    pub still_one : length (view next).feeders ≡ 1
+    still_one = ap (λ (x : Given). length x.state.feeders) step_is ∙ feeders_stay (view (station_of o)) c
 
-    -- what is left, once it is known which way the call went
-    left_as : (x : Told) (numbers : List ℕ) → told_of c n ≡ x
-        → leaving x.number (written (counted (differing image (image_of (view next))) x) numbers) (cond x.is_refused image (image_of (view next))) list
-        ≡ called numbers image c
+  module _ (c : Call) {s next : Station} {made : Result Told Refusal} {list after list_now : List ℕ} (same : s ≡ station_of o)
+      (g : Gives (step (view s) c) (calls.answer_of made) next list) where
+    pub call_refused : (k : Refusal) → made ≡ Err k → after ≡ image → list_now ≡ list → Serves image c (Err k) after list_now
     unfolding left
-    left_as x numbers e = sym (rw (told_is ∙ e) refl) ∙ called_is numbers
+    call_refused k e i l =
+        record { result = λ numbers. rw (i, l) (called_is c same (rw e at g) numbers) }
 
-    pub call_refused :
-        {after list_now : List ℕ}
-        → 0 < n.refusal
-        → after ≡ image
-        → list_now ≡ list
-        → Serves image c n after list_now
-    call_refused {after} {list_now} h i l =
-        let refused : told_of c n ≡ refusing n.refusal = told_refused c n h in
-        record {
-          result =
-              λ numbers.
-              ap (λ (x : Told). leaving n.refusal (written (counted n.blocks x) numbers) after list_now) refused
-              ∙ rw (i, l) (left_as (refusing n.refusal) numbers refused);
-        }
-
+    -- `a` is what the call told
     pub call_saved :
-        {after list_now : List ℕ} {blocks : ℕ}
-        → n.refusal ≡ 0
+        (a : Told) (n : Numbers) {blocks : ℕ}
+        → made ≡ Ok a
+        → Tells (calls.told_of a) n
         → blocks ≡ differing image (image_of (view next))
         → after ≡ image_of (view next)
         → list_now ≡ list
-        → Serves image c (with_blocks blocks n) after list_now
-    call_saved {after} {list_now} {blocks} h b i l =
-        let granted : told_of c (with_blocks blocks n) ≡ telling (numbers_of c n) = told_granted c (with_blocks blocks n) h ∙ ap telling (same_numbers c blocks n) in
+        → Serves image c (Ok (with_blocks blocks n)) after list_now
+    call_saved a n {blocks} e t b i l =
+        let gives : Gives (step (view s) c) (calls.told_of a) next list = rw e at g in
+        let told_is = told_by (view (station_of o)) c a n r.alone.valid.state (ap (λ (x : Given). x.answer) (step_is c same gives)) t in
         record {
           result =
               λ numbers.
-              ap (λ (x : Told). leaving n.refusal (written (counted blocks x) numbers) after list_now) granted
-              ∙ ap (λ (k : ℕ). leaving k (written (counted blocks (telling (numbers_of c n))) numbers) after list_now) h
-              ∙ rw (b, i, l) (left_as (telling (numbers_of c n)) numbers (told_granted c n h));
+              ap (λ (ns : List ℕ). leaving 0 (written (blocks ∷ ns) numbers) after list_now) (same_numbers c blocks n)
+              ∙ rw (b, i, l)
+              (sym (told_left numbers image (calls.told_of a) (view next) list (numbers_of c n) told_is) ∙ called_is c same gives numbers);
         }

@@ -1,10 +1,7 @@
 -- What a call of the rules tells is found in the numbers of its answer by the names that belong to the call.
 use mathlib.Core.Logic.{inl, inr}
-use mathlib.Core.Path.{◌≡◌, refl, sym, ap, ◌∙◌}
-use Prim.Native.Nat.{ℕ, zero, suc, ◌<◌}
-use native.Mathlib.Omega.{arith}
-use mathlib.Core.Bool.{Bool, cond}
-use borrow.Author.Tests.{ne_eqb}
+use mathlib.Core.Path.{◌≡◌, refl, ap, ◌∙◌}
+use Prim.Native.Nat.{ℕ, zero, suc}
 use Rattle.rules.specs.Basics.{first_of}
 use Rattle.rules.specs.Site.{State}
 use Rattle.rules.specs.Calls.{Answer, refused, answering, Call, preview, commit, move, offer, replan_latest, replan_lines, enquire, board, withdraw, lent, refusals, granted, step}
@@ -12,14 +9,16 @@ use Rattle.rules.specs.Valid.{ValidState}
 use Rattle.rules.proofs.Granted.{refusals_none}
 use Rattle.guarantee.specs.DemandOne.{AnswerTo}
 use Rattle.guarantee.proofs.DemandOne.{valid_demand_one}
-use Rattle.calls.specs.Applied.{answer_of}
+use Rattle.site.specs.declared.enquiry.Enquiry.TheVariants.{Waiting, Charging}
+use Rattle.calls.specs.Applied as calls
 use Rattle.calls.specs.declared.Answer.{Answer as Given}
-use Rattle.service.specs.Left.{refusing, telling, told}
-use Rattle.service.specs.Named.{numbers_in, numbers_of, told_unless, told_of, Tells}
+use Rattle.calls.specs.declared.Answer.TheVariants.{Previewed, Committed, Moved, Planned, Enquiry, Looked, Withdrawn}
+use Rattle.service.specs.Left.{telling, told}
+use Rattle.service.specs.Named.{numbers_of, Tells}
 use Rattle.service.specs.declared.numbers.Numbers.{Numbers}
 
 -- an answer of the call's own kind
-answer_told : (c : Call) (a : Answer) (n : Numbers) → AnswerTo c a → Tells a n → told a ≡ told_of c n
+answer_told : (c : Call) (a : Answer) (n : Numbers) → AnswerTo c a → Tells a n → told a ≡ telling (numbers_of c n)
 answer_told (preview f line p d rate) a n (s, e) h = cc
 answer_told (commit f line p d rate shown) a n (t, e) h = cc
 answer_told (move target list) a n (i, j, e) h = cc
@@ -31,47 +30,32 @@ answer_told (enquire ticket) a n (inr (s, u, r, e)) h = cc
 answer_told (board asked list) a n (i, e) h = cc
 answer_told (withdraw ticket) a n e h = cc
 
--- the two ways
+-- what a call tells where it is not refused is no refusal
+not_refused : (a : Given) (k : ℕ) → calls.told_of a ≡ refused k → ⊥
+not_refused (Previewed start) k e = cc
+not_refused (Committed c) k e = cc
+not_refused (Moved m) k e = cc
+not_refused (Planned p) k e = cc
+not_refused (Enquiry (Waiting start rate)) k e = cc
+not_refused (Enquiry (Charging start end rate)) k e = cc
+not_refused (Looked n) k e = cc
+not_refused Withdrawn k e = cc
 
-pub told_refused : (c : Call) (n : Numbers) → 0 < n.refusal → told_of c n ≡ refusing n.refusal
-told_refused c n h =
-    ap (λ (b : Bool). cond b (telling (numbers_of c n)) (refusing n.refusal)) (ne_eqb n.refusal 0 (λ z. omega (arith, h, z)))
-
-pub told_granted : (c : Call) (n : Numbers) → n.refusal ≡ 0 → told_of c n ≡ telling (numbers_of c n)
-told_granted c n e = ap (λ (i : ℕ). told_unless i (numbers_of c n)) e
-
-refusal_told : (c : Call) (a : Answer) (n : Numbers) (k : ℕ) → a ≡ refused (suc k) → Tells a n → told a ≡ told_of c n
-refusal_told c a n k e h =
-    let is : n.refusal ≡ suc k = h.number_is ∙ ap (λ (x : Answer). (told x).number) e in
-    ap told e ∙ ap refusing (sym is) ∙ sym (told_refused c n (omega (arith, is)))
-
--- a call of a valid station: its own table has no number 0, and what is not refused is answered in its own kind
-pub told_by : (s : State) (c : Call) (n : Numbers) → ValidState s → Tells (step s c).answer n → told (step s c).answer ≡ told_of c n
-told_by s c n v h = go (first_of (refusals s c)) refl
+-- a call of a valid station: what is not refused is answered in its own kind
+pub told_by :
+    (s : State) (c : Call) (a : Given) (n : Numbers)
+    → ValidState s → calls.told_of a ≡ (step s c).answer → Tells (calls.told_of a) n → told (calls.told_of a) ≡ telling (numbers_of c n)
+told_by s c a n v same h = go (first_of (refusals s c)) refl
   where
-    go : (k : ℕ) → first_of (refusals s c) ≡ k → told (step s c).answer ≡ told_of c n
-    go zero e = answer_told c (step s c).answer n ((valid_demand_one s v c).answered (refusals_none s c e)) h
-    go (suc k) e = refusal_told c (step s c).answer n k (ap (λ (i : ℕ). (answering i s (lent c) (granted s c)).answer) e) h
-
--- An answer taken apart
-
-pub tells_taken :
-    {a x : Answer} {n : Numbers}
-    → a ≡ x
-    → n.refusal ≡ (told x).number
-    → numbers_in x n ≡ (told x).numbers
-    → Tells a n
-tells_taken e f g = rw e (record { number_is = f; numbers_are = g })
-
-pub tells_found : {a x : Given} {n : Numbers} → a ≡ x → Tells (answer_of x) n → Tells (answer_of a) n
-tells_found e h = rw e h
+    go : (k : ℕ) → first_of (refusals s c) ≡ k → told (calls.told_of a) ≡ telling (numbers_of c n)
+    go zero e = answer_told c (calls.told_of a) n (rw same ((valid_demand_one s v c).answered (refusals_none s c e))) h
+    go (suc k) e = absurd (not_refused a (suc k) (same ∙ ap (λ (i : ℕ). (answering i s (lent c) (granted s c)).answer) e))
 
 -- The number of the blocks is told beside them
 
 abbrev pub with_blocks : ℕ → Numbers → Numbers
 with_blocks blocks n =
     record {
-      refusal = n.refusal;
       blocks = blocks;
       ticket = n.ticket;
       start = n.start;

@@ -13,7 +13,7 @@ use Rattle.rules.specs.Site.{Feeder, joined}
 use Rattle.rules.specs.Calls.{told, feeder_with}
 use Rattle.rules.proofs.Ranges.{below_or_not}
 use Rattle.rules.proofs.Lists.{some_append}
-use Rattle.site.proofs.Telling.{told_of}
+use Rattle.site.specs.Answers.{told_charge}
 
 abbrev pub is_at : Found → Bool
 is_at (at i) = true
@@ -114,7 +114,7 @@ module _ {t : ℕ} {own all : List Charge} (w : Among t own all) where
           (b : Bool)
           → b || some (has_ticket t) cs ≡ false
           → (some (has_ticket t) cs ≡ false → told clock (cs ++ ds) t ≡ told clock ds t)
-          → cond b (told_of clock c) (told clock (cs ++ ds) t) ≡ told clock ds t
+          → cond b (told_charge clock c) (told clock (cs ++ ds) t) ≡ told clock ds t
       go true z later = absurd (true≢false z)
       go false z later = later z
 
@@ -126,7 +126,7 @@ module _ {t : ℕ} {own all : List Charge} (w : Among t own all) where
           (b : Bool)
           → b || some (has_ticket t) cs ≡ true
           → (some (has_ticket t) cs ≡ true → told clock (cs ++ ds) t ≡ told clock cs t)
-          → cond b (told_of clock c) (told clock (cs ++ ds) t) ≡ cond b (told_of clock c) (told clock cs t)
+          → cond b (told_charge clock c) (told clock (cs ++ ds) t) ≡ cond b (told_charge clock c) (told clock cs t)
       go true z later = refl
       go false z later = later z
 

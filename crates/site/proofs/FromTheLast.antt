@@ -1,25 +1,21 @@
--- The feeders from a place on, gone over from the last one to the first: their charges, those of them that a clock drops, and how
--- many there may be.
-use mathlib.Core.Path.{◌≡◌, ap, sym, subst, ◌∙◌}
-use Prim.Native.Nat.{ℕ, suc, ◌+◌, ◌-◌, ◌*◌, ◌≤◌, ◌<◌}
-use mathlib.Core.Bool.{not}
-use mathlib.Core.List.{List, [], ◌++◌, map}
+-- The feeders, gone over from the last one to the first: those that are left to go over, and the charges of those behind.
+use mathlib.Core.Path.{◌≡◌, ap, sym, ◌∙◌}
+use Prim.Native.Nat.{ℕ, ◌+◌, ◌≤◌, ◌<◌}
+use mathlib.Core.List.{List, [], ◌∷◌, ◌++◌}
 use native.Mathlib.Omega.{arith}
-use native.Mathlib.Numerals.{add-one}
-use lib.ListN.{length, drop, length-append}
-use lib.Seq.{drop-cons, drop-length}
-use Rattle.rules.specs.Charge.{Charge, is_finished, unfinished_charges}
+use lib.ListN.{length, get_or, take, drop}
+use lib.Seq.{get_or-append_seam}
+use Rattle.std.specs.List.{push}
+use Rattle.std.proofs.lemmas.List.{length_push, get_or_append_left}
+use Rattle.rules.specs.Charge.{Charge}
 use Rattle.rules.specs.Site as rules
-use Rattle.rules.specs.Site.{no_feeder, joined, site_charges}
-use Rattle.rules.specs.Calls.{moved_to}
-use Rattle.rules.proofs.Lists.{length_tabulate, length_keep}
-use Rattle.charges.specs.declared.Charges.{Charges}
-use Rattle.charges.specs.Arrays.{charge_at, charges_of, Holds}
+use Rattle.rules.specs.Site.{joined}
+use Rattle.charges.specs.Arrays.{charges_of}
 use Rattle.charges.proofs.Feeders.{joined_from, joined-none}
+use Rattle.station.specs.declared.Feeder.{Feeder}
 use Rattle.station.specs.declared.Station.{Station}
-use Rattle.station.specs.View.{feeder_at, view, Formed}
-use Rattle.station.proofs.Views.{view_length, view_at}
-use Rattle.station.proofs.Moves.{passed_feeder}
+use Rattle.station.specs.View.{outside, feeder_at, view, Formed}
+use Rattle.station.proofs.Views.{view_length, view_at, length_among, among_at}
 
 -- the charges of the feeders from place k on
 abbrev pub held_from : Station → ℕ → List Charge
@@ -29,91 +25,56 @@ pub from_none : (s : Station) {k : ℕ} → k ≡ s.count → held_from s k ≡ 
 from_none s {k} e = ap (held_from s) (e ∙ sym (view_length s)) ∙ joined-none (view s).feeders
 
 -- one feeder more
-pub from_on : (s : Station) (k : ℕ) → 0 < k → k ≤ s.count → held_from s (k - 1) ≡ charges_of (feeder_at s (k - 1)).charges ++ held_from s k
-from_on s k p h =
-    let back : k - 1 + 1 ≡ k = omega arith in
-    joined_from (view s).feeders (k - 1) (omega (arith, view_length s))
-    ∙ ap (λ (g : rules.Feeder). g.charges ++ held_from s (k - 1 + 1)) (view_at s (k - 1) (omega arith))
-    ∙ ap (λ (j : ℕ). charges_of (feeder_at s (k - 1)).charges ++ held_from s j) back
+pub from_on : (s : Station) (k : ℕ) → k < s.count → held_from s k ≡ charges_of (feeder_at s k).charges ++ held_from s (k + 1)
+from_on s k h =
+    joined_from (view s).feeders k (omega (arith, h, view_length s))
+    ∙ ap (λ (g : rules.Feeder). g.charges ++ held_from s (k + 1)) (view_at s k h)
 
--- those of them that are not finished
-abbrev pub left_from : Station → ℕ → ℕ → List Charge
-left_from s target k = joined (map (passed_feeder target) (drop k (view s).feeders))
+-- the first feeders, which are left to go over
+pub record Left (s : Station) (rest : List Feeder) : Type 0 where
+  pub few : length rest ≤ s.count
+  pub are : (i : ℕ) → i < length rest → get_or rest i outside ≡ feeder_at s i
 
-left_on :
-    (s : Station) (target k : ℕ) → 0 < k → k ≤ s.count →
-    left_from s target (k - 1) ≡ unfinished_charges target (charges_of (feeder_at s (k - 1)).charges) ++ left_from s target k
-left_on s target k p h =
-    let back : k - 1 + 1 ≡ k = omega arith in
-    ap (λ (gs : List rules.Feeder). joined (map (passed_feeder target) gs))
-    (drop-cons (view s).feeders (k - 1) no_feeder (omega (arith, view_length s)))
-    ∙ ap (λ (g : rules.Feeder). unfinished_charges target g.charges ++ joined (map (passed_feeder target) (drop (suc (k - 1)) (view s).feeders)))
-    (view_at s (k - 1) (omega arith))
-    ∙ ap (λ (j : ℕ). unfinished_charges target (charges_of (feeder_at s (k - 1)).charges) ++ left_from s target j) (sym (add-one (k - 1)) ∙ back)
+-- all are, at the beginning
+pub left_all : (s : Station) → Formed s → Left s (take s.count s.feeders)
+left_all s w = record { few = omega (arith, length_among s w); are = λ i h. among_at s i (omega (arith, h, length_among s w)) }
 
--- Charges that are dropped
+-- the last of these is gone over, and those before it are left
+pub record Last (s : Station) (rest : List Feeder) (g : Feeder) (rest' : List Feeder) : Type 0 where
+  pub one_less : length rest ≡ length rest' + 1
+  pub inside : length rest' < s.count
+  pub is : g ≡ feeder_at s (length rest')
+  pub left : Left s rest'
+  pub held : held_from s (length rest') ≡ charges_of g.charges ++ held_from s (length rest)
 
--- so many of the feeders from place k on
-pub record DroppedFrom (s : Station) (target n k : ℕ) : Type 0 where
-  pub turns : k ≤ s.count
-  pub few : n ≤ 180 * (s.count - k)
-  pub sum : n + length (left_from s target k) ≡ length (held_from s k)
-
-pub dropped_none : (s : Station) (target : ℕ) {n k : ℕ} → n ≡ 0 → k ≡ s.count → DroppedFrom s target n k
-dropped_none s target {n} {k} z e =
+pub last : {s : Station} {rest : List Feeder} (g : Feeder) (rest' : List Feeder) → Left s rest → rest ≡ push rest' g → Last s rest g rest'
+last {s} {rest} g rest' l e =
     record {
-      turns = omega arith;
-      few = omega arith;
-      sum =
-          let here : k ≡ length (view s).feeders = e ∙ sym (view_length s) in
-          rw (z, here, drop-length (view s).feeders) (omega arith);
+      one_less = one_less;
+      inside = inside;
+      is = is;
+      left =
+          record {
+            few = omega (arith, inside);
+            are = λ i h.
+                sym (get_or_append_left rest' (g ∷ []) outside i h)
+                ∙ ap (λ gs. get_or gs i outside) (sym e)
+                ∙ l.are i (omega (arith, h, one_less));
+          };
+      held =
+          from_on s (length rest') inside
+          ∙ ap (λ (h : Feeder). charges_of h.charges ++ held_from s (length rest' + 1)) (sym is)
+          ∙ ap (λ k. charges_of g.charges ++ held_from s k) (sym one_less);
     }
+  where
+    one_less : length rest ≡ length rest' + 1
+    one_less = ap length e ∙ length_push rest' g
 
--- so many of a feeder's charges are not finished
-abbrev pub Unpassed : Charges → ℕ → ℕ → Type 0
-Unpassed c target m = (m ≡ length (unfinished_charges target (charges_of c))) × (m ≤ c.held)
+    inside : length rest' < s.count
+    inside = omega (arith, one_less, l.few)
 
-module _ (c : Charges) (target : ℕ) where
-  pub unpassed : {m : ℕ} → m ≡ length (unfinished_charges target (charges_of c)) → Unpassed c target m
-  unpassed e =
-      (e, omega (arith, e, length_keep (λ x. not (is_finished target x)) (charges_of c), length_tabulate (charge_at c) c.held 0))
-
-  -- by the charges that are kept
-  pub kept_left : {r : Charges} → Holds (unfinished_charges target (charges_of c)) r → Unpassed c target r.held
-  kept_left {r} h = unpassed (sym (length_tabulate (charge_at r) r.held 0) ∙ ap length h.charges)
-
-module _ (s : Station) (w : Formed s) (target : ℕ) {n k : ℕ} (d : DroppedFrom s target n k) (pos : 0 < k) where
-  abbrev here : Charges
-  here = (feeder_at s (k - 1)).charges
-
-  pub dropped_on :
-      {m n' k' : ℕ}
-      → Unpassed here target m
-      → n' ≡ n + (here.held - m)
-      → k' ≡ k - 1
-      → DroppedFrom s target n' k'
-  dropped_on {m} {n'} {k'} l q e =
-      rw (q, e)
-      (record {
-        turns = omega (arith, d.turns);
-        few = omega (arith, d.few, d.turns, (w.columns (k - 1) (omega (arith, d.turns))).few);
-        sum =
-            rw (from_on s k pos d.turns, left_on s target k pos d.turns)
-            (omega (
-              arith,
-              d.sum,
-              l.0,
-              l.1,
-              length-append (charges_of here) (held_from s k),
-              length-append (unfinished_charges target (charges_of here)) (left_from s target k),
-              length_tabulate (charge_at here) here.held 0,
-            ));
-      })
-
-pub dropped_all :
-    {s : Station} {target n k : ℕ} → DroppedFrom s target n k → k ≡ 0 →
-    n ≡ length (site_charges (view s)) - length (site_charges (moved_to (view s) target))
-dropped_all {s} {target} {n} {k} d e =
-    let sum : n + length (left_from s target 0) ≡ length (held_from s 0) =
-    subst (λ (j : ℕ). n + length (left_from s target j) ≡ length (held_from s j)) e d.sum in
-    omega (arith, sum)
+    is : g ≡ feeder_at s (length rest')
+    is =
+        sym (get_or-append_seam rest' g [] outside)
+        ∙ ap (λ gs. get_or gs (length rest') outside) (sym e)
+        ∙ l.are (length rest') (omega (arith, one_less))

@@ -1,10 +1,9 @@
+pub mod FromTheLast
+pub mod OnTheBoard
+pub mod Reported
+pub mod Dropped
+pub mod Moved
 pub mod Telling
 pub mod Among
-pub mod Only
 pub mod Enquiring
-pub mod FromTheLast
-pub mod Reported
-pub mod Moved
-pub mod MovedAlone
-pub mod OnTheBoard
 pub mod Withdrawn

@@ -1,5 +1,4 @@
--- A withdrawal, on the feeder that holds the ticket: what the plan that is left has to be, and that the result is that of the rules for
--- every station of which it is that feeder.
+-- A withdrawal from the feeder that holds the ticket: what the plan that is left has to be, and that the result is that of the rules.
 use mathlib.Core.Path.{◌≡◌, refl, sym, ap, subst, ◌∙◌}
 use Prim.Native.Nat.{ℕ, ◌+◌, ◌≤◌, ◌<◌}
 use mathlib.Core.Bool.{Bool, true, false, not, ◌&&◌}
@@ -7,7 +6,8 @@ use mathlib.Core.List.{List, [], ◌∷◌}
 use native.Mathlib.Omega.{arith}
 use lib.Dec.{eqb}
 use borrow.Author.Tests.{lt-ltb, le-ltb}
-use Rattle.rules.specs.Basics.{at, nothing, Each, some}
+use Rattle.std.proofs.lemmas.List.{set-get_or}
+use Rattle.rules.specs.Basics.{Each, some}
 use Rattle.rules.specs.Load.{sound}
 use Rattle.rules.specs.Charge.{Charge, load_of, loads_of, seen, is_begun, is_waiting, has_ticket, without_ticket}
 use Rattle.rules.specs.Site as rules
@@ -17,6 +17,7 @@ use Rattle.rules.proofs.Ranges.{first_found}
 use Rattle.rules.proofs.Lists.{keep_each}
 use Rattle.rules.proofs.Distinct.{site_distinct}
 use Rattle.rules.proofs.Withdrawing.{distinct_not_begun}
+use Rattle.refusals.specs.declared.Refusal.TheVariants.{NotHeld, AlreadyBegun, RestUnsound}
 use Rattle.charges.specs.declared.Charges.{Charges}
 use Rattle.charges.specs.Arrays.{charge_at, charges_of, Holds}
 use Rattle.charges.specs.Held.{Listed}
@@ -24,21 +25,18 @@ use Rattle.planner.specs.declared.Beside.{Beside}
 use Rattle.planner.specs.Others.{Plannable}
 use Rattle.planner.specs.Ready.{terms_of, Profiled}
 use Rattle.planner.proofs.Showing.{listed_profiled}
-use Rattle.station.specs.declared.Feeder.{Feeder}
 use Rattle.station.specs.declared.Station.{Station}
-use Rattle.station.specs.declared.One.{One}
-use Rattle.station.specs.View.{feeder_view, feeder_at, view, one_at, Of}
-use Rattle.station.specs.Beside.{BesideOf}
-use Rattle.station.specs.Holders.{HeldAt, Holding}
-use Rattle.station.specs.Given.{Leaves}
+use Rattle.station.specs.declared.surroundings.Surroundings.{Surroundings}
+use Rattle.station.specs.View.{outside, feeder_view, feeder_at, view, Valid}
+use Rattle.station.specs.Beside.{BesideOf, Surrounds, Lends}
+use Rattle.station.specs.Holders.{Lacks, HeldAt}
+use Rattle.station.specs.Given.{Gives}
 use Rattle.station.proofs.Views.{view_number}
-use Rattle.station.proofs.Moves.{left_holding}
-use Rattle.station.proofs.Ones.{of_stays}
-use Rattle.station.proofs.Refusing.{giving, call_granted, leaves_refused}
-use Rattle.site.proofs.Among.{Among, some_place, among_some, number_with}
-use Rattle.site.proofs.Only.{keeping}
-use Rattle.site.proofs.Telling.{found_in, found_held}
-use Rattle.site.proofs.Enquiring.{lacks_some, nobody_some, own_some, holder_among, site_some}
+use Rattle.station.proofs.Changed.{changed_at, changed_view, changed_formed}
+use Rattle.station.proofs.Rests.{lent_beside}
+use Rattle.station.proofs.Refusing.{giving, call_granted, gives_by, gives_refused}
+use Rattle.site.proofs.Among.{some_place, among_some, number_with}
+use Rattle.site.proofs.Enquiring.{lacks_some, nobody_some, own_some, holder_among, site_some, place_held}
 
 -- The plan that is left
 
@@ -63,94 +61,88 @@ left_profiled c ticket l r =
           (loads_each (charges_of c) (listed_profiled l).plannable)));
     }
 
--- The feeder with the ticket
+-- The station
 
-module _ (s : Station) (o : One) (ticket : ℕ) (f : Of s o) (n : Holding s ticket o.place) where
-  abbrev own : Charges
-  own = o.feeder.charges
+-- after a look at a feeder, which is then what it was
+abbrev pub looked_at : Station → ℕ → Station
+looked_at s p = changed_at s p (feeder_at s p).charges s.next
 
-  feeder_of_lem : o.feeder ≡ feeder_at s o.place
-  feeder_of_lem = ap (λ (x : One). x.feeder) f.same
+pub looked_same : (s : Station) (p : ℕ) → looked_at s p ≡ s
+looked_same s p =
+    ap (λ fs. record { count = s.count; site = s.site; clock = s.clock; next = s.next; feeders = fs }) (set-get_or s.feeders p outside)
 
-  clock_of : o.clock ≡ s.clock
-  clock_of = ap (λ (x : One). x.clock) f.same
-
-  pub withdraw_nobody : {a : Answer} → found_in own ticket ≡ nothing → a ≡ refused 15 → Leaves (step (view s) (withdraw ticket)) s a o []
+module _ (s : Station) (ticket : ℕ) (v : Valid s) where
+  pub withdraw_nobody :
+      {a : Answer} → ((i : ℕ) → i < s.count → Lacks s ticket i) → a ≡ refused 15 → Gives (step (view s) (withdraw ticket)) a s []
   withdraw_nobody e says =
-      leaves_refused s (withdraw ticket) (of_stays f)
-      (rw (nobody_some s ticket (n.none (subst (λ (g : Feeder). found_in g.charges ticket ≡ nothing) feeder_of_lem e))))
-      (omega arith)
-      says
-      refl
+      rw says (gives_refused s (withdraw ticket) NotHeld v (rw (nobody_some s ticket e)) refl)
 
-  module _ {k : ℕ} (e : found_in own ticket ≡ at k) where
-    holder : HeldAt s ticket o.place k
-    holder =
-        record {
-          inside = f.inside;
-          found = subst (λ (g : Feeder). found_in g.charges ticket ≡ at k) feeder_of_lem e;
-          before = n.before;
-        }
+  module _ {f k : ℕ} (o : HeldAt s ticket f k) where
+    abbrev own : Charges
+    own = (feeder_at s f).charges
 
-    own_among : Among ticket (charges_of own) (site_charges (view s))
-    own_among = rw feeder_of_lem (holder_among s ticket holder)
+    -- as it was valid, and is after a look at the feeder
+    pub looked_valid : Valid (looked_at s f)
+    looked_valid = subst Valid (sym (looked_same s f)) v
 
     -- a test of the charge that was found, beside its ticket
     with : (q : Charge → Bool) → q (charge_at own k) ≡ true → some (λ c. has_ticket ticket c && q c) (site_charges (view s)) ≡ true
     with q h =
-        among_some own_among (λ c. has_ticket ticket c && q c)
-        (some_place (λ c. has_ticket ticket c && q c) (charge_at own) own.held 0 k (omega arith) (omega (arith, found_held own ticket e))
-        (rw ((first_found (λ j. eqb (charge_at own j).ticket ticket) own.held 0 k e).here, h)))
+        among_some (holder_among s ticket o) (λ c. has_ticket ticket c && q c)
+        (some_place (λ c. has_ticket ticket c && q c) (charge_at own) own.held 0 k (omega arith) (omega (arith, place_held s ticket o))
+        (rw ((first_found (λ j. eqb (charge_at own j).ticket ticket) own.held 0 k o.found).here, h)))
 
-    pub withdraw_begun : {a : Answer} → (charge_at own k).start < o.clock → a ≡ refused 25 → Leaves (step (view s) (withdraw ticket)) s a o []
+    pub withdraw_begun :
+        {a : Answer} → (charge_at own k).start < s.clock → a ≡ refused 25 → Gives (step (view s) (withdraw ticket)) a (looked_at s f) []
     withdraw_begun h says =
-        leaves_refused s (withdraw ticket) (of_stays f)
-        (rw (site_some s ticket holder, with (is_begun s.clock) (lt-ltb (charge_at own k).start s.clock (omega (arith, h, clock_of)))))
-        (omega arith)
-        says
-        refl
+        rw (looked_same s f, says)
+        (gives_refused s (withdraw ticket) AlreadyBegun v
+        (rw (site_some s ticket o, with (is_begun s.clock) (lt-ltb (charge_at own k).start s.clock h)))
+        refl)
 
-    number : feeder_with ticket 1 (view s).feeders ≡ o.place + 1
+    number : feeder_with ticket 1 (view s).feeders ≡ f + 1
     number =
-        number_with ticket (λ i. feeder_view (feeder_at s i)) s.count 0 o.place (omega arith) (omega (arith, f.inside))
-        (λ i h. lacks_some s ticket i (n.before i h))
-        (own_some s ticket holder)
+        number_with ticket (λ i. feeder_view (feeder_at s i)) s.count 0 f (omega arith) (omega (arith, o.inside))
+        (λ i h. lacks_some s ticket i (o.before i h))
+        (own_some s ticket o)
 
-    on_feeder_lem : charges_on (view s) (o.place + 1) ≡ charges_of own
-    on_feeder_lem =
-        ap (λ (g : rules.Feeder). g.charges) (view_number s o.place f.inside) ∙ ap (λ (g : Feeder). charges_of g.charges) (sym feeder_of_lem)
+    on_feeder_lem : charges_on (view s) (f + 1) ≡ charges_of own
+    on_feeder_lem = ap (λ (g : rules.Feeder). g.charges) (view_number s f o.inside)
 
     module _
-        {kept : Charges} (r : Holds (without_ticket ticket (charges_of own)) kept) (h : o.clock ≤ (charge_at own k).start)
-        {b : Beside} (y : BesideOf s o.place b) {test : Bool} (q : test ≡ sound (terms_of b) b.clock (seen (terms_of b) (charges_of kept))) where
+        {kept : Charges} (r : Holds (without_ticket ticket (charges_of own)) kept) (h : s.clock ≤ (charge_at own k).start)
+        {x : Surroundings} {b : Beside} (g : Surrounds (looked_at s f) f x) (l : Lends x b)
+        {test : Bool} (q : test ≡ sound (terms_of b) b.clock (seen (terms_of b) (charges_of kept))) where
       not_begun : some (λ c. has_ticket ticket c && is_begun s.clock c) (site_charges (view s)) ≡ false
       not_begun =
-          distinct_not_begun s.clock ticket (site_charges (view s)) (site_distinct (view s) f.valid.state)
-          (with (is_waiting s.clock) (rw (le-ltb (charge_at own k).start s.clock (omega (arith, h, clock_of)))))
+          distinct_not_begun s.clock ticket (site_charges (view s)) (site_distinct (view s) v.state)
+          (with (is_waiting s.clock) (rw (le-ltb (charge_at own k).start s.clock h)))
 
-      whole : sound (limits_of (view s) (o.place + 1)) s.clock (seen (limits_of (view s) (o.place + 1)) (without_ticket ticket (charges_on (view s) (o.place + 1)))) ≡ test
+      beside : BesideOf s f b
+      beside = lent_beside o.inside (subst (λ (t : Station). Surrounds t f x) (looked_same s f) g) l
+
+      whole : sound (limits_of (view s) (f + 1)) s.clock (seen (limits_of (view s) (f + 1)) (without_ticket ticket (charges_on (view s) (f + 1)))) ≡ test
       whole =
-          ap (λ (cs : List Charge). sound (limits_of (view s) (o.place + 1)) s.clock (seen (limits_of (view s) (o.place + 1)) cs))
+          ap (λ (cs : List Charge). sound (limits_of (view s) (f + 1)) s.clock (seen (limits_of (view s) (f + 1)) cs))
           (ap (without_ticket ticket) on_feeder_lem ∙ sym r.charges)
-          ∙ ap (λ y. sound y s.clock (seen y (charges_of kept))) (sym y.terms)
-          ∙ ap (λ t. sound (terms_of b) t (seen (terms_of b) (charges_of kept))) (sym y.clock)
+          ∙ ap (λ y. sound y s.clock (seen y (charges_of kept))) (sym beside.terms)
+          ∙ ap (λ t. sound (terms_of b) t (seen (terms_of b) (charges_of kept))) (sym beside.clock)
           ∙ sym q
 
-      pub withdraw_unsound : {a : Answer} → test ≡ false → a ≡ refused 26 → Leaves (step (view s) (withdraw ticket)) s a o []
+      pub withdraw_unsound : {a : Answer} → test ≡ false → a ≡ refused 26 → Gives (step (view s) (withdraw ticket)) a (looked_at s f) []
       withdraw_unsound z says =
-          leaves_refused s (withdraw ticket) (of_stays f) (rw (site_some s ticket holder, not_begun, number, whole, z)) (omega arith) says refl
+          rw (looked_same s f, says)
+          (gives_refused s (withdraw ticket) RestUnsound v (rw (site_some s ticket o, not_begun, number, whole, z)) refl)
 
       pub withdraw_taken :
-          {l : One} → test ≡ true → l ≡ keeping o kept → Leaves (step (view s) (withdraw ticket)) s withdrawn l []
+          {t : Station} → test ≡ true → t ≡ changed_at (looked_at s f) f kept s.next → Gives (step (view s) (withdraw ticket)) withdrawn t []
       unfolding withdrawing
       withdraw_taken z same =
-          rw (same ∙ ap (λ (x : One). keeping x kept) f.same)
-          (record {
-            result =
-                ap (λ (x : State). giving withdrawn x [])
-                (left_holding s f.valid.formed o.place (keeping (one_at s o.place) kept).feeder (charges_of kept) s.next f.inside refl
-                ∙ ap (λ (cs : List Charge). holding (view s) (o.place + 1) cs s.next) (r.charges ∙ ap (without_ticket ticket) (sym on_feeder_lem))
-                ∙ ap (λ (i : ℕ). holding (view s) i (without_ticket ticket (charges_on (view s) i)) s.next) (sym number))
-                ∙ call_granted (view s) (withdraw ticket) 0 (rw (site_some s ticket holder, not_begun, number, whole, z)) refl;
-            fits = record { inside = f.inside; columns = r.columns };
-          })
+          rw same
+          (subst (λ (y : Station). Gives (step (view s) (withdraw ticket)) withdrawn (changed_at y f kept s.next) []) (sym (looked_same s f))
+          (gives_by (withdraw ticket) v (changed_formed s v.formed f kept s.next o.inside r.columns)
+          (ap (λ (y : State). giving withdrawn y [])
+          (changed_view s v.formed f kept s.next o.inside
+          ∙ ap (λ (cs : List Charge). holding (view s) (f + 1) cs s.next) (r.charges ∙ ap (without_ticket ticket) (sym on_feeder_lem))
+          ∙ ap (λ (i : ℕ). holding (view s) i (without_ticket ticket (charges_on (view s) i)) s.next) (sym number))
+          ∙ call_granted (view s) (withdraw ticket) 0 (rw (site_some s ticket o, not_begun, number, whole, z)) refl)))

@@ -3,46 +3,42 @@ ghost use Rattle.std.specs.Prelude.{◌≡◌, ◌-◌, ◌*◌, ◌≤◌, leng
 ghost use Rattle.rules.specs.Basics.{first_of};
 ghost use Rattle.rules.specs.Site.{site_charges};
 ghost use Rattle.rules.specs.Calls.{reported as reported_by, pairs, written, moved_to, move as move_call, step};
-ghost use Rattle.station.specs.View.{view, Formed, Valid, station_of, Alone};
-ghost use Rattle.station.specs.Given.{Leaves, LeavesAlone};
+ghost use Rattle.refusals.specs.Refusals.{refusal_in};
+ghost use Rattle.station.specs.View.{view, Formed, Valid};
+ghost use Rattle.station.specs.Given.{Gives};
 ghost use Rattle.site.specs.Answers.{move_rows, move_answer};
 
 use charges::PLACES;
 use queues::by_start;
 use queues::reports::report;
-use station::{One, Station};
+use refusals::Refusal;
+use station::Station;
 
 // A report has a ticket and a start for each charge that a feeder may hold.
 const REPORTED: usize = 2 * PLACES;
 
+// How many charges were reported, and how many of them and of others were dropped.
 #[derive(Clone, Copy)]
-pub enum MoveAnswer {
-    Moved { reported: usize, dropped: usize },
-    Refused(u32),
+pub struct Moved {
+    pub reported: usize,
+    pub dropped: usize,
 }
 
-#[derive(Clone, Copy)]
-pub struct Moving {
-    pub answer: MoveAnswer,
-    pub left: One,
-}
-
-// The number of the first refusal of a clock move, 0 where none applies.
-fn move_refusal(count: usize, clock: u32, target: u32, list: &[u32]) -> u32
-    requires { count ≤ 4 }
-    ensures { result ≡ first_of (move_rows count clock target list.now) }
+// The first refusal of a clock move.
+fn move_refusal(station: &Station, target: u32, list: &[u32]) -> Result<(), Refusal>
+    requires { station.now.count ≤ 4 }
+    ensures { refusal_in result ≡ first_of (move_rows station.now.count station.now.clock target list.now) }
 {
     if 1000000 < target {
-        return 8;
+        return Err(Refusal::TargetTooLate);
     }
-    let needed = REPORTED * count;
-    if list.len() < needed {
-        return 9;
+    if list.len() < REPORTED * station.count {
+        return Err(Refusal::ReportTooShort);
     }
-    if target < clock {
-        return 12;
+    if target < station.clock {
+        return Err(Refusal::TargetBelowClock);
     }
-    0
+    Ok(())
 }
 
 // The report of all feeders, from the last one to the first. The answer: how many charges were reported.
@@ -51,8 +47,7 @@ fn report_feeders(station: &Station, target: u32, list: &mut [u32]) -> usize
     ensures { (result ≡ length (reported_by station.now.clock target (site_charges (view station.now)))) × (list.new ≡ written (pairs (reported_by station.now.clock target (site_charges (view station.now)))) list.old) }
 {
     let mut reported = 0;
-    for i in (0..station.count).rev() {
-        let feeder = &station.feeders[i];
+    for feeder in station.feeders[..station.count].iter().rev() {
         let passed = by_start(&feeder.charges, station.clock, target);
         report(&feeder.charges, &passed, list, reported);
         reported += passed.len();
@@ -66,61 +61,20 @@ fn dropped_at(station: &Station, target: u32) -> usize
     ensures { result ≡ length (site_charges (view station.now)) - length (site_charges (moved_to (view station.now) target)) }
 {
     let mut dropped = 0;
-    for k in (0..station.count).rev() {
-        let feeder = &station.feeders[k];
-        let left = feeder.charges.unfinished_count(target);
-        dropped += feeder.charges.held - left;
+    for feeder in &station.feeders[..station.count] {
+        dropped += feeder.charges.held - feeder.charges.unfinished_count(target);
     }
     dropped
 }
 
-// Of the only feeder.
-// Not inlined, so that its copies of the feeder are on the stack only while it runs.
-#[inline(never)]
-pub fn move_alone(one: One, target: u32, list: &mut [u32]) -> Moving
-    requires { Alone one }
-    ensures { LeavesAlone (step (view (station_of one)) (move_call target list.old)) (move_answer result.answer) result.left list.new }
+// Writes a ticket and a start of each charge that the clock passes to the front of the report.
+pub fn move_clock(station: &mut Station, target: u32, report: &mut [u32]) -> Result<Moved, Refusal>
+    requires { Valid station.old }
+    ensures { Gives (step (view station.old) (move_call target report.old)) (move_answer result) station.new report.new }
 {
-    let number = move_refusal(1, one.clock, target, &*list);
-    if 0 < number {
-        return Moving {
-            answer: MoveAnswer::Refused(number),
-            left: one,
-        };
-    }
-    let passed = by_start(&one.feeder.charges, one.clock, target);
-    report(&one.feeder.charges, &passed, list, 0);
-    let kept = one.feeder.charges.unfinished(target);
-    let reported = passed.len();
-    let dropped = one.feeder.charges.held - kept.held;
-    let mut moved = one;
-    moved.clock = target;
-    moved.feeder.charges = kept;
-    Moving {
-        answer: MoveAnswer::Moved { reported, dropped },
-        left: moved,
-    }
-}
-
-// Of all feeders: what is left has the next clock, and the finished charges are dropped when it is put back.
-pub fn move_clock(station: &Station, target: u32, report: &mut [u32]) -> Moving
-    requires { Valid station.now }
-    ensures { Leaves (step (view station.now) (move_call target report.old)) station.now (move_answer result.answer) result.left report.new }
-{
-    let refusal = move_refusal(station.count, station.clock, target, &*report);
-    if 0 < refusal {
-        let left = station.one(0);
-        return Moving {
-            answer: MoveAnswer::Refused(refusal),
-            left,
-        };
-    }
+    move_refusal(station, target, report)?;
     let reported = report_feeders(station, target, report);
     let dropped = dropped_at(station, target);
-    let mut left = station.one(0);
-    left.clock = target;
-    Moving {
-        answer: MoveAnswer::Moved { reported, dropped },
-        left,
-    }
+    station.move_to(target);
+    Ok(Moved { reported, dropped })
 }

@@ -1,13 +1,14 @@
 -- The fresh station: its feeders, what it is in the words of the rules, and the bounds that are answered.
 use mathlib.Core.Path.{◌≡◌, refl, sym, ap, subst, ◌∙◌}
 use Prim.Native.Nat.{ℕ, zero, suc, ◌*◌, ◌≤◌, ◌<◌}
-use mathlib.Core.List.{List, [], ◌∷◌, map}
+use mathlib.Core.List.{[], ◌∷◌, map}
 use native.Mathlib.Omega.{arith}
-use lib.ListN.{length, get_or, take}
+use native.Mathlib.Nat.{mul-le-mul}
+use lib.ListN.{get_or, take, get_or-map}
 use borrow.Author.Tests.{lt-ltb, le-ltb}
 use Rattle.rules.specs.Basics.{tabulate, first_of}
 use Rattle.rules.specs.Calls as rules
-use Rattle.rules.specs.Calls.{opened, settings, bound_of, fresh, open_refusals}
+use Rattle.rules.specs.Calls.{bound_of, fresh, open_refusals}
 use Rattle.rules.proofs.Tables.{first_of_none}
 use Rattle.rules.proofs.Lists.{tabulate_same, map_tabulate, tabulate_each}
 use Rattle.rules.proofs.Granted.{SettingsGranted, OpenGranted, open_granted, open_refusals_numbered}
@@ -15,35 +16,37 @@ use Rattle.charges.specs.declared.Charges.{Charges}
 use Rattle.charges.specs.Arrays.{Holds, Columns}
 use Rattle.charges.proofs.Storing.{holds_none}
 use Rattle.charges.proofs.Holding.{charges_same}
-use Rattle.station.specs.declared.Feeder.{Feeder}
-use Rattle.station.specs.declared.Station.{Station}
+use Rattle.station.specs.declared.open.Settings.{Settings}
 use Rattle.station.specs.declared.open.Asked.{Asked}
-use Rattle.station.specs.View.{no_charges, unused, outside, feeder_view, feeder_at, view, Formed}
-use Rattle.station.specs.Opened.{asked_of, settings_at, fresh_feeder, fresh_at, fresh_of, bounds_of}
-use Rattle.station.proofs.FeederRefusals.{product_most}
+use Rattle.station.specs.View.{no_charges, unused, feeder_view, feeder_at, view, Formed}
+use Rattle.station.specs.Opened.{settings_of, asked_of, settings_at, fresh_feeder, fresh_at, fresh_of, bounds_of}
 
--- a place inside of a list has what it has, whatever would be read outside
-get_d_inside : {A : Type 0} (xs : List A) (i : ℕ) (d e : A) → i < length xs → get_or xs i d ≡ get_or xs i e
-get_d_inside [] i d e h = absurd (omega arith)
-get_d_inside (x ∷ xs) zero d e h = refl
-get_d_inside (x ∷ xs) (suc i) d e h = get_d_inside xs i d e (omega arith)
+-- what is read past the last settings
+abbrev pub no_settings : Settings
+no_settings = record { limit = 0; percent = 0; tail = 0 }
+
+settings_is : (a : Asked) (i : ℕ) → settings_at a i ≡ settings_of (get_or a.settings i no_settings)
+settings_is a i = get_or-map settings_of a.settings i no_settings
 
 -- what no refusal turns away
 pub opens : (a : Asked) → first_of (open_refusals (asked_of a)) ≡ 0 → OpenGranted (asked_of a)
 opens a e = open_granted (asked_of a) (first_of_none (open_refusals (asked_of a)) (open_refusals_numbered (asked_of a)) e)
 
--- the product of a feeder up to the count
+-- the product of a feeder up to the count is a small one
 pub product_granted :
-    (a : Asked) (i n c r : ℕ)
+    (a : Asked) (i : ℕ)
     → first_of (open_refusals (asked_of a)) ≡ 0
     → i < a.count
-    → settings n c r ≡ settings_at a i
-    → c * n ≤ 20000
-product_granted a i n c r h l e = product_most n c (omega (arith, granted.limit_high)) (omega (arith, granted.percent_high))
+    → (get_or a.settings i no_settings).percent * (get_or a.settings i no_settings).limit ≤ 20000
+product_granted a i h l =
+    let x = get_or a.settings i no_settings in
+    let percent : x.percent ≤ 100 = omega (arith, granted.percent_high) in
+    let limit : x.limit ≤ 60 = omega (arith, granted.limit_high) in
+    omega (arith, mul-le-mul percent limit)
   where
-    granted : SettingsGranted (settings n c r)
+    granted : SettingsGranted (settings_of (get_or a.settings i no_settings))
     granted =
-        subst SettingsGranted (sym e)
+        subst SettingsGranted (settings_is a i)
         (tabulate_each SettingsGranted (settings_at a) a.count 0 (opens a h).each i (omega arith) (omega arith))
 
 -- charges of which none is held
@@ -52,30 +55,16 @@ none_held c h = charges_same c no_charges h.columns holds_none.columns h.charges
 
 -- The feeders of a fresh station
 
-abbrev feeder_with : ℕ → ℕ → ℕ → ℕ → Charges → Feeder
-feeder_with n c d r h = record { limit = n; percent = c; bound = d; tail = r; charges = h }
+pub feeder_fresh :
+    (x : Settings) {d : ℕ} {h : Charges} → d ≡ bound_of x.limit x.percent → Holds [] h
+    → record { limit = x.limit; percent = x.percent; bound = d; tail = x.tail; charges = h } ≡ fresh_feeder (settings_of x)
+feeder_fresh x e none = rw (e, none_held _ none) refl
 
 fresh_used : (a : Asked) (i : ℕ) → i < a.count → fresh_at a i ≡ fresh_feeder (settings_at a i)
 fresh_used a i h = rw (lt-ltb i a.count h)
 
 fresh_unused : (a : Asked) (i : ℕ) → a.count ≤ i → fresh_at a i ≡ unused
 fresh_unused a i h = rw (le-ltb i a.count h)
-
-pub feeder_used :
-    (a : Asked) (i n c d r : ℕ) (h : Charges)
-    → i < a.count
-    → settings n c r ≡ settings_at a i
-    → d ≡ bound_of n c
-    → Holds [] h
-    → feeder_with n c d r h ≡ fresh_at a i
-feeder_used a i n c d r h l e b none =
-    ap (λ x. feeder_with n c x r h) b
-    ∙ ap (feeder_with n c (bound_of n c) r) (none_held h none)
-    ∙ ap fresh_feeder e
-    ∙ sym (fresh_used a i l)
-
-pub feeder_unused : (a : Asked) (i : ℕ) (h : Charges) → a.count ≤ i → Holds [] h → feeder_with 0 0 0 0 h ≡ fresh_at a i
-feeder_unused a i h l none = ap (feeder_with 0 0 0 0) (none_held h none) ∙ sym (fresh_unused a i l)
 
 fresh_place : (a : Asked) (i : ℕ) → i < 4 → feeder_at (fresh_of a) i ≡ fresh_at a i
 fresh_place a zero h = refl
@@ -105,16 +94,7 @@ formed_fresh a l h =
 
 -- The bounds answered
 
-pub bounds_told :
-    (s : Station) (d : Feeder)
-    → length s.feeders ≡ 4
-    → opened (take s.count (tabulate (λ i. (get_or s.feeders i d).bound) 4 0)) ≡ opened (take s.count (bounds_of s))
-bounds_told s d h =
-    ap (λ bs. opened (take s.count bs))
-    (tabulate_same (λ i. (get_or s.feeders i d).bound) (λ i. (feeder_at s i).bound) 4 0
-    (λ i l m. ap (λ g. g.bound) (get_d_inside s.feeders i d outside (omega arith))))
-
-take_tabulate : {A : Type 0} (f : ℕ → A) (k n a : ℕ) → k ≤ n → take k (tabulate f n a) ≡ tabulate f k a
+pub take_tabulate : {A : Type 0} (f : ℕ → A) (k n a : ℕ) → k ≤ n → take k (tabulate f n a) ≡ tabulate f k a
 take_tabulate f zero n a h = refl
 take_tabulate f (suc k) zero a h = absurd (omega arith)
 take_tabulate f (suc k) (suc n) a h = ap (λ l. f a ∷ l) (take_tabulate f k n (suc a) (omega arith))

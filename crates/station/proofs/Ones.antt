@@ -1,28 +1,14 @@
--- One feeder of a station: it stays where nothing changes, and where it is the only one it is the whole station.
+-- The only feeder of a station is the whole station.
 use mathlib.Core.Path.{◌≡◌, refl, sym, ◌∙◌, ap, subst}
 use Prim.Native.Nat.{ℕ, zero, suc, ◌≤◌, ◌<◌}
 use mathlib.Core.List.{List, [], ◌∷◌}
 use native.Mathlib.Omega.{arith}
 use lib.ListN.{length, get_or}
-use borrow.Author.Tests.{le-ltb}
-use Rattle.rules.specs.Site.{State}
-use Rattle.rules.specs.Calls.{Answer, Result}
 use Rattle.charges.specs.Arrays.{Columns}
 use Rattle.station.specs.declared.Feeder.{Feeder}
 use Rattle.station.specs.declared.Station.{Station}
-use Rattle.station.specs.declared.One.{One}
-use Rattle.station.specs.View.{outside, unused, feeder_at, view, Formed, Valid, LeftOf, state_after, one_at, Of, SameHead, station_of, Alone}
-use Rattle.station.specs.Given.{Leaves}
-use Rattle.station.proofs.Moves.{left_same}
-
--- a feeder that is left as it was
-pub one_stays : (s : Station) (w : Formed s) (p : ℕ) → p < s.count → LeftOf s (one_at s p) × (state_after (view s) (one_at s p) ≡ view s)
-one_stays s w p h = (record { inside = h; columns = w.columns p h }, left_same s w p h)
-
-pub of_stays : {s : Station} {o : One} → Of s o → LeftOf s o × (state_after (view s) o ≡ view s)
-of_stays {s} {o} f = rw f.same (one_stays s f.valid.formed o.place f.inside)
-
--- The only feeder
+use Rattle.station.specs.declared.only.One.{One}
+use Rattle.station.specs.View.{outside, unused, feeder_at, Formed, Valid, one_at, station_of, Alone}
 
 four : (gs : List Feeder) → length gs ≡ 4 → gs ≡ get_or gs 0 outside ∷ get_or gs 1 outside ∷ get_or gs 2 outside ∷ get_or gs 3 outside ∷ []
 four [] e = absurd (omega (arith, e))
@@ -80,26 +66,8 @@ module _ {s : Station} {o : One} (v : Valid s) (n : s.count ≡ 1) (e : o ≡ on
         first = ap (λ (x : One). x.place) e;
       }
 
-pub alone_of : {o : One} → Alone o → Of (station_of o) o
-alone_of {o} a =
-    record {
-      valid = a.valid;
-      inside = omega (arith, a.first);
-      same =
-          ap (λ n. record { count = n; site = o.site; clock = o.clock; next = o.next; place = o.place; feeder = o.feeder }) a.single
-          ∙ ap (λ p. record { count = 1; site = o.site; clock = o.clock; next = o.next; place = o.place; feeder = feeder_at (station_of o) p }) (sym a.first);
-    }
-
--- what is left of it is the whole station again
-pub alone_left :
-    {o l : One} {r : Result} {answer : Answer} {list : List ℕ} → Alone o → Leaves r (station_of o) answer l list → SameHead o l →
-    record { answer = answer; state = view (station_of l); list = list } ≡ r
-alone_left {o} {l} {r} {answer} {list} a v e =
-    ap (λ (s : State). record { answer = answer; state = s; list = list }) (sym back) ∙ v.result
-  where
-    first : l.place ≡ 0
-    first = ap (λ (x : One). x.place) e ∙ a.first
-
-    back : state_after (view (station_of o)) l ≡ view (station_of l)
-    back =
-        rw (first, ap (λ (x : One). x.clock) e, ap (λ (x : One). x.site) e, le-ltb o.clock o.clock (omega arith)) refl
+-- and it is the feeder at its first place
+pub alone_same : {o : One} → Alone o → o ≡ one_at (station_of o) 0
+alone_same {o} a =
+    ap (λ n. record { count = n; site = o.site; clock = o.clock; next = o.next; place = o.place; feeder = o.feeder }) a.single
+    ∙ ap (λ p. record { count = 1; site = o.site; clock = o.clock; next = o.next; place = p; feeder = o.feeder }) a.first

@@ -4,7 +4,6 @@ use Prim.Native.Nat.{ℕ, ◌+◌, ◌<◌}
 use mathlib.Core.Bool.{Bool, true, false}
 use mathlib.Core.List.{List, map, ◌++◌}
 use lib.ListN.{length, get_or, length-append, length-map}
-use lib.Seq.{take-length}
 use Rattle.rules.specs.Load.{Load, elsewhere, limits}
 use Rattle.rules.specs.Charge.{load_of, loads_of, seen}
 use Rattle.rules.specs.Site as rules
@@ -14,13 +13,12 @@ use Rattle.charges.specs.declared.Charges.{Charges}
 use Rattle.charges.specs.Arrays.{charge_at, charges_of, Holds}
 use Rattle.search.specs.declared.limits.Limits.{Limits}
 use Rattle.charges.specs.Drawn.{loads_lent, seen_from}
-use Rattle.charges.proofs.Feeders.{OthersDrawn}
 use Rattle.station.specs.declared.Station.{Station}
 use Rattle.planner.specs.declared.Beside.{Beside}
-use Rattle.station.specs.declared.One.{One}
-use Rattle.station.specs.View.{feeder_at, view, Formed, limits_for, Of}
-use Rattle.station.specs.Beside.{BesideOf}
-use Rattle.station.proofs.Views.{view_length, view_at, view_number}
+use Rattle.station.specs.declared.surroundings.Surroundings.{Surroundings}
+use Rattle.station.specs.View.{feeder_at, view, Formed}
+use Rattle.station.specs.Beside.{BesideOf, Surrounds, Lends}
+use Rattle.station.proofs.Views.{view_at, view_number}
 
 -- the feeder at place i, as the gathering asks
 pub held_at_lem : (s : Station) (i : ℕ) → Formed s → i < s.count → Holds (get_or (view s).feeders i no_feeder).charges (feeder_at s i).charges
@@ -39,25 +37,16 @@ length_gathered own xs c e =
     length_seen true = refl
     length_seen false = length-map (loads_of (charges_of c)) elsewhere
 
--- all others are gathered
-pub others_all :
-    (s : Station) (p : ℕ) {k : ℕ} {drawn : List Load} → OthersDrawn (p + 1) (view s).feeders k drawn → k ≡ s.count →
-    drawn ≡ map elsewhere (loads_of (others_of (view s) (p + 1)))
-others_all s p {k} {drawn} v e =
-    let n : k ≡ length (view s).feeders = e ∙ sym (view_length s) in
-    v.loads ∙ rw (n, take-length (view s).feeders) refl
-
--- what a plan of a feeder stands beside, by the feeder itself and what the others draw
-pub beside_of :
-    {s : Station} {o : One} {b : Beside} → Of s o → b.limits ≡ limits_for o → b.clock ≡ o.clock →
-    loads_lent b.others ≡ map elsewhere (loads_of (others_of (view s) (o.place + 1))) → BesideOf s o.place b
-beside_of {s} {o} {b} f y c d =
+-- what is gathered for a plan of a feeder, lent
+pub lent_beside :
+    {s : Station} {p : ℕ} {x : Surroundings} {b : Beside} → p < s.count → Surrounds s p x → Lends x b → BesideOf s p b
+lent_beside {s} {p} {x} {b} h g l =
     record {
       terms =
-          ap (λ (x : Limits). limits x.limit x.bound x.site (loads_lent b.others)) (y ∙ ap limits_for f.same)
-          ∙ rw (d, view_number s o.place f.inside) refl;
-      clock = c ∙ ap (λ (x : One). x.clock) f.same;
-      draws = d;
+          ap (λ (y : Limits). limits y.limit y.bound y.site (loads_lent b.others)) (l.limits ∙ g.limits)
+          ∙ rw (l.others, g.others, view_number s p h) refl;
+      clock = l.clock ∙ g.clock;
+      draws = l.others ∙ g.others;
     }
 
 -- the others, and then the feeder's own

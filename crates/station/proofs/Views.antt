@@ -3,8 +3,9 @@ use mathlib.Core.Path.{◌≡◌, sym, ◌∙◌, ap, subst}
 use Prim.Native.Nat.{ℕ, zero, suc, ◌+◌, ◌-◌, ◌<◌}
 use mathlib.Core.Logic.{⊎_elim}
 use native.Mathlib.Omega.{arith}
-use lib.ListN.{length, get_or, set, length-set}
+use lib.ListN.{length, get_or, set, take, length-set}
 use lib.Seq.{get_or-set_same, get_or-set_other}
+use Rattle.std.proofs.lemmas.List.{get_or-take, length-take-le}
 use Rattle.rules.specs.Basics.{tabulate}
 use Rattle.rules.specs.Site as rules
 use Rattle.rules.specs.Site.{no_feeder, feeder_of, charges_on}
@@ -39,6 +40,17 @@ is_feeder_lem s i h = record { low = omega arith; high = omega (arith, view_leng
 
 pub held_on : (s : Station) (i : ℕ) → Formed s → i < s.count → Holds (charges_on (view s) (i + 1)) (feeder_at s i).charges
 held_on s i f h = record { charges = ap (λ (g : rules.Feeder). g.charges) (sym (view_number s i h)); columns = f.columns i h }
+
+-- The feeders up to the count, as a loop goes through them
+
+pub length_among : (s : Station) → Formed s → length (take s.count s.feeders) ≡ s.count
+length_among s w = length-take-le s.count s.feeders (omega (arith, w.four, w.few))
+
+pub among : (s : Station) {i : ℕ} → Formed s → i < length (take s.count s.feeders) → i < s.count
+among s w h = omega (arith, h, length_among s w)
+
+pub among_at : (s : Station) (i : ℕ) → i < s.count → get_or (take s.count s.feeders) i outside ≡ feeder_at s i
+among_at s i h = get_or-take s.count s.feeders i outside h
 
 -- One feeder changed
 

@@ -20,8 +20,3 @@ pub record HeldAt (s : Station) (ticket f k : ℕ) : Type 0 where
 abbrev pub HolderOf : Station → ℕ → Option Holder → Type 0
 HolderOf s ticket (Some h) = HeldAt s ticket h.feeder h.place
 HolderOf s ticket None = (i : ℕ) → i < s.count → Lacks s ticket i
-
--- the feeder at place p is the first that holds it, or none does
-pub record Holding (s : Station) (ticket p : ℕ) : Type 0 where
-  pub before : (i : ℕ) → i < p → Lacks s ticket i
-  pub none : Lacks s ticket p → (i : ℕ) → i < s.count → Lacks s ticket i

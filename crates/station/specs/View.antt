@@ -1,16 +1,17 @@
 -- What a station is in the words of the rules, and what every call needs of it and keeps.
-use Rattle.std.specs.Prelude.{◌≡◌, ℕ, ◌+◌, ◌≤◌, ◌<◌, cond, [], ◌∷◌, ltb, length, get_or, set, replicate}
+use Rattle.std.specs.Prelude.{◌≡◌, ℕ, ◌+◌, ◌≤◌, ◌<◌, true, ◌||◌, [], ◌∷◌, ltb, length, get_or, replicate, Result, Ok, Err}
 use Rattle.rules.specs.Basics.{tabulate}
 use Rattle.rules.specs.Site as rules
 use Rattle.rules.specs.Site.{places, State}
-use Rattle.rules.specs.Calls.{moved_to}
 use Rattle.rules.specs.Valid.{ValidState}
 use Rattle.search.specs.declared.limits.Limits.{Limits}
 use Rattle.charges.specs.declared.Charges.{Charges}
 use Rattle.charges.specs.Arrays.{charges_of, Columns}
+use Rattle.refusals.specs.declared.Refusal.{Refusal}
+use Rattle.refusals.specs.declared.Refusal.TheVariants.{NoSuchFeeder}
 use Rattle.station.specs.declared.Feeder.{Feeder}
 use Rattle.station.specs.declared.Station.{Station}
-use Rattle.station.specs.declared.One.{One}
+use Rattle.station.specs.declared.only.One.{One}
 
 abbrev pub feeder_view : Feeder → rules.Feeder
 feeder_view g =
@@ -87,20 +88,6 @@ pub record Valid (s : Station) : Type 0 where
   pub formed : Formed s
   pub state : ValidState (view s)
 
--- what a call leaves is of this station
-pub record LeftOf (s : Station) (l : One) : Type 0 where
-  pub inside : l.place < s.count
-  pub columns : Columns l.feeder.charges
-
--- the station with the feeder in its place, and the next ticket
-abbrev pub put_in : State → One → State
-put_in s l =
-    record { feeders = set s.feeders l.place (feeder_view l.feeder); site = s.site; clock = s.clock; next = l.next }
-
--- and where the clock is moved, without finished charges
-abbrev pub state_after : State → One → State
-state_after s l = cond (ltb s.clock l.clock) (moved_to (put_in s l) l.clock) (put_in s l)
-
 -- One feeder
 
 -- the feeder at a place, with what it shares with the others
@@ -108,24 +95,14 @@ abbrev pub one_at : Station → ℕ → One
 one_at s p =
     record { count = s.count; site = s.site; clock = s.clock; next = s.next; place = p; feeder = feeder_at s p }
 
--- what a plan of it has to keep to, but for what the others draw
-abbrev pub limits_for : One → Limits
-limits_for o = record { limit = o.feeder.limit; bound = o.feeder.bound; site = o.site }
+-- what a plan of a feeder has to keep to, but for what the others draw, where this is the site's limit
+abbrev pub limits_for : Feeder → ℕ → Limits
+limits_for g site = record { limit = g.limit; bound = g.bound; site = site }
 
--- it is one of a valid station
-pub record Of (s : Station) (o : One) : Type 0 where
-  pub valid : Valid s
-  pub inside : o.place < s.count
-  pub same : o ≡ one_at s o.place
-
--- "names its feeder, from 1": if there is a feeder with this number, it is this one
-abbrev pub Names : One → ℕ → Type 0
-Names o f = 1 ≤ f → f ≤ o.count → f ≡ o.place + 1
-
--- nothing has changed but the feeder and the next ticket
-abbrev pub SameHead : One → One → Type 0
-SameHead o l =
-    l ≡ record { count = o.count; site = o.site; clock = o.clock; next = l.next; place = o.place; feeder = l.feeder }
+-- "names its feeder, from 1": the place of the feeder with this number, or refusal 29 where there is none
+abbrev pub PlaceOf : ℕ → ℕ → Result ℕ Refusal → Type 0
+PlaceOf count number (Ok place) = (number ≡ place + 1) × (place < count)
+PlaceOf count number (Err refusal) = ((ltb number 1 || ltb count number) ≡ true) × (refusal ≡ NoSuchFeeder)
 
 -- the station of which it is the only feeder
 abbrev pub station_of : One → Station

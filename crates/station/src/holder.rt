@@ -17,8 +17,7 @@ impl Station {
         requires { Formed self.now }
         ensures { HolderOf self.now ticket result }
     {
-        for feeder in 0..self.count {
-            let held = &self.feeders[feeder];
+        for (feeder, held) in self.feeders[..self.count].iter().enumerate() {
             if let Some(place) = held.charges.place_of(ticket) {
                 return Some(Holder { feeder, place });
             }

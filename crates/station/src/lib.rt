@@ -1,12 +1,15 @@
 // A charging station by value: one to four feeders under one clock, one ticket row and the site's limit; how it is opened, what is
-// read off it, and what a call leaves of it.
+// read off it, and how its clock is moved.
 #![tactic(auto)]
 
-pub mod after;
+pub mod beside;
 pub mod holder;
+pub mod moved;
+pub mod only;
 pub mod open;
-pub mod picked;
+pub mod place;
 pub mod rest;
+pub mod surroundings;
 
 use charges::Charges;
 
@@ -34,15 +37,9 @@ pub struct Station {
     pub feeders: [Feeder; FEEDERS],
 }
 
-// One feeder of a station at its place, with what it shares with the others: how many there are, the site's limit, the clock and the
-// next ticket. A call takes it out of the station, and leaves it with what has changed: a copy of all four feeders costs more than most
-// calls. Of the others nothing changes but that a clock that is moved drops their finished charges too.
+// An answer, and the station that is handed back beside it.
 #[derive(Clone, Copy)]
-pub struct One {
-    pub count: usize,
-    pub site: u32,
-    pub clock: u32,
-    pub next: u32,
-    pub place: usize,
-    pub feeder: Feeder,
+pub struct Done<A, S> {
+    pub answer: A,
+    pub station: S,
 }

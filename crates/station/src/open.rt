@@ -1,12 +1,14 @@
 // An opening: a fresh station for its settings.
-ghost use Rattle.std.specs.Prelude.{◌≡◌, length, take, [], ◌∷◌};
+ghost use Rattle.std.specs.Prelude.{◌≡◌, length, take, get_or, map, ◌*◌, ◌<◌};
 ghost use Rattle.rules.specs.Basics.{first_of};
-ghost use Rattle.rules.specs.Calls.{settings_read, opened, open_refusals, opening};
-ghost use Rattle.station.specs.Opened.{settings_of, asked_of, settings_at, earlier_of, feeder_refusals, fresh_at, fresh_of, least_asked, open_answer, bounds_of, FreshLeast, OnlyLeast, Opens};
+ghost use Rattle.rules.specs.Calls.{opened, open_refusals, opening};
+ghost use Rattle.refusals.specs.Refusals.{refusal_in};
+ghost use Rattle.station.specs.Opened.{settings_of, asked_of, settings_from, asked_from, feeder_refusals, fresh_feeder, fresh_at, fresh_of, BoundOf, opened_of, bounds_of, FreshLeast, Opens};
 
-use crate::{Feeder, One, Station};
+use crate::{Done, FEEDERS, Feeder, Station};
 use charges::Charges;
 use profile::balance::nearest_hundreds;
+use refusals::Refusal;
 
 // What an opening is given for a feeder: the limit N, the percentage c and r.
 #[derive(Clone, Copy)]
@@ -21,209 +23,174 @@ pub struct Settings {
 pub struct Asked {
     pub count: u32,
     pub site: u32,
-    pub one: Settings,
-    pub two: Settings,
-    pub three: Settings,
-    pub four: Settings,
+    pub settings: [Settings; FEEDERS],
 }
 
-// The bound D of each feeder up to the count.
-#[derive(Clone, Copy)]
-pub enum OpenAnswer {
-    Opened {
-        count: usize,
-        one: u32,
-        two: u32,
-        three: u32,
-        four: u32,
-    },
-    Refused(u32),
-}
-
-#[derive(Clone, Copy)]
-pub struct Opening {
-    pub answer: OpenAnswer,
-    pub station: Station,
-}
-
-// The settings of the feeder at a place; past the fourth they count as 0, 0, 0.
-fn settings_at(asked: Asked, place: u32) -> Settings
-    ensures { settings_of result ≡ settings_at asked place }
-{
-    if place == 0 {
-        return asked.one;
-    }
-    if place == 1 {
-        return asked.two;
-    }
-    if place == 2 {
-        return asked.three;
-    }
-    if place == 3 {
-        return asked.four;
-    }
-    Settings {
-        limit: 0,
-        percent: 0,
-        tail: 0,
-    }
-}
-
-// The number of the first refusal for one feeder, 0 where none applies.
-fn feeder_refusal(settings: Settings) -> u32
-    ensures { result ≡ first_of (feeder_refusals (settings_of settings ∷ [])) }
-{
-    let limit = settings.limit;
-    let percent = settings.percent;
-    let tail = settings.tail;
-    if limit < 1 {
-        return 1;
-    }
-    if 60 < limit {
-        return 1;
-    }
-    if 100 < percent {
-        return 2;
-    }
-    let product = percent * limit;
-    let bound = nearest_hundreds(product);
-    if bound == 0 {
-        return 3;
-    }
-    if 5 < tail {
-        return 19;
-    }
-    0
-}
-
-// The smaller of two numbers of refusals, where 0 is none.
-fn earlier(a: u32, b: u32) -> u32
-    ensures { result ≡ earlier_of a b }
-{
-    if a == 0 {
-        return b;
-    }
-    if b == 0 {
-        return a;
-    }
-    if b < a { b } else { a }
-}
-
-// "Refusals 1, 2, 3 and 19 are each given if any feeder up to the count meets the condition": the first of them, 0 where none applies.
-fn feeders_refusal(asked: Asked) -> u32
-    ensures { result ≡ first_of (feeder_refusals (settings_read (asked_of asked))) }
-{
-    let mut first = 0;
-    for i in 0..asked.count {
-        let settings = settings_at(asked, i);
-        let refusal = feeder_refusal(settings);
-        first = earlier(first, refusal);
-    }
-    first
-}
-
-// The number of the first refusal of an opening, 0 where none applies.
-fn open_refusal(asked: Asked) -> u32
-    ensures { result ≡ first_of (open_refusals (asked_of asked)) }
-{
-    let count = asked.count;
-    let site = asked.site;
-    if count < 1 {
-        return 27;
-    }
-    if 4 < count {
-        return 27;
-    }
-    let refusal = feeders_refusal(asked);
-    if 0 < refusal {
-        return refusal;
-    }
-    if site < 1 {
-        return 28;
-    }
-    if 720 < site {
-        return 28;
-    }
-    0
-}
-
-// The feeder at a place of a fresh station.
-fn fresh_at(asked: Asked, place: u32) -> Feeder
-    requires { first_of (open_refusals (asked_of asked)) ≡ 0 }
-    ensures { result ≡ fresh_at asked place }
-{
-    let charges = Charges::none();
-    if asked.count <= place {
-        return Feeder {
-            limit: 0,
-            percent: 0,
-            bound: 0,
-            tail: 0,
-            charges,
-        };
-    }
-    let settings = settings_at(asked, place);
-    let limit = settings.limit;
-    let percent = settings.percent;
-    let product = percent * limit;
-    let bound = nearest_hundreds(product);
-    Feeder {
-        limit,
-        percent,
-        bound,
-        tail: settings.tail,
-        charges,
-    }
-}
-
-// "A fresh station: clock 0, next ticket 1, no charges."
-fn fresh(asked: Asked) -> Station
-    requires { first_of (open_refusals (asked_of asked)) ≡ 0 }
-    ensures { result ≡ fresh_of asked }
-{
-    let one = fresh_at(asked, 0);
-    let two = fresh_at(asked, 1);
-    let three = fresh_at(asked, 2);
-    let four = fresh_at(asked, 3);
-    Station {
-        count: asked.count as usize,
-        site: asked.site,
-        clock: 0,
-        next: 1,
-        feeders: [one, two, three, four],
-    }
-}
+// What a feeder past the count is made of.
+pub const NONE: Settings = Settings {
+    limit: 0,
+    percent: 0,
+    tail: 0,
+};
 
 // The settings of the least station: 1, 100, r 0, one feeder and W 720.
-fn least_asked() -> Asked
-    ensures { result ≡ least_asked }
-{
-    let settings = Settings {
+pub const LEAST: Asked = Asked {
+    count: 1,
+    site: 720,
+    settings: [Settings {
         limit: 1,
         percent: 100,
         tail: 0,
-    };
-    Asked {
-        count: 1,
-        site: 720,
-        one: settings,
-        two: settings,
-        three: settings,
-        four: settings,
+    }; FEEDERS],
+};
+
+// The bound D of each feeder up to the count.
+#[derive(Clone, Copy)]
+pub struct Opened {
+    pub count: usize,
+    pub bounds: [u32; FEEDERS],
+}
+
+// The number at a place; 0 where there is none.
+pub fn number_at(numbers: &[u32], i: usize) -> u32
+    ensures { result ≡ get_or numbers.now i 0 }
+{
+    numbers.get(i).copied().unwrap_or(0)
+}
+
+impl Settings {
+    // Those whose limit stands at a place.
+    fn from_numbers(numbers: &[u32], i: usize) -> Settings
+        requires { i < 12 }
+        ensures { settings_of result ≡ settings_from numbers.now i }
+    {
+        Settings {
+            limit: number_at(numbers, i),
+            percent: number_at(numbers, i + 1),
+            tail: number_at(numbers, i + 2),
+        }
+    }
+
+    // "D = c N / 100 to the nearest": the largest bound where the product is no number of 32 bits.
+    fn bound(&self) -> u32
+        ensures { BoundOf self.now result }
+    {
+        nearest_hundreds(self.percent.saturating_mul(self.limit))
+    }
+
+    // A feeder of these settings that holds nothing.
+    pub(crate) fn fresh(&self) -> Feeder
+        requires { self.now.percent * self.now.limit < 4294967296 }
+        ensures { result ≡ fresh_feeder (settings_of self.now) }
+    {
+        Feeder {
+            limit: self.limit,
+            percent: self.percent,
+            bound: self.bound(),
+            tail: self.tail,
+            charges: Charges::none(),
+        }
+    }
+}
+
+impl Asked {
+    // Three numbers for each feeder. "Feeders that are not given count as 0 0 0."
+    pub fn from_numbers(count: u32, site: u32, numbers: &[u32]) -> Asked
+        ensures { asked_of result ≡ asked_from count site numbers.now }
+    {
+        Asked {
+            count,
+            site,
+            settings: [
+                Settings::from_numbers(numbers, 0),
+                Settings::from_numbers(numbers, 3),
+                Settings::from_numbers(numbers, 6),
+                Settings::from_numbers(numbers, 9),
+            ],
+        }
+    }
+}
+
+// "Refusals 1, 2, 3 and 19 are each given if any feeder up to the count meets the condition": the first of them.
+fn feeders_refusal(settings: &[Settings]) -> Result<(), Refusal>
+    ensures { refusal_in result ≡ first_of (feeder_refusals (map settings_of settings.now)) }
+{
+    if settings.iter().any(|one| one.limit < 1 || 60 < one.limit) {
+        return Err(Refusal::LimitOutOfRange);
+    }
+    if settings.iter().any(|one| 100 < one.percent) {
+        return Err(Refusal::PercentAbove100);
+    }
+    if settings.iter().any(|one| one.bound() == 0) {
+        return Err(Refusal::BoundZero);
+    }
+    if settings.iter().any(|one| 5 < one.tail) {
+        return Err(Refusal::TailAboveFive);
+    }
+    Ok(())
+}
+
+// The first refusal of an opening.
+#[tactic(auto, using(crate::proofs::OpenRefusals::site_left))]
+fn open_refusal(asked: &Asked) -> Result<(), Refusal>
+    ensures { refusal_in result ≡ first_of (open_refusals (asked_of asked.now)) }
+{
+    if asked.count < 1 || 4 < asked.count {
+        return Err(Refusal::FeederCountOutOfRange);
+    }
+    feeders_refusal(&asked.settings[..asked.count as usize])?;
+    if asked.site < 1 || 720 < asked.site {
+        return Err(Refusal::SiteLimitOutOfRange);
+    }
+    Ok(())
+}
+
+impl Asked {
+    // The feeder at a place of a fresh station, without settings past the count.
+    fn fresh_at(&self, place: usize) -> Feeder
+        requires { (first_of (open_refusals (asked_of self.now)) ≡ 0) × (place < 4) }
+        ensures { result ≡ fresh_at self.now place }
+    {
+        if place < self.count as usize {
+            self.settings[place].fresh()
+        } else {
+            NONE.fresh()
+        }
+    }
+
+    // "A fresh station: clock 0, next ticket 1, no charges."
+    fn fresh(&self) -> Station
+        requires { first_of (open_refusals (asked_of self.now)) ≡ 0 }
+        ensures { result ≡ fresh_of self.now }
+    {
+        Station {
+            count: self.count as usize,
+            site: self.site,
+            clock: 0,
+            next: 1,
+            feeders: [
+                self.fresh_at(0),
+                self.fresh_at(1),
+                self.fresh_at(2),
+                self.fresh_at(3),
+            ],
+        }
     }
 }
 
 impl Station {
-    fn bounds(&self) -> OpenAnswer
+    fn opened(&self) -> Opened
         requires { length self.now.feeders ≡ 4 }
-        ensures { open_answer result ≡ opened (take self.now.count (bounds_of self.now)) }
+        ensures { opened_of result ≡ opened (take self.now.count (bounds_of self.now)) }
     {
-        OpenAnswer::Opened {
+        Opened {
             count: self.count,
-            one: self.feeders[0].bound,
-            two: self.feeders[1].bound,
-            three: self.feeders[2].bound,
-            four: self.feeders[3].bound,
+            bounds: [
+                self.feeders[0].bound,
+                self.feeders[1].bound,
+                self.feeders[2].bound,
+                self.feeders[3].bound,
+            ],
         }
     }
 
@@ -231,44 +198,24 @@ impl Station {
     pub fn least() -> Station
         ensures { FreshLeast result }
     {
-        fresh(least_asked())
+        LEAST.fresh()
     }
 
-    pub fn open(asked: Asked) -> Opening
+    pub fn open(asked: Asked) -> Done<Result<Opened, Refusal>, Station>
         ensures { Opens (opening (asked_of asked)) result.answer result.station }
     {
-        let refusal = open_refusal(asked);
-        if 0 < refusal {
-            let station = Station::least();
-            return Opening {
-                answer: OpenAnswer::Refused(refusal),
-                station,
-            };
-        }
-        let station = fresh(asked);
-        Opening {
-            answer: station.bounds(),
-            station,
-        }
-    }
-}
-
-impl One {
-    // The only feeder of the least station, where nobody needs the places of four: beside a refused restore.
-    pub fn least() -> One
-        ensures { OnlyLeast result }
-    {
-        let asked = least_asked();
-        let site = asked.site;
-        let feeder = fresh_at(asked, 0);
-        let first_ticket = 1;
-        One {
-            count: asked.count as usize,
-            site,
-            clock: 0,
-            next: first_ticket,
-            place: 0,
-            feeder,
+        match open_refusal(&asked) {
+            Ok(()) => {
+                let station = asked.fresh();
+                Done {
+                    answer: Ok(station.opened()),
+                    station,
+                }
+            }
+            Err(refusal) => Done {
+                answer: Err(refusal),
+                station: Station::least(),
+            },
         }
     }
 }

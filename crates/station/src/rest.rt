@@ -16,9 +16,8 @@ impl Station {
         ensures { (result ≡ map elsewhere (loads_of (others_of (view self.now) (place + 1)))) × (length result ≤ 540) }
     {
         let mut rest = Drawn::none();
-        for i in 0..self.count {
+        for (i, other) in self.feeders[..self.count].iter().enumerate() {
             if i != place {
-                let other = &self.feeders[i];
                 rest.append(&other.charges, false);
             }
         }
@@ -31,8 +30,7 @@ impl Station {
         ensures { (result ≡ seen (limits_of (view self.now) (place + 1)) (charges_of (feeder_at self.now place).charges)) × (length result ≤ 720) }
     {
         let mut drawn = self.rest(place);
-        let own = &self.feeders[place];
-        drawn.append(&own.charges, true);
+        drawn.append(&self.feeders[place].charges, true);
         drawn
     }
 }

@@ -3,7 +3,7 @@ use mathlib.Core.Path.{◌≡◌, refl, sym, ap, subst, ◌∙◌}
 use mathlib.Core.List.{List, [], ◌∷◌, map}
 use Rattle.rules.specs.Basics.{Each}
 use Rattle.rules.specs.Site.{State}
-use Rattle.rules.specs.Calls.{Asked, Result, opening, run, step}
+use Rattle.rules.specs.Calls.{Result, opening, run, step}
 use Rattle.guarantee.specs.Past.{Past, beginning, extended, after, past}
 use Rattle.guarantee.specs.DemandOne.{DemandOne}
 use Rattle.guarantee.specs.DemandTwo.{DemandTwo}
@@ -12,14 +12,7 @@ use Rattle.guarantee.specs.Demands.{reached}
 use Rattle.guarantee.proofs.Demands.{demands}
 use Rattle.station.specs.declared.Station.{Station}
 use Rattle.station.specs.View.{view, Valid}
-use Rattle.station.specs.declared.open.OpenAnswer.{OpenAnswer}
-use Rattle.station.specs.Opened.{Opens}
 use Rattle.theorem.specs.Theorem.{Made, MeetsApply, Chain, call_made, given, left, known, Theorem}
-
--- an opening that asks for what was passed in
-pub opened_with :
-    {x y : Asked} {answer : OpenAnswer} {first : Station} → Opens (opening x) answer first → x ≡ y → Opens (opening y) answer first
-opened_with gives same = rw same at gives
 
 -- one call: what it gave is one step of the rules
 one_step : (s : Station) (m : Made) → Valid s → MeetsApply s m → given m ≡ step (view s) (call_made m)

@@ -4,19 +4,19 @@
 -- `apply` (crates/calls/src/lib.rt), any calls with any numbers and any lists, each on the station that the
 -- last one handed back. `MeetsOpen` and `MeetsApply` below are the contracts of the two: src/lib.rt calls them, and the
 -- checker has proved there that what they give meets these. Nothing else is asked of the code.
-use Rattle.std.specs.Prelude.{◌≡◌, ℕ, List, [], ◌∷◌, map}
+use Rattle.std.specs.Prelude.{◌≡◌, ℕ, List, [], ◌∷◌, map, Result}
 use Rattle.rules.specs.Basics.{Each}
 use Rattle.rules.specs.Calls as rules
-use Rattle.rules.specs.Calls.{Asked, Result, opening, run, step}
+use Rattle.rules.specs.Calls.{Asked, opening, run, step}
 use Rattle.guarantee.specs.Past.{Past, beginning, extended, past}
 use Rattle.guarantee.specs.DemandOne.{DemandOne, DemandOneOpening}
 use Rattle.guarantee.specs.DemandTwo.{DemandTwo}
 use Rattle.guarantee.specs.DemandThree.{DemandThree}
+use Rattle.refusals.specs.declared.Refusal.{Refusal}
 use Rattle.station.specs.declared.Station.{Station}
-use Rattle.station.specs.declared.open.OpenAnswer.{OpenAnswer}
+use Rattle.station.specs.declared.open.Opened.{Opened}
 use Rattle.calls.specs.declared.Call.{Call}
 use Rattle.calls.specs.declared.Answer.{Answer}
-use Rattle.calls.specs.declared.Applied.{Applied}
 use Rattle.station.specs.View.{view, Valid}
 use Rattle.station.specs.Opened.{open_answer, Opens}
 use Rattle.calls.specs.Applied.{call_of, list_after, answer_of, Applies}
@@ -29,22 +29,22 @@ pub record Made : Type 0 where
   -- the list that a clock move or a board writes, before the call and after it
   pub list : List ℕ
   pub written : List ℕ
-  pub answer : Answer
+  pub answer : Result Answer Refusal
   pub station : Station
 
-abbrev pub made : Call → List ℕ → List ℕ → List ℕ → Applied → Made
-made call numbers list written r =
+abbrev pub made : Call → List ℕ → List ℕ → List ℕ → Result Answer Refusal → Station → Made
+made call numbers list written answer station =
     record {
       call = call;
       numbers = numbers;
       list = list;
       written = written;
-      answer = r.answer;
-      station = r.station;
+      answer = answer;
+      station = station;
     }
 
 -- The contract of `open`: it asks nothing.
-abbrev pub MeetsOpen : Asked → OpenAnswer → Station → Type 0
+abbrev pub MeetsOpen : Asked → Result Opened Refusal → Station → Type 0
 MeetsOpen x answer first = Opens (opening x) answer first
 
 -- The contract of `apply`: it asks a valid station.
@@ -61,7 +61,7 @@ Chain s (m ∷ ms) = MeetsApply s m × Chain m.station ms
 abbrev pub call_made : Made → rules.Call
 call_made m = call_of m.call m.numbers m.list
 
-abbrev pub given : Made → Result
+abbrev pub given : Made → rules.Result
 given m =
     record {
       answer = answer_of m.answer;
@@ -80,7 +80,7 @@ known h [] = h
 known h (m ∷ ms) = known (extended h (call_made m) (given m)) ms
 
 -- What is proved of an opening that asks for x and gave `answer` and `first`, and of the calls made then.
-pub record Guaranteed (x : Asked) (answer : OpenAnswer) (first : Station) (calls : List Made) : Type 0 where
+pub record Guaranteed (x : Asked) (answer : Result Opened Refusal) (first : Station) (calls : List Made) : Type 0 where
   -- every station of the chain is valid, so that what `apply` asks is always met
   pub first_valid : Valid first
   pub valid : Each (λ m. Valid m.station) calls
@@ -101,7 +101,7 @@ pub record Guaranteed (x : Asked) (answer : OpenAnswer) (first : Station) (calls
 
 abbrev pub Theorem : Type 0
 Theorem =
-    (x : Asked) (answer : OpenAnswer) (first : Station)
+    (x : Asked) (answer : Result Opened Refusal) (first : Station)
     → MeetsOpen x answer first
     → (calls : List Made)
     → Chain first calls

@@ -5,19 +5,25 @@ ghost use Rattle.station.specs.View.{Valid};
 ghost use Rattle.station.specs.Opened.{asked_of};
 ghost use Rattle.theorem.specs.Theorem.{MeetsOpen, MeetsApply, made};
 
-use calls::{Applied, Call};
-use station::Station;
-use station::open::{Asked, Opening};
+use calls::{Answer, Call};
+use refusals::Refusal;
+use station::open::{Asked, Opened};
+use station::{Done, Station};
 
-pub fn open(asked: Asked) -> Opening
+pub fn open(asked: Asked) -> Done<Result<Opened, Refusal>, Station>
     ensures { MeetsOpen (asked_of asked) result.answer result.station }
 {
     Station::open(asked)
 }
 
-pub fn apply(station: Station, call: Call, numbers: &[u32], list: &mut [u32]) -> Applied
+pub fn apply(
+    station: Station,
+    call: Call,
+    numbers: &[u32],
+    list: &mut [u32],
+) -> Done<Result<Answer, Refusal>, Station>
     requires { Valid station }
-    ensures { MeetsApply station (made call numbers.now list.old list.new result) }
+    ensures { MeetsApply station (made call numbers.now list.old list.new result.answer result.station) }
 {
     calls::apply(station, call, numbers, list)
 }

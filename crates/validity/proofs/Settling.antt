@@ -21,7 +21,7 @@ use Rattle.rules.proofs.Ranges.{below_or_not}
 use Rattle.rules.proofs.Lists.{length_tabulate, get_d_tabulate, each_map}
 use Rattle.charges.specs.declared.Charges.{Charges}
 use Rattle.charges.specs.Arrays.{charge_at, charges_of, tickets}
-use Rattle.station.specs.declared.One.{One}
+use Rattle.station.specs.declared.only.One.{One}
 use Rattle.station.specs.View.{view, station_of}
 use Rattle.layout.specs.Lists.{every}
 use Rattle.layout.specs.Image.{no_charge, held_at}

@@ -5,7 +5,7 @@ use Rattle.rules.specs.Site.{State}
 use Rattle.rules.specs.Calls.{bound_of}
 use Rattle.charges.specs.declared.Charges.{Charges}
 use Rattle.charges.specs.Arrays.{charge, charge_at, Columns}
-use Rattle.station.specs.declared.One.{One}
+use Rattle.station.specs.declared.only.One.{One}
 use Rattle.station.specs.View.{feeder_view}
 use Rattle.validity.specs.declared.ranges.Record.{Record}
 use Rattle.layout.specs.Validity.{settings_ranged}

@@ -14,7 +14,7 @@ use charges::loads::Loads;
 use planner::Beside;
 use planner::plan::plan_sound;
 use profile::FEEDER_STEPS;
-use station::One;
+use station::only::One;
 
 // The rest of the test for a feeder whose settings passed theirs.
 pub fn is_valid(one: &One) -> bool
@@ -24,7 +24,7 @@ pub fn is_valid(one: &One) -> bool
     if !records_right(one) {
         return false;
     }
-    let limits = one.limits();
+    let limits = one.feeder.limits(one.site);
     // There is no other feeder that could draw.
     let beside = Beside {
         clock: one.clock,

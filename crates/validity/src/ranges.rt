@@ -7,7 +7,7 @@ ghost use Rattle.validity.specs.Settled.{settings_valid, single, charge_of};
 
 use charges::Charges;
 use profile::balance::nearest_hundreds;
-use station::One;
+use station::only::One;
 
 // What block 0 of an image holds: N, c, r, clock, next ticket, number held and W.
 #[derive(Clone, Copy)]

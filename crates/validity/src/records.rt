@@ -5,7 +5,7 @@ ghost use Rattle.layout.specs.Validity.{record_right};
 ghost use Rattle.validity.specs.Settled.{held_by, single, Settled, ticket_rises};
 
 use crate::ranges::Record;
-use station::One;
+use station::only::One;
 
 // "Tickets, the next one last, are 1 or more and rise."
 #[tactic(auto, unfolding(crate::specs::Settled::ticket_rises))]

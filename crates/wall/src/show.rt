@@ -14,13 +14,11 @@ fn print_wall(image: &[u8], out: &mut Text)
     ensures { out.new ≡ out.old ++ wall image.now }
 {
     let restored = restore(image);
-    let refusal = restored.answer;
-    if refusal != 0 {
+    if restored.answer.is_err() {
         print_no_station(out);
     } else {
-        let one = restored.one;
-        let feeder = one.feeder;
-        print_pages(one.clock, &feeder.charges, out);
+        let one = &restored.station;
+        print_pages(one.clock, &one.feeder.charges, out);
     }
 }
 

@@ -1,4 +1,5 @@
 -- `reply::answer` meets its contract, by what was read.
+use borrow.Author.Rules.{rules}
 use native.Mathlib.Omega.{arith}
 use Rattle.reply.proofs.Replies.{can_reply, replied, refused}
 use Rattle.station.specs.View.{view}
@@ -8,7 +9,7 @@ pub reply_request-said-requires : goal.reply_request-said-requires
 reply_request-said-requires c = (c.requires.0, can_reply c.in-Ok.request c.args.lists.now.list (omega arith) c.in-Ok.is c.read.ensures.asks c.read.ensures.list_after)
 
 pub returns-in-Ok : goal.returns-in-Ok
-returns-in-Ok c = replied (view c.args.station.now) c.args.text.now c.in-Ok.request c.args.out.now c.in-Ok.is c.read.ensures.asks c.reply_request-said.ensures.says c.print.ensures
+returns-in-Ok c = replied (view c.args.station.now) c.args.text.now c.in-Ok.request c.args.out.now c.in-Ok.is c.read.ensures.asks c.reply_request-said.ensures.says (search rules)
 
 pub returns-in-Err : goal.returns-in-Err
-returns-in-Err c = refused c.args.text.now c.in-Err.reason c.args.out.now c.requires.0 c.in-Err.is c.read.ensures.asks c.print_error.ensures
+returns-in-Err c = refused c.args.text.now c.in-Err.reason c.args.out.now c.requires.0 c.in-Err.is c.read.ensures.asks (search rules)

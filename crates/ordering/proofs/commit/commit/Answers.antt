@@ -1,48 +1,31 @@
 -- Refused as the preview is, or with 16 for another start; otherwise the feeder has room for the charge behind the others.
-use mathlib.Core.Path.{◌≡◌, refl}
-use Prim.Native.Nat.{ℕ}
-use native.Mathlib.Omega.{arith}
+use mathlib.Core.Path.{refl}
 use mathlib.Core.List.{[], ◌∷◌, ◌++◌}
+use native.Mathlib.Omega.{arith}
+use Rattle.std.proofs.lemmas.Result.{err_from_is_err_and}
 use Rattle.charges.specs.Arrays.{charges_of, Holds}
-use Rattle.rules.specs.Calls.{step}
-use Rattle.station.specs.declared.Station.{Station}
-use Rattle.station.specs.declared.One.{One}
-use Rattle.station.specs.View.{view, Of, Names}
-use Rattle.orders.specs.declared.sought.PreviewAnswer.{PreviewAnswer}
-use Rattle.orders.specs.declared.sought.PreviewAnswer.TheVariants.{Previewed}
-use Rattle.orders.specs.Shown.{preview_answer}
-use Rattle.ordering.specs.declared.Order.{Order}
-use Rattle.ordering.specs.Ordered.{preview_of}
+use Rattle.station.specs.View.{feeder_at}
 use Rattle.ordering.proofs.Answering.{refused_so, refused_other}
-use Rattle.ordering.proofs.Taking.{Room, has_room, ordered, taken}
+use Rattle.ordering.proofs.Taking.{has_room, place_of, ordered, taken}
 use Rattle.ordering.proofs.commit.commit.Goals as goal
 
--- where a start was found there is room for the charge, by the station that the call asks for
-has :
-    {s : Station} {one : One} (o : Order) {found : PreviewAnswer} {start : ℕ}
-    → Of s one × Names one o.feeder × (preview_answer found ≡ (step (view s) (preview_of o)).answer)
-    → found ≡ Previewed start
-    → Room one o
-has o p e = has_room p.0 o p.1 p.2 e
-
-pub returns-in-Refused : goal.returns-in-Refused
-returns-in-Refused c = record { leaves = λ s of names told. refused_so of c.args.order names told c.args.shown c.in-Refused.is refl; same_head = refl }
+pub returns-in_err-start : goal.returns-in_err-start
+returns-in_err-start c =
+    let p = err_from_is_err_and c.from_residual.result c.from_residual.ensures.1 in
+    rw (p.1, p.2) (refused_so c.args.order c.requires c.args.shown c.in_err-start.field-0.0 c.in_err-start.ensures)
 
 pub returns-then-start-shown : goal.returns-then-start-shown
-returns-then-start-shown c = record { leaves = λ s of names told. refused_other of c.args.order names told c.args.shown c.in-Previewed.is (λ e. omega (arith, e, c.if-start-shown.true)) refl; same_head = refl }
+returns-then-start-shown c = refused_other c.args.order c.requires c.args.shown c.in_ok-start.ensures (λ e. omega (arith, e, c.if-start-shown.true))
 
-pub overflow_add-active_time : goal.overflow_add-active_time
-overflow_add-active_time c = omega (arith, (has c.args.order c.requires.1 c.in-Previewed.is).active_most)
+pub overflow_add-order : goal.overflow_add-order
+overflow_add-order c = omega (arith, (has_room c.args.order c.requires c.in_ok-start.ensures).active_most)
 
 pub push-requires : goal.push-requires
-push-requires c = (has c.args.order c.requires.1 c.in-Previewed.is).room
-
-pub overflow_add-left : goal.overflow_add-left
-overflow_add-left c = omega (arith, (has c.args.order c.requires.1 c.in-Previewed.is).ticket_left)
+push-requires c = (has_room c.args.order c.requires c.in_ok-start.ensures).room
 
 pub returns : goal.returns
 returns c =
-    let room = has c.args.order c.requires.1 c.in-Previewed.is in
-    let held : Holds (charges_of c.args.one.feeder.charges ++ (ordered c.args.one c.args.order c.in-Previewed.start ∷ [])) c.push.new.self =
+    let room = has_room c.args.order c.requires c.in_ok-start.ensures in
+    let held : Holds (charges_of (feeder_at c.args.station.now (place_of c.args.order)).charges ++ (ordered c.args.station.now c.args.order c.in_ok-start.start ∷ [])) c.push.new.self =
     record { charges = search c.push.ensures.charges; columns = c.push.ensures.columns room.columns } in
-    record { leaves = λ s of names told. taken of c.args.order names told c.in-Previewed.is c.args.shown (omega (arith, c.if-start-shown.false)) held refl refl; same_head = refl }
+    taken c.args.order c.requires c.in_ok-start.ensures c.args.shown (omega (arith, c.if-start-shown.false)) held refl refl

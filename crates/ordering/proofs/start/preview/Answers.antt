@@ -1,49 +1,32 @@
--- Refused with 29 or by the feeder's numbers; otherwise all that the site draws is lent, as the feeder sees it.
-use mathlib.Core.Path.{◌≡◌}
-use Prim.Native.Nat.{ℕ, ◌+◌, ◌≤◌}
+-- Refused with 29 or by the feeder's numbers; otherwise with the start that was found.
+use mathlib.Core.Path.{refl, ap, ◌∙◌}
 use native.Mathlib.Omega.{arith}
-use Rattle.station.specs.declared.Station.{Station}
-use Rattle.station.specs.declared.One.{One}
-use Rattle.station.specs.View.{Valid, one_at, Of, Names}
-use Rattle.ordering.specs.declared.Order.{Order}
-use Rattle.ordering.proofs.Rows.{There, feeder_zero, feeder_past, of_at, names_at}
-use Rattle.ordering.proofs.Seeking.{unrefused, drawn_can_seek}
-use Rattle.ordering.proofs.Answering.{refusal_shown, number_shown, drawn_shown}
-use Rattle.ordering.proofs.start.preview.Goals.{then-feeder-lt1-via-then-feeder-lt1, then-feeder-lt1-via-else-feeder-lt1+then-station-feeder}
+use Rattle.std.proofs.lemmas.Result.{err_from_is_err_and}
+use Rattle.refusals.specs.Refusals.{number_of}
+use Rattle.station.proofs.Refusing.{keeps_refused}
+use Rattle.ordering.specs.Ordered.{preview_of}
+use Rattle.ordering.proofs.Rows.{not_there, rows, unrefused}
+use Rattle.ordering.proofs.Answering.{preview_found}
 use Rattle.ordering.proofs.start.preview.Goals as goal
 
--- the feeder that was taken out is the one that the order names
-record TakenOut (s : Station) (one : One) (o : Order) : Type 0 where
-  there : There s.count o
-  of : Of s one
-  names : Names one o.feeder
+pub returns-in_err-place : goal.returns-in_err-place
+returns-in_err-place c =
+    let p = err_from_is_err_and c.from_residual.result c.from_residual.ensures.1 in
+    rw (p.1, p.2) (keeps_refused c.args.station.now (preview_of c.args.order) c.in_err-place.field-0.0 (ap number_of c.in_err-place.ensures.1 ∙ not_there c.args.station.now c.args.order (search c.in_err-place.ensures.0)) refl)
 
-taken_out :
-    {s : Station} {one : One} {p : ℕ} (o : Order)
-    → Valid s → 1 ≤ o.feeder → o.feeder ≤ s.count → o.feeder ≡ p + 1 → one ≡ one_at s p → TakenOut s one o
-taken_out {s} o v low high place e =
-    record { there = (low, high); of = of_at v (omega arith) e; names = names_at s o e place }
+pub returns-in_err-order_refusal : goal.returns-in_err-order_refusal
+returns-in_err-order_refusal c =
+    let p = err_from_is_err_and c.from_residual-in_err-order_refusal.result c.from_residual-in_err-order_refusal.ensures.1 in
+    rw (p.1, p.2) (keeps_refused c.args.station.now (preview_of c.args.order) c.in_err-order_refusal.field-0.0 (c.in_err-order_refusal.ensures ∙ rows c.args.station.now c.args.order c.in_ok-place.place (omega arith) (omega arith) c.limits-limits.ensures) refl)
 
-pub returns-then-feeder-lt1 : goal.returns-then-feeder-lt1
-returns-then-feeder-lt1 c =
-    let s = c.args.station.now in
-    elim c.then-feeder-lt1.branch [
-      | then-feeder-lt1-via-then-feeder-lt1 w ↦ refusal_shown s c.args.order (feeder_zero s c.args.order (omega (arith, w.if-feeder-lt1.true))) (omega arith)
-      | then-feeder-lt1-via-else-feeder-lt1+then-station-feeder w ↦ refusal_shown s c.args.order (feeder_past s c.args.order (omega (arith, w.if-feeder-lt1.false)) (omega (arith, w.if-station-feeder.true))) (omega arith)
-    ]
+pub start_alone-requires : goal.start_alone-requires
+start_alone-requires c = (unrefused c.args.station.now c.args.order c.in_ok-place.place (omega arith) (omega arith) c.requires c.limits-limits.ensures c.in_ok-order_refusal.ensures, omega arith)
 
-pub returns-then-number-gt0 : goal.returns-then-number-gt0
-returns-then-number-gt0 c =
-    let t = taken_out c.args.order c.requires (omega arith) (omega arith) (omega arith) c.one-one.ensures in
-    number_shown t.of c.args.order t.names t.there c.first_refusal-number.ensures c.if-number-gt0.true
+pub start_beside_others-requires : goal.start_beside_others-requires
+start_beside_others-requires c = (unrefused c.args.station.now c.args.order c.in_ok-place.place (omega arith) (omega arith) c.requires c.limits-limits.ensures c.in_ok-order_refusal.ensures, omega arith)
 
-pub earliest_start-start-requires : goal.earliest_start-start-requires
-earliest_start-start-requires c =
-    let t = taken_out c.args.order c.requires (omega arith) (omega arith) (omega arith) c.one-one.ensures in
-    let free = unrefused t.of c.args.order t.names t.there c.first_refusal-number.ensures c.if-number-gt0.false in
-    drawn_can_seek t.of c.args.order t.names t.there free c.sought.ensures (omega arith) _ {xs = c.drawn-drawn.result} (omega (arith, t.there.0)) (search c.loads-loads.ensures) c.drawn-drawn.ensures.0 c.drawn-drawn.ensures.1 (omega arith)
+pub returns-then-station-eq1 : goal.returns-then-station-eq1
+returns-then-station-eq1 c = preview_found (unrefused c.args.station.now c.args.order c.in_ok-place.place (omega arith) (omega arith) c.requires c.limits-limits.ensures c.in_ok-order_refusal.ensures) c.start_alone.ensures
 
-pub returns : goal.returns
-returns c =
-    let t = taken_out c.args.order c.requires (omega arith) (omega arith) (omega arith) c.one-one.ensures in
-    drawn_shown t.of c.args.order t.names t.there c.first_refusal-number.ensures c.if-number-gt0.false c.sought.ensures _ (omega (arith, t.there.0)) c.loads-loads.ensures c.drawn-drawn.ensures.0 c.earliest_start-start.ensures
+pub returns-else-station-eq1 : goal.returns-else-station-eq1
+returns-else-station-eq1 c = preview_found (unrefused c.args.station.now c.args.order c.in_ok-place.place (omega arith) (omega arith) c.requires c.limits-limits.ensures c.in_ok-order_refusal.ensures) c.start_beside_others.ensures

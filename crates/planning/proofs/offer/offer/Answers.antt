@@ -1,17 +1,25 @@
 -- As many starts as charges wait are tested whole; any other number is refusal 10.
-use Rattle.planning.proofs.Refusals.{offer_lacks, offer_refused}
-use Rattle.planning.proofs.Replanning.{offer_tested}
-use mathlib.Core.Path.{refl, sym, ◌∙◌}
+use mathlib.Core.Path.{refl, ◌∙◌}
 use native.Mathlib.Omega.{arith}
+use Rattle.std.proofs.lemmas.Result.{err_from_is_err_and}
+use Rattle.rules.specs.Calls.{offer}
+use Rattle.planning.proofs.Ready.{can_test}
+use Rattle.planning.proofs.Refusals.{gives_no_feeder, offer_refused}
+use Rattle.planning.proofs.Replanning.{offer_tested}
 use Rattle.planning.proofs.offer.offer.Goals as goal
 
-pub returns-then-lacks : goal.returns-then-lacks
-returns-then-lacks c = record { leaves = λ s f b n. offer_lacks f c.args.number (omega arith) (sym c.lacks.ensures ∙ c.if-lacks.true) c.args.starts.now; same_head = refl }
+pub returns-in_err-place : goal.returns-in_err-place
+returns-in_err-place c =
+    let p = err_from_is_err_and c.from_residual.result c.from_residual.ensures.1 in
+    rw (p.1, p.2) (gives_no_feeder c.args.number (offer c.args.number c.args.starts.now) c.requires c.in_err-place.ensures.0 c.in_err-place.ensures.1 refl)
 
-pub returns-then-starts-waiting_count-clause-leaves : goal.returns-then-starts-waiting_count-clause-leaves
-returns-then-starts-waiting_count-clause-leaves c =
-    λ s f b n. offer_refused f c.args.number n (sym c.lacks.ensures ∙ c.if-lacks.false) c.args.starts.now c.waiting_count.ensures.0 (omega arith) c.if-starts-waiting_count.true
+pub returns-then-starts-waiting_count : goal.returns-then-starts-waiting_count
+returns-then-starts-waiting_count c =
+    offer_refused _ c.in_ok-place.ensures.0 c.in_ok-place.ensures.1 _ c.waiting_count.ensures.0 (omega arith) c.requires c.if-starts-waiting_count.true
 
-pub returns-clause-leaves : goal.returns-clause-leaves
-returns-clause-leaves c =
-    λ s f b n. offer_tested f c.args.number n (sym c.lacks.ensures ∙ c.if-lacks.false) c.args.starts.now c.waiting_count.ensures.0 (omega arith) c.if-starts-waiting_count.false (c.tested.ensures.tests s f b)
+pub tested-requires : goal.tested-requires
+tested-requires c = (can_test c.requires c.in_ok-place.ensures.1 c.surroundings-surroundings.ensures c.lent-beside.ensures (search), c.if-starts-waiting_count.false ∙ c.waiting_count.ensures.0)
+
+pub returns : goal.returns
+returns c =
+    offer_tested c.in_ok-place.ensures.0 c.in_ok-place.ensures.1 c.waiting_count.ensures.0 c.if-starts-waiting_count.false (omega arith) c.tested.ensures

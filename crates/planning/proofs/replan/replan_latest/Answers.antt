@@ -1,12 +1,25 @@
--- What replan by latest start proposes is tested, with its rounds.
-use Rattle.planning.proofs.Refusals.{latest_lacks}
-use Rattle.planning.proofs.Replanning.{latest_tested}
-use mathlib.Core.Path.{refl, sym, ◌∙◌}
+-- What replan by latest start proposes is tested, with no round.
+use mathlib.Core.Path.{refl}
 use native.Mathlib.Omega.{arith}
+use Rattle.std.proofs.lemmas.Result.{err_from_is_err_and}
+use Rattle.rules.specs.Calls.{replan_latest}
+use Rattle.planning.proofs.Ready.{can_test, ready}
+use Rattle.planning.proofs.Refusals.{gives_no_feeder}
+use Rattle.planning.proofs.Replanning.{latest_tested}
 use Rattle.planning.proofs.replan.replan_latest.Goals as goal
 
-pub returns-then-lacks : goal.returns-then-lacks
-returns-then-lacks c = record { leaves = λ s f b n. latest_lacks f c.args.number (omega arith) (sym c.lacks.ensures ∙ c.if-lacks.true); same_head = refl }
+pub returns-in_err-place : goal.returns-in_err-place
+returns-in_err-place c =
+    let p = err_from_is_err_and c.from_residual.result c.from_residual.ensures.1 in
+    rw (p.1, p.2) (gives_no_feeder c.args.number (replan_latest c.args.number) c.requires c.in_err-place.ensures.0 c.in_err-place.ensures.1 refl)
+
+pub latest-proposed-requires : goal.latest-proposed-requires
+latest-proposed-requires c = ready (can_test c.requires c.in_ok-place.ensures.1 c.surroundings-surroundings.ensures c.lent-beside.ensures refl)
+
+pub replanned-requires : goal.replanned-requires
+replanned-requires c = can_test c.requires c.in_ok-place.ensures.1 c.surroundings-surroundings.ensures c.lent-beside.ensures refl
 
 pub returns : goal.returns
-returns c = record { leaves = λ s f b n. latest_tested f c.args.number n (sym c.lacks.ensures ∙ c.if-lacks.false) b (omega arith) c.propose-made.ensures (c.replanned.ensures.tests s f b) (search); same_head = c.replanned.ensures.same_head }
+returns c =
+    latest_tested c.in_ok-place.ensures.0 (can_test c.requires c.in_ok-place.ensures.1 c.surroundings-surroundings.ensures c.lent-beside.ensures refl)
+    c.replanned.ensures c.latest-proposed.ensures (search) (search) (omega arith)

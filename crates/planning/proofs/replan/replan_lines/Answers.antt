@@ -1,18 +1,29 @@
 -- What replan by lines proposes is tested, with its rounds; an allowance out of range is refusal 11.
-use Rattle.planning.proofs.Refusals.{lines_lacks, lines_out, lines_granted}
-use Rattle.planning.proofs.Replanning.{lines_tested}
-use mathlib.Core.Path.{refl, sym, ◌∙◌}
+use mathlib.Core.Path.{refl}
 use native.Mathlib.Omega.{arith}
+use Rattle.std.proofs.lemmas.Result.{err_from_is_err_and}
 use Rattle.std.proofs.lemmas.Grind.{common_steps}
+use Rattle.rules.specs.Calls.{replan_lines}
+use Rattle.planning.proofs.Ready.{can_test, ready}
+use Rattle.planning.proofs.Refusals.{gives_no_feeder, lines_refused}
+use Rattle.planning.proofs.Replanning.{lines_tested}
 use Rattle.planning.proofs.replan.replan_lines.Goals as goal
 
-pub returns-then-lacks : goal.returns-then-lacks
-returns-then-lacks c = record { leaves = λ s f b n. lines_lacks f c.args.number (omega arith) (sym c.lacks.ensures ∙ c.if-lacks.true) c.args.allowance; same_head = refl }
+pub returns-in_err-place : goal.returns-in_err-place
+returns-in_err-place c =
+    let p = err_from_is_err_and c.from_residual.result c.from_residual.ensures.1 in
+    rw (p.1, p.2) (gives_no_feeder c.args.number (replan_lines c.args.number c.args.allowance) c.requires c.in_err-place.ensures.0 c.in_err-place.ensures.1 refl)
 
-pub returns-then-not-contains-clause-leaves : goal.returns-then-not-contains-clause-leaves
-returns-then-not-contains-clause-leaves c = λ s f b n. lines_out f c.args.number n (sym c.lacks.ensures ∙ c.if-lacks.false) c.args.allowance (omega arith) (grind (arith, common_steps))
+pub returns-then-not-contains : goal.returns-then-not-contains
+returns-then-not-contains c = lines_refused _ c.in_ok-place.ensures.0 c.in_ok-place.ensures.1 c.args.allowance (omega arith) c.requires (grind (arith, common_steps))
+
+pub by_lines-made-requires : goal.by_lines-made-requires
+by_lines-made-requires c = ready (can_test c.requires c.in_ok-place.ensures.1 c.surroundings-surroundings.ensures c.lent-beside.ensures refl)
+
+pub replanned-requires : goal.replanned-requires
+replanned-requires c = can_test c.requires c.in_ok-place.ensures.1 c.surroundings-surroundings.ensures c.lent-beside.ensures refl
 
 pub returns : goal.returns
 returns c =
-    let there = sym c.lacks.ensures ∙ c.if-lacks.false in
-    record { leaves = λ s f b n. lines_tested f c.args.number n there b (omega arith) c.propose-lined.ensures (c.replanned.ensures.tests s f b) c.args.allowance (lines_granted f c.args.number n there c.args.allowance (grind (arith, common_steps), grind (arith, common_steps))) (search); same_head = c.replanned.ensures.same_head }
+    lines_tested c.in_ok-place.ensures.0 (can_test c.requires c.in_ok-place.ensures.1 c.surroundings-surroundings.ensures c.lent-beside.ensures refl)
+    c.replanned.ensures c.args.allowance c.by_lines-made.ensures (search) (search) (search) (grind (arith, common_steps)) (grind (arith, common_steps))

@@ -3,5 +3,5 @@ use native.Mathlib.Omega.{arith}
 use Rattle.planning.proofs.Testing.{none_tests}
 use Rattle.planning.proofs.tested.replanned.Goals as goal
 
-pub returns-in-Err-clause-tests : goal.returns-in-Err-clause-tests
-returns-in-Err-clause-tests c = λ s f b. none_tests f _ c.in-Err.is c.number.ensures c.lateness-before.ensures (omega arith)
+pub returns-in-Err : goal.returns-in-Err
+returns-in-Err c = none_tests c.requires _ c.in-Err.is c.lateness-before.ensures (omega arith)

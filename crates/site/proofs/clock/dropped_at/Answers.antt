@@ -1,14 +1,20 @@
-use Prim.Native.Nat.{◌-◌}
-use Rattle.station.specs.View.{feeder_at}
-use Rattle.site.proofs.FromTheLast.{dropped_on, unpassed}
+use native.Mathlib.Omega.{arith}
+use Rattle.site.proofs.Dropped.{dropped_none, dropped_on, dropped_all, unfinished_few}
+use borrow.Author.Rules.{rules}
 use Rattle.site.proofs.clock.dropped_at.Goals as goal
 
-pub overflow_sub-dropped : goal.overflow_sub-dropped
-overflow_sub-dropped c = (unpassed (feeder_at c.args.station.now (c.loop-k.k - 1)).charges _ c.unfinished_count-left.ensures).1
+pub loop-feeder-init : goal.loop-feeder-init
+loop-feeder-init c = dropped_none c.args.station.now c.args.target (search rules) (omega arith) (omega arith)
 
-pub loop-k-preserved : goal.loop-k-preserved
-loop-k-preserved c =
-    dropped_on c.args.station.now c.requires c.args.target c.loop-k.invariant c.loop-k-test.true
-    (unpassed (feeder_at c.args.station.now (c.loop-k.k - 1)).charges c.args.target {m = c.unfinished_count-left.result} (search c.unfinished_count-left.ensures))
+pub overflow_sub-dropped : goal.overflow_sub-dropped
+overflow_sub-dropped c = unfinished_few _ _ c.unfinished_count.ensures
+
+pub loop-feeder-preserved : goal.loop-feeder-preserved
+loop-feeder-preserved c =
+    dropped_on c.args.station.now c.requires c.loop-feeder.invariant c.loop-feeder-test.true
+    {m = c.unfinished_count.result} (search c.unfinished_count.ensures)
     (search)
     (search)
+
+pub returns : goal.returns
+returns c = dropped_all c.args.station.now c.requires c.loop-feeder.invariant c.loop-feeder-test.false c.loop-feeder.auto.feeder-index-end

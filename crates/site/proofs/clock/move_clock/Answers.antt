@@ -1,23 +1,18 @@
--- With no refusal the pairs of all passed charges fit in the list; what is left is the first feeder, with the clock moved.
-use native.Mathlib.Omega.{arith}
-use mathlib.Core.Path.{◌≡◌}
-use Rattle.site.proofs.Moved.{call_moved, move_refused}
+-- With no refusal the pairs of all passed charges fit in the list; the station afterwards has the clock moved.
+use Rattle.station.proofs.Refusing.{refusal_passed}
+use Rattle.site.proofs.Moved.{move_refused, call_moved}
 use Rattle.site.proofs.clock.move_clock.Goals as goal
 
-pub returns-then-refusal-gt0 : goal.returns-then-refusal-gt0
-returns-then-refusal-gt0 c =
-    move_refused c.args.station.now c.args.target c.args.report.now {k = c.move_refusal-refusal.result} c.requires (search c.move_refusal-refusal.ensures)
-    (omega (arith, c.if-refusal-gt0.true))
-    (search)
-    (search)
-    c.one-left.ensures
+pub returns-in_err-move_refusal : goal.returns-in_err-move_refusal
+returns-in_err-move_refusal c =
+    let refusal = c.in_err-move_refusal.field-0.0 in
+    rw (refusal_passed c.from_residual.result refusal c.from_residual.ensures.1)
+    (move_refused c.args.station.now c.args.target c.args.report.now refusal c.requires c.in_err-move_refusal.ensures)
 
 pub returns : goal.returns
 returns c =
-    let z : c.move_refusal-refusal.result ≡ 0 = omega (arith, c.if-refusal-gt0.false) in
-    call_moved c.args.station.now c.args.target c.args.report.now (search c.move_refusal-refusal.ensures) z
+    call_moved c.args.station.now c.args.target c.args.report.now c.requires c.in_ok-move_refusal.ensures
     (search c.report_feeders-reported.ensures)
     (search c.dropped_at-dropped.ensures)
-    c.requires
-    c.one-left-2.ensures
-    (search)
+    (search c.move_to.ensures)
+    (search c.move_to.ensures)

@@ -7,4 +7,4 @@ use Rattle.station.specs.View.{view}
 use Rattle.station.proofs.Station.rest.Given as goal
 
 abbrev pub invariant-loop-i : goal.invariant-loop-i
-invariant-loop-i l = (l.i ≤ l.self.count) × OthersDrawn (l.place + 1) (view l.self).feeders l.i l.rest × (l.place < l.i → length l.rest ≤ places * (l.i - 1))
+invariant-loop-i l = OthersDrawn (l.place + 1) (view l.self).feeders l.i l.rest × (l.place < l.i → length l.rest ≤ places * (l.i - 1))

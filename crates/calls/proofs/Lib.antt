@@ -1,4 +1,0 @@
-pub mod Applying
-pub mod Only
-pub mod About
-pub mod Enquiries

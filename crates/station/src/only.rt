@@ -1,0 +1,66 @@
+// The only feeder of a station, as an image has it.
+ghost use Rattle.std.specs.Prelude.{◌≡◌, ◌<◌};
+ghost use Rattle.station.specs.View.{Formed, one_at, station_of};
+ghost use Rattle.station.specs.Opened.{OnlyLeast};
+
+use crate::open::{LEAST, NONE};
+use crate::{Feeder, Station};
+
+// One feeder of a station at its place, with what it shares with the others: how many there are, the site's limit, the clock and the
+// next ticket. Images are of one feeder, and a copy of the places of four costs more than most of what is done with one.
+#[derive(Clone, Copy)]
+pub struct One {
+    pub count: usize,
+    pub site: u32,
+    pub clock: u32,
+    pub next: u32,
+    pub place: usize,
+    pub feeder: Feeder,
+}
+
+impl Station {
+    // The feeder at a place.
+    pub fn one(&self, place: usize) -> One
+        requires { Formed self.now × (place < self.now.count) }
+        ensures { result ≡ one_at self.now place }
+    {
+        One {
+            count: self.count,
+            site: self.site,
+            clock: self.clock,
+            next: self.next,
+            place,
+            feeder: self.feeders[place],
+        }
+    }
+
+    // The station of which this is the only feeder.
+    pub fn of_only(one: One) -> Station
+        ensures { result ≡ station_of one }
+    {
+        let unused = NONE.fresh();
+        Station {
+            count: 1,
+            site: one.site,
+            clock: one.clock,
+            next: one.next,
+            feeders: [one.feeder, unused, unused, unused],
+        }
+    }
+}
+
+impl One {
+    // The only feeder of the least station, where nobody needs the places of four: beside a refused restore.
+    pub fn least() -> One
+        ensures { OnlyLeast result }
+    {
+        One {
+            count: 1,
+            site: LEAST.site,
+            clock: 0,
+            next: 1,
+            place: 0,
+            feeder: LEAST.settings[0].fresh(),
+        }
+    }
+}
