@@ -31,8 +31,8 @@ fn check_of(bytes: &[u8]) -> u32
 
 // The contents of all blocks, and whether each block's check is right. They are taken also where one is wrong, so they are lent and no
 // `Option`. Blocks go by their numbers, since of what is written through `chunks_mut` a proof knows the length alone.
-pub fn take_blocks(image: &[u8], contents: &mut [u8]) -> bool
-    requires { (length image.now ≡ 4608) × (length contents.old ≡ 4572) }
+pub fn take_blocks(image: &[u8], contents: &mut [u8; CONTENTS]) -> bool
+    requires { length image.now ≡ 4608 }
     ensures { BlocksTaken image.now contents.new result }
 {
     let mut right = true;
@@ -46,8 +46,8 @@ pub fn take_blocks(image: &[u8], contents: &mut [u8]) -> bool
 }
 
 // The image that has these contents, block by block in the same way.
-pub fn put_blocks(contents: &[u8], image: &mut [u8])
-    requires { (length contents.now ≡ 4572) × (length image.old ≡ 4608) }
+pub fn put_blocks(contents: &[u8; CONTENTS], image: &mut [u8])
+    requires { length image.old ≡ 4608 }
     ensures { image.new ≡ laid_out contents.now }
 {
     for block in 0..BLOCKS {

@@ -4,7 +4,6 @@ use Rattle.rules.specs.Basics.{keep}
 use Rattle.rules.specs.Charge.{Charge}
 use Rattle.rules.specs.Calls.{rises_from, is_looked_at}
 use Rattle.charges.specs.declared.Charges.{Charges}
-use Rattle.charges.specs.Arrays.{Columns}
 use Rattle.charges.specs.Held.{Rising}
 
 -- the start of a ticket that is held by these charges, and what was there for another
@@ -20,7 +19,6 @@ answered_by cs (ticket ∷ asked) (other ∷ list) = start_or other cs ticket �
 
 -- charges in ticket order, tickets that rise, and a place for each answer
 pub record CanBoard (c : Charges) (asked list : List ℕ) : Type 0 where
-  pub columns : Columns c
   pub rising : Rising c
   pub rises : rises_from 0 asked ≡ true
   pub room : length asked ≤ length list

@@ -37,7 +37,6 @@ pub fn board_refusal(asked: &[u32], answers: &[u32]) -> Result<(), Refusal>
 
 // Whether a charge is held at the place, with a ticket that is not above this one.
 fn is_looked_at(charges: &Charges, place: usize, ticket: u32) -> bool
-    requires { charges.now.held ≤ places }
     ensures { result ≡ (ltb place charges.now.held && leb (get_or charges.now.tickets place 0) ticket) }
 {
     place < charges.held && charges.tickets[place] <= ticket

@@ -84,7 +84,7 @@ module _ {f : ℕ} {gs : List Feeder} {k : ℕ} {drawn : List Load} (v : OthersD
               map-append load_of (others_from f 1 (take k gs)) (get_or gs k no_feeder).charges,
               map-append elsewhere (loads_of (others_from f 1 (take k gs))) (loads_of (get_or gs k no_feeder).charges),
             );
-        few = omega (arith, v.few, e.columns.few, length_seen);
+        few = omega (arith, v.few, c.few, length_seen);
       }
     where
       length_seen : length next ≡ length drawn + c.held

@@ -8,7 +8,7 @@ use lib.ListN.{length, get_or, set, take, replicate, length-append, length-map, 
 use lib.Seq.{set_at, get_or-append-add, length-take-le}
 use Rattle.std.proofs.lemmas.List.{take_more, map-append, get_or_default}
 use Rattle.rules.specs.Site.{places}
-use Rattle.rules.specs.Basics.{keep}
+use Rattle.rules.specs.Basics.{tabulate, keep}
 use Rattle.rules.specs.Charge.{Charge}
 use Rattle.rules.proofs.Lists.{length_tabulate, tabulate_same}
 use Rattle.charges.specs.declared.Charges.{Charges}
@@ -68,7 +68,7 @@ module _ (column is : List ℕ) where
 
 -- All of them
 
-module _ (c : Charges) (is : List ℕ) {r : Charges} (held : r.held ≡ length is) (column : (k : Column) → column_of r k ≡ gathered_of (column_of c k) is) where
+module _ (c : Charges) (is : List ℕ) (r : Charges) (held : r.held ≡ length is) (column : (k : Column) → column_of r k ≡ gathered_of (column_of c k) is) where
   charge_at_lem : (j : ℕ) → j < length is → charge_at r j ≡ charge_at c (get_or is j 0)
   charge_at_lem j h =
       charge_same (charge_at r j) (charge_at c (get_or is j 0))
@@ -79,14 +79,10 @@ module _ (c : Charges) (is : List ℕ) {r : Charges} (held : r.held ≡ length i
   holds_at v =
       record {
         charges =
-            rw held
-            (tabulate_same (charge_at r) (λ j. charge_at c (get_or is j 0)) (length is) 0 (λ j a b. charge_at_lem j (omega arith))
+            ap (λ n. tabulate (charge_at r) n 0) held
+            ∙ (tabulate_same (charge_at r) (λ j. charge_at c (get_or is j 0)) (length is) 0 (λ j a b. charge_at_lem j (omega arith))
             ∙ sym (map_is (charge_at c) is));
-        columns =
-            record {
-              few = omega arith;
-              filled = λ k. rw (column k, held) (gathered_filled (column_of c k) is v);
-            };
+        columns = record { filled = λ k. rw (column k, held) (gathered_filled (column_of c k) is v) };
       }
 
 -- the charges at the places of those that pass a test

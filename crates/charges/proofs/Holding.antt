@@ -1,11 +1,12 @@
 -- The list of charges determines the arrays.
 use mathlib.Core.Logic.{◌⊎◌, inl, inr}
-use mathlib.Core.Path.{◌≡◌, ap, sym, ◌∙◌}
+use mathlib.Core.Path.{◌≡◌, ap, sym, ◌∙◌, subst}
 use Prim.Native.Nat.{ℕ, ◌+◌, ◌≤◌, ◌<◌}
-use mathlib.Core.List.{List}
 use native.Mathlib.Omega.{arith}
 use lib.ListN.{length, get_or}
+use Rattle.std.proofs.Math.Bridge.{le_prop}
 use lib.Seq.{ext_get_or}
+use Rattle.rules.specs.Site.{places}
 use Rattle.rules.specs.Charge.{Charge}
 use Rattle.rules.proofs.Ranges.{below_or_not}
 use Rattle.rules.proofs.Lists.{length_tabulate, get_d_tabulate}
@@ -41,21 +42,26 @@ charges_same c d v w e = whole
         go i (inl l) = sym (value_at c i k) ∙ ap (λ x. value_of x k) (at_place i l) ∙ value_at d i k
         go i (inr l) = (v.filled k).clear i l ∙ sym ((w.filled k).clear i (omega (arith, as_many)))
 
-    made : ℕ → List ℕ → List ℕ → List ℕ → List ℕ → List ℕ → List ℕ → List ℕ → List ℕ → Charges
-    made n a b o p u q s r =
+    counted : (n : ℕ) → n ≤ places → Charges
+    counted n few =
         record {
           held = n;
-          tickets = a;
-          lines = b;
-          order_minutes = o;
-          times = p;
-          active_times = u;
-          dues = q;
-          starts = s;
-          rates = r;
+          tickets = c.tickets;
+          lines = c.lines;
+          order_minutes = c.order_minutes;
+          times = c.times;
+          active_times = c.active_times;
+          dues = c.dues;
+          starts = c.starts;
+          rates = c.rates;
+          few = few;
         }
 
-    whole :
-        made c.held c.tickets c.lines c.order_minutes c.times c.active_times c.dues c.starts c.rates
-        ≡ made d.held d.tickets d.lines d.order_minutes d.times d.active_times d.dues d.starts d.rates
-    whole = cc (as_many, column tickets, column lines, column order_minutes, column times, column active_times, column dues, column starts, column rates)
+    -- that they are few has one proof at most
+    counted_same : (n : ℕ) → c.held ≡ n → (few : n ≤ places) → c ≡ counted n few
+    counted_same n e = subst (λ m. (few : m ≤ places) → c ≡ counted m few) e (λ few. ap (counted c.held) (le_prop c.few few))
+
+    whole : c ≡ d
+    whole =
+        counted_same d.held as_many d.few
+        ∙ rw (column tickets, column lines, column order_minutes, column times, column active_times, column dues, column starts, column rates)

@@ -1,6 +1,6 @@
 -- No charge, and one charge more: what the eight arrays hold then.
 use mathlib.Core.Path.{◌≡◌, refl, ap, sym, ◌∙◌}
-use Prim.Native.Nat.{ℕ, zero, suc, ◌+◌, ◌<◌}
+use Prim.Native.Nat.{ℕ, zero, suc, ◌+◌, ◌≤◌, ◌<◌}
 use mathlib.Core.List.{List, [], ◌∷◌, ◌++◌}
 use native.Mathlib.Omega.{arith}
 use lib.ListN.{length, get_or, set, replicate, length-set}
@@ -41,8 +41,8 @@ zeros zero i = refl
 zeros (suc n) zero = refl
 zeros (suc n) (suc i) = zeros n i
 
-abbrev pub empty : Charges
-empty =
+abbrev pub empty : 0 ≤ places → Charges
+empty few =
     record {
       held = 0;
       tickets = replicate places 0;
@@ -53,29 +53,30 @@ empty =
       dues = replicate places 0;
       starts = replicate places 0;
       rates = replicate places 0;
+      few = few;
     }
 
-column_empty : (k : Column) → column_of empty k ≡ replicate places 0
-column_empty tickets = refl
-column_empty lines = refl
-column_empty order_minutes = refl
-column_empty times = refl
-column_empty active_times = refl
-column_empty dues = refl
-column_empty starts = refl
-column_empty rates = refl
+column_empty : (few : 0 ≤ places) (k : Column) → column_of (empty few) k ≡ replicate places 0
+column_empty few tickets = refl
+column_empty few lines = refl
+column_empty few order_minutes = refl
+column_empty few times = refl
+column_empty few active_times = refl
+column_empty few dues = refl
+column_empty few starts = refl
+column_empty few rates = refl
 
 -- no place is used
 pub filled_none : Filled 0 (replicate places 0)
 filled_none = record { full = refl; clear = λ i h. zeros places i }
 
-pub holds_none : Holds [] empty
-holds_none = record { charges = refl; columns = record { few = omega arith; filled = λ k. rw (column_empty k) filled_none } }
+pub holds_none : (few : 0 ≤ places) → Holds [] (empty few)
+holds_none few = record { charges = refl; columns = record { filled = λ k. rw (column_empty few k) filled_none } }
 
 -- One charge more
 
-abbrev pub put : Charges → Charge → Charges
-put c x =
+abbrev pub put : (c : Charges) → Charge → c.held + 1 ≤ places → Charges
+put c x few =
     record {
       held = c.held + 1;
       tickets = set c.tickets c.held x.ticket;
@@ -86,17 +87,20 @@ put c x =
       dues = set c.dues c.held x.due;
       starts = set c.starts c.held x.start;
       rates = set c.rates c.held x.rate;
+      few = few;
     }
 
-column_put : (c : Charges) (x : Charge) (k : Column) → column_of (put c x) k ≡ set (column_of c k) c.held (value_of x k)
-column_put c x tickets = refl
-column_put c x lines = refl
-column_put c x order_minutes = refl
-column_put c x times = refl
-column_put c x active_times = refl
-column_put c x dues = refl
-column_put c x starts = refl
-column_put c x rates = refl
+column_put :
+    (c : Charges) (x : Charge) (few : c.held + 1 ≤ places) (k : Column)
+    → column_of (put c x few) k ≡ set (column_of c k) c.held (value_of x k)
+column_put c x few tickets = refl
+column_put c x few lines = refl
+column_put c x few order_minutes = refl
+column_put c x few times = refl
+column_put c x few active_times = refl
+column_put c x few dues = refl
+column_put c x few starts = refl
+column_put c x few rates = refl
 
 pub filled_set : (n v : ℕ) (xs : List ℕ) → Filled n xs → Filled (n + 1) (set xs n v)
 filled_set n v xs f =
@@ -105,33 +109,33 @@ filled_set n v xs f =
       clear = λ i h. get_or-set_other xs n i v 0 (λ e. omega arith) ∙ f.clear i (omega arith);
     }
 
-module _ (c : Charges) (x : Charge) (full : (k : Column) → length (column_of c k) ≡ places) (room : c.held < places) where
-  put-new : charge_at (put c x) c.held ≡ x
-  put-new =
-      charge_same (charge_at (put c x) c.held) x
-      (λ k.
-      value_at (put c x) c.held k
-      ∙ rw (column_put c x k) (get_or-set_same (column_of c k) c.held (value_of x k) 0 (omega (arith, full k))))
+module _ (c : Charges) (x : Charge) (full : (k : Column) → length (column_of c k) ≡ places) (few : c.held + 1 ≤ places) where
+  abbrev next : Charges
+  next = put c x few
 
-  put-old : (j : ℕ) → j < c.held → charge_at (put c x) j ≡ charge_at c j
-  put-old j h =
-      charge_same (charge_at (put c x) j) (charge_at c j)
+  put-new : charge_at next c.held ≡ x
+  put-new =
+      charge_same (charge_at next c.held) x
       (λ k.
-      value_at (put c x) j k
-      ∙ (rw (column_put c x k) (get_or-set_other (column_of c k) c.held j (value_of x k) 0 (λ e. omega arith)))
+      value_at next c.held k
+      ∙ rw (column_put c x few k) (get_or-set_same (column_of c k) c.held (value_of x k) 0 (omega (arith, full k))))
+
+  put-old : (j : ℕ) → j < c.held → charge_at next j ≡ charge_at c j
+  put-old j h =
+      charge_same (charge_at next j) (charge_at c j)
+      (λ k.
+      value_at next j k
+      ∙ (rw (column_put c x few k) (get_or-set_other (column_of c k) c.held j (value_of x k) 0 (λ e. omega arith)))
       ∙ sym (value_at c j k))
 
-  pub charges_put : charges_of (put c x) ≡ charges_of c ++ (x ∷ [])
+  pub charges_put : charges_of next ≡ charges_of c ++ (x ∷ [])
   charges_put =
       rw (
-        tabulate_next (charge_at (put c x)) c.held,
+        tabulate_next (charge_at next) c.held,
         put-new,
-        tabulate_same (charge_at (put c x)) (charge_at c) c.held 0 (λ j l m. put-old j (omega arith)),
+        tabulate_same (charge_at next) (charge_at c) c.held 0 (λ j l m. put-old j (omega arith)),
       )
 
-pub columns_put : (c : Charges) (x : Charge) → c.held < places → Columns c → Columns (put c x)
-columns_put c x room w =
-    record {
-      few = omega arith;
-      filled = λ k. rw (column_put c x k) (filled_set c.held (value_of x k) (column_of c k) (w.filled k));
-    }
+pub columns_put : (c : Charges) (x : Charge) (few : c.held + 1 ≤ places) → Columns c → Columns (put c x few)
+columns_put c x few w =
+    record { filled = λ k. rw (column_put c x few k) (filled_set c.held (value_of x k) (column_of c k) (w.filled k)) }

@@ -62,9 +62,8 @@ pub record Filled (n : ℕ) (xs : List ℕ) : Type 0 where
   pub full : length xs ≡ places
   pub clear : (i : ℕ) → n ≤ i → get_or xs i 0 ≡ 0
 
--- "up to 180 charges": the places behind them are 0, so that the list determines the arrays
+-- the places behind the charges held are 0, so that the list determines the arrays
 pub record Columns (c : Charges) : Type 0 where
-  pub few : c.held ≤ places
   pub filled : (k : Column) → Filled c.held (column_of c k)
 
 -- exactly these charges are held

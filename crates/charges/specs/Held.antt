@@ -3,7 +3,7 @@ use Rattle.std.specs.Prelude.{ℕ, ◌+◌, ◌≤◌, ◌<◌}
 use Rattle.rules.specs.Load.{IsLine, IsRate}
 use Rattle.rules.specs.Charge.{Charge}
 use Rattle.charges.specs.declared.Charges.{Charges}
-use Rattle.charges.specs.Arrays.{charge_at, Columns}
+use Rattle.charges.specs.Arrays.{charge_at}
 
 -- "The charges stand in ticket order."
 abbrev pub Rising : Charges → Type 0
@@ -22,6 +22,5 @@ pub record Small (x : Charge) : Type 0 where
 
 -- what the orders need of the charges, whatever the clock
 pub record Listed (c : Charges) : Type 0 where
-  pub columns : Columns c
   pub small : (i : ℕ) → i < c.held → Small (charge_at c i)
   pub rising : Rising c

@@ -1,7 +1,6 @@
 // What the charges of several feeders draw, one feeder after another.
 ghost use Rattle.std.specs.Prelude.{◌≡◌, cond, List, [], ◌++◌, ◌+◌, ◌≤◌, length};
 ghost use Rattle.rules.specs.Charge.{loads_of};
-ghost use Rattle.rules.specs.Site.{places};
 ghost use Rattle.charges.specs.Arrays.{charges_of};
 ghost use Rattle.charges.specs.Drawn.{site_places, loads_lent, seen_from};
 
@@ -58,7 +57,7 @@ impl Drawn {
 
     // What one more feeder's charges draw, on their own lines or as another feeder's, behind what was there.
     pub fn append(&mut self, charges: &Charges, own: bool)
-        requires { (charges.now.held ≤ places) × (length self.old + charges.now.held ≤ site_places) }
+        requires { length self.old + charges.now.held ≤ site_places }
         ensures { self.new ≡ self.old ++ seen_from own (loads_of (charges_of charges.now)) }
     {
         for i in 0..charges.held {

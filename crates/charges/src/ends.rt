@@ -1,7 +1,7 @@
 // The ends of the held charges, and how late they are.
 ghost use Rattle.std.specs.Prelude.{◌≡◌, ◌+◌, ◌-◌, ◌<◌};
 ghost use Rattle.rules.specs.Charge.{lateness as lateness_of};
-ghost use Rattle.charges.specs.Arrays.{charges_of, Columns};
+ghost use Rattle.charges.specs.Arrays.{charges_of};
 
 use crate::Charges;
 
@@ -20,7 +20,6 @@ fn late_of(start: u32, time: u32, due: u32) -> u64
 
 impl Charges {
     pub fn lateness(&self) -> u64
-        requires { Columns self.now }
         ensures { result ≡ lateness_of (charges_of self.now) }
     {
         let mut sum = 0;

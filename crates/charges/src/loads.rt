@@ -48,13 +48,11 @@ impl<'a> Loads<'a> {
 impl Charges {
     ghost use Rattle.std.specs.Prelude.{◌≡◌};
     ghost use Rattle.rules.specs.Charge.{loads_of};
-    ghost use Rattle.rules.specs.Site.{places};
     ghost use Rattle.charges.specs.Arrays.{charges_of};
     ghost use Rattle.charges.specs.Drawn.{loads_lent};
 
     // What the charges draw, lent.
     pub fn loads(&self) -> Loads<'_>
-        requires { self.now.held ≤ places }
         ensures { loads_lent result ≡ loads_of (charges_of self.now) }
     {
         Loads {

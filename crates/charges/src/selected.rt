@@ -24,8 +24,7 @@ fn gathered(column: &[u32; PLACES], places: &[usize]) -> [u32; PLACES]
 impl Charges {
     // The places that pass the test, in ticket order.
     fn places_where<F: Fn(usize) -> bool>(&self, test: F) -> Places
-        requires columns { Columns self.now }
-        requires callable { (i : _) → i < self.now.held → F.pre test i }
+        requires { (i : _) → i < self.now.held → F.pre test i }
         ensures { (p : Charge → Bool) → Tests (F.post test) self.now p → result ≡ places_where p self.now }
     {
         let mut places = Places::none();
@@ -39,7 +38,6 @@ impl Charges {
 
     // Those of the charges that wait.
     pub fn waiting_places(&self, clock: u32) -> Places
-        requires { Columns self.now }
         ensures { result ≡ places_where (is_waiting clock) self.now }
     {
         self.places_where(|i| clock <= self.starts[i])
@@ -47,7 +45,6 @@ impl Charges {
 
     // Those of the charges with a start from the clock up to the target.
     pub fn passed_places(&self, clock: u32, target: u32) -> Places
-        requires { Columns self.now }
         ensures { result ≡ places_where (is_passed clock target) self.now }
     {
         self.places_where(|i| clock <= self.starts[i] && self.starts[i] < target)
@@ -55,7 +52,6 @@ impl Charges {
 
     // Those of the charges that are not finished at the clock.
     fn unfinished_places(&self, clock: u32) -> Places
-        requires { Columns self.now }
         ensures { result ≡ places_where (λ x. not (is_finished clock x)) self.now }
     {
         self.places_where(|i| u64::from(clock) < end_of(self.starts[i], self.active_times[i]))
@@ -63,7 +59,6 @@ impl Charges {
 
     // Those of the charges that are not of the ticket.
     fn other_places(&self, ticket: u32) -> Places
-        requires { Columns self.now }
         ensures { result ≡ places_where (λ x. not (has_ticket ticket x)) self.now }
     {
         self.places_where(|i| self.tickets[i] != ticket)
@@ -89,7 +84,6 @@ impl Charges {
 
     // How many charges are not finished at the clock.
     pub fn unfinished_count(&self, clock: u32) -> usize
-        requires { Columns self.now }
         ensures { result ≡ length (unfinished_charges clock (charges_of self.now)) }
     {
         self.unfinished_places(clock).len()
@@ -109,7 +103,6 @@ impl Charges {
 
     // The charges but for that of the ticket.
     pub fn without(&self, ticket: u32) -> Charges
-        requires { Columns self.now }
         ensures { Holds (without_ticket ticket (charges_of self.now)) result }
     {
         self.at_places(self.other_places(ticket).as_slice())

@@ -17,7 +17,6 @@ pub fn start_below(starts: &[u32], clock: u32) -> bool
 impl Charges {
     // How many charges wait.
     pub fn waiting_count(&self, clock: u32) -> usize
-        requires { Columns self.now }
         ensures { (result ≡ length (waiting_charges clock (charges_of self.now))) × (result ≤ self.now.held) }
     {
         self.starts[..self.held]
@@ -31,14 +30,16 @@ impl Charges {
         requires { Columns self.now × (length starts.now ≡ length (waiting_charges clock (charges_of self.now))) }
         ensures { Holds (restarted_of clock (charges_of self.now) starts.now) result }
     {
-        let mut next = *self;
+        let mut next = self.starts;
         let mut k = 0;
         for i in 0..self.held {
             if clock <= self.starts[i] {
-                next.starts[i] = starts[k];
+                next[i] = starts[k];
                 k += 1;
             }
         }
-        next
+        let mut restarted = *self;
+        restarted.starts = next;
+        restarted
     }
 }

@@ -58,7 +58,7 @@ module _ {size : ℕ} {caps : LineCaps} {k : Task} {line : ℕ} {left : List ℕ
         length_keep (λ x. eqb x.line line) (waiting_of b.clock c),
         begun_and_waiting_lem b.clock (charges_of c),
         length_tabulate (charge_at c) c.held 0,
-        h.ready.listed.columns.few,
+        c.few,
       )
 
   few : length (plan_of (terms_of b) b.clock c v.placed) ≤ 720

@@ -120,7 +120,7 @@ module _ {c : Charges} (line : ℕ) (ws : List Charge) {queue own : List ℕ} (h
       }
     where
       own_few : length own ≤ places
-      own_few = omega (arith, ap length is, length_keep (is_on_line c.lines line) queue, o.places.few, h.columns.few)
+      own_few = omega (arith, ap length is, length_keep (is_on_line c.lines line) queue, o.places.few, c.few)
 
 -- After one is taken out
 

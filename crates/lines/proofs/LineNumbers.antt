@@ -19,7 +19,7 @@ module _ {c : Charges} {line : ℕ} {left : List ℕ} {rest : List Charge} (h : 
   pub left_range : InRange c left
   left_range =
       record {
-        inside = record { few = v.few; below = λ j b. omega (arith, v.inside j b, h.columns.few) };
+        inside = record { few = v.few; below = λ j b. omega (arith, v.inside j b, c.few) };
         short = λ j b. let s = small j b in (s.time_low, omega (arith, s.time_most));
         active = λ j b. let s = small j b in (omega (arith, s.time_low, s.active_least), s.active_most);
         dues_most = λ j b. (small j b).due_most;

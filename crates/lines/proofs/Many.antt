@@ -36,7 +36,7 @@ many_room clock {c} h l most =
       many_most (waiting_of clock c) l most,
       begun_and_waiting_lem clock (charges_of c),
       length_tabulate (charge_at c) c.held 0,
-      h.columns.few,
+      c.few,
     )
 
 pub many_next : (before line : ℕ) (cs : List Charge) → line ≡ before + 1 → many_up_to line cs ≡ many_up_to before cs + length (of_line line cs)

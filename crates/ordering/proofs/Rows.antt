@@ -14,9 +14,10 @@ use Rattle.rules.specs.Calls.{order_refusals}
 use Rattle.rules.proofs.Lists.{length_tabulate}
 use Rattle.charges.specs.Arrays.{charge_at}
 use Rattle.search.specs.declared.limits.Limits.{Limits}
+use Rattle.station.specs.declared.Feeder.{Feeder}
 use Rattle.station.specs.declared.Station.{Station}
-use Rattle.station.specs.View.{feeder_at, view, Valid, limits_for}
-use Rattle.station.proofs.Views.{view_length, view_number}
+use Rattle.station.specs.View.{feeder_at, view, Formed, Valid, limits_for}
+use Rattle.station.proofs.Views.{view_length, view_number, read_at, feeder_read}
 use Rattle.ordering.specs.declared.Order.{Order}
 use Rattle.ordering.specs.Ordered.{order_rows, Unrefused}
 
@@ -33,24 +34,25 @@ module _ (s : Station) (o : Order) where
   not_there e = rw (view_length s, e)
 
   -- "29, before 4": where its feeder is there, what is left of the table is by the feeder
-  module _ (p : ℕ) (e : o.feeder ≡ p + 1) (h : p < s.count) where
+  module _ (p : ℕ) (there : (o.feeder ≡ p + 1) × (p < s.count)) where
     held_here : length (charges_on (view s) (p + 1)) ≡ (feeder_at s p).charges.held
     held_here =
-        ap (λ (g : rules.Feeder). length g.charges) (view_number s p h)
+        ap (λ (g : rules.Feeder). length g.charges) (view_number s p there.1)
         ∙ length_tabulate (charge_at (feeder_at s p).charges) (feeder_at s p).charges.held 0
 
     pub rows :
-        {y : Limits}
-        → y ≡ limits_for (feeder_at s p) s.site
-        → first_of (order_rows y (feeder_at s p).charges.held s.next o) ≡ first_of (refusals_of s o)
-    rows y =
-        rw (y, e, view_length s, within (p + 1) s.count (omega arith) (omega (arith, h)), held_here, view_number s p h) refl
+        (other : Feeder) {y : Limits}
+        → Formed s
+        → y ≡ limits_for (read_at s p other) s.site
+        → first_of (order_rows y (read_at s p other).charges.held s.next o) ≡ first_of (refusals_of s o)
+    rows other w e =
+        rw (e, feeder_read s w there.1 other, there.0, view_length s, within (p + 1) s.count (omega arith) (omega (arith, there.1)), held_here, view_number s p there.1) refl
 
     -- and where that gives no number, nothing refuses it
     pub unrefused :
-        {y : Limits}
+        (other : Feeder) {y : Limits}
         → Valid s
-        → y ≡ limits_for (feeder_at s p) s.site
-        → 0 ≡ first_of (order_rows y (feeder_at s p).charges.held s.next o)
+        → y ≡ limits_for (read_at s p other) s.site
+        → 0 ≡ first_of (order_rows y (read_at s p other).charges.held s.next o)
         → Unrefused s o
-    unrefused v y none = record { valid = v; none = sym (none ∙ rows y) }
+    unrefused other v y e = record { valid = v; none = sym (e ∙ rows other v.formed y) }

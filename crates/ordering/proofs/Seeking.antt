@@ -20,9 +20,10 @@ use Rattle.planner.proofs.StandingLoads.{plannable_drawable}
 use Rattle.orders.specs.declared.sought.Sought.{Sought}
 use Rattle.orders.specs.Asked.{draw_sought, start_sought, OrderBeside, CanOrder}
 use Rattle.orders.proofs.Drawings.{sound_beside, lent_can_order}
+use Rattle.station.specs.declared.Feeder.{Feeder}
 use Rattle.station.specs.declared.Station.{Station}
 use Rattle.station.specs.View.{feeder_view, feeder_at, view, limits_for}
-use Rattle.station.proofs.Views.{view_length, view_number}
+use Rattle.station.proofs.Views.{view_length, view_number, read_at, feeder_read}
 use Rattle.station.proofs.Seen.{seen_end, seen_plannable}
 use Rattle.ordering.specs.declared.Order.{Order}
 use Rattle.ordering.specs.Ordered.{preview_of, sought_by, start_of, Unrefused}
@@ -117,15 +118,21 @@ module _ {s : Station} {o : Order} (u : Unrefused s o) where
       found_seen same told = sym (rw (sought, same, here) refl) ∙ told (limits_of (view s) o.feeder).others
 
       -- its own charges alone
-      module _ (single : s.count ≡ 1) (own : lent ≡ loads_of (charges_of (feeder_at s p).charges)) where
-        pub own_can_seek : {size : ℕ} → 1 + 2 * (feeder_at s p).charges.held ≤ size → size ≤ most_steps → CanOrder q size lent
+      module _ (single : s.count ≡ 1) (other : Feeder) (own : lent ≡ loads_of (charges_of (read_at s p other).charges)) where
+        read : read_at s p other ≡ feeder_at s p
+        read = feeder_read s u.valid.formed inside other
+
+        seen_lent : lent ≡ seen_by s o
+        seen_lent = own ∙ rw read (own_seen single)
+
+        pub own_can_seek : {size : ℕ} → 1 + 2 * (read_at s p other).charges.held ≤ size → size ≤ most_steps → CanOrder q size lent
         own_can_seek enough most =
             let held : length (seen_by s o) ≡ (feeder_at s p).charges.held =
             ap length (sym (own_seen single) ∙ ap loads_of (sym charges_here)) ∙ length_loads_of (charges_on (view s) o.feeder) ∙ held_here in
-            can_seek (own ∙ own_seen single) (omega (arith, held, enough)) most
+            can_seek seen_lent (omega (arith, held, ap (λ g. g.charges.held) read, enough)) most
 
         pub own_found : {start : ℕ} → ((others : List Load) → start_sought q others lent ≡ at start) → start_of s o ≡ at start
-        own_found = found_seen (own ∙ own_seen single)
+        own_found = found_seen seen_lent
 
       -- with what the others draw
       module _ {xs : List Load} (same : lent ≡ xs) (draws : xs ≡ seen (limits_of (view s) (p + 1)) (charges_of (feeder_at s p).charges)) where

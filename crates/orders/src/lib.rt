@@ -1,4 +1,4 @@
-// What an order is shown, and the search for its start, window by window.
+// What is sought for an order, and the search for its start, window by window.
 #![tactic(auto)]
 
 pub mod sought;

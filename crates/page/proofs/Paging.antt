@@ -11,7 +11,7 @@ use Rattle.rules.specs.Charge.{Charge, end_of, is_begun}
 use Rattle.rules.specs.Basics.{Each}
 use Rattle.rules.proofs.Lists.{length_tabulate, get_d_tabulate, tabulate_each}
 use Rattle.charges.specs.declared.Charges.{Charges}
-use Rattle.charges.specs.Arrays.{charge_at, charges_of, Columns}
+use Rattle.charges.specs.Arrays.{charge_at, charges_of}
 use Rattle.layout.specs.Image.{no_charge}
 use Rattle.page.specs.Lines.{row_of, row, blank}
 use Rattle.page.specs.Pages.{texts, row_at, rows, page, page_count, pages}
@@ -44,7 +44,7 @@ module _ (clock : ℕ) (cs : List Charge) (q : ℕ) where
   row_unused h = rw (le-ltb q (length cs) h)
 
 -- the rows of charges in arrays
-module _ (clock : ℕ) {charges : Charges} (columns : Columns charges) (q : ℕ) where
+module _ (clock : ℕ) (charges : Charges) (q : ℕ) where
   pub row_of_lem :
       {begun : Bool} {ticket line start end : ℕ}
       → q < charges.held
@@ -66,8 +66,8 @@ module _ (clock : ℕ) {charges : Charges} (columns : Columns charges) (q : ℕ)
   pub row_behind : charges.held ≤ q → blank ≡ row_at clock (charges_of charges) q
   row_behind h = sym (row_unused clock (charges_of charges) q (rw (length_tabulate (charge_at charges) charges.held 0) h))
 
-pub fits_at_lem : {charges : Charges} → Columns charges → (q : ℕ) → Each ChargeFits (charges_of charges) → q < charges.held → ChargeFits (charge_at charges q)
-fits_at_lem {charges} columns q e h = tabulate_each ChargeFits (charge_at charges) charges.held 0 e q (omega arith) (omega arith)
+pub fits_at_lem : (charges : Charges) (q : ℕ) → Each ChargeFits (charges_of charges) → q < charges.held → ChargeFits (charge_at charges q)
+fits_at_lem charges q e h = tabulate_each ChargeFits (charge_at charges) charges.held 0 e q (omega arith) (omega arith)
 
 pub row_fits : {c : Charge} → ChargeFits c → Fits c.ticket c.line c.start (end_of c)
 row_fits f =

@@ -2,7 +2,7 @@
 ghost use Rattle.std.specs.Prelude.{◌≡◌, ◌+◌, ◌*◌, ◌≤◌, ◌<◌, ◌++◌, length};
 ghost use Rattle.rules.specs.Site.{places};
 ghost use Rattle.rules.specs.Basics.{Each};
-ghost use Rattle.charges.specs.Arrays.{charges_of, Columns};
+ghost use Rattle.charges.specs.Arrays.{charges_of};
 ghost use Rattle.page.specs.Lined.{ChargeFits};
 ghost use Rattle.page.specs.Pages.{row_at, rows, page, page_count, pages};
 
@@ -13,7 +13,7 @@ use text::Text;
 
 // Row q of all pages: that of the charge at place q, or an unused one.
 fn print_place(clock: u32, charges: &Charges, q: usize, out: &mut Text)
-    requires { Columns charges.now × Each ChargeFits (charges_of charges.now) × (length out.old + 38 ≤ Text.CAPACITY) }
+    requires { Each ChargeFits (charges_of charges.now) × (length out.old + 38 ≤ Text.CAPACITY) }
     ensures printed { out.new ≡ out.old ++ row_at clock (charges_of charges.now) q }
     ensures value { length out.new ≡ length out.old + 38 }
 {
@@ -29,7 +29,7 @@ fn print_place(clock: u32, charges: &Charges, q: usize, out: &mut Text)
 
 // The 24 rows of page k.
 fn print_rows(clock: u32, charges: &Charges, k: usize, out: &mut Text)
-    requires { Columns charges.now × Each ChargeFits (charges_of charges.now) × (k < 8) × (length out.old + 912 ≤ Text.CAPACITY) }
+    requires { Each ChargeFits (charges_of charges.now) × (k < 8) × (length out.old + 912 ≤ Text.CAPACITY) }
     ensures printed { out.new ≡ out.old ++ rows clock (charges_of charges.now) k }
     ensures value { length out.new ≡ length out.old + 912 }
 {
@@ -40,7 +40,7 @@ fn print_rows(clock: u32, charges: &Charges, k: usize, out: &mut Text)
 
 // Page k, from 0.
 fn print_page(clock: u32, charges: &Charges, k: usize, out: &mut Text)
-    requires { Columns charges.now × Each ChargeFits (charges_of charges.now) × (k < 8) × (length out.old + 950 ≤ Text.CAPACITY) }
+    requires { Each ChargeFits (charges_of charges.now) × (k < 8) × (length out.old + 950 ≤ Text.CAPACITY) }
     ensures printed { out.new ≡ out.old ++ page clock (charges_of charges.now) k }
     ensures value { length out.new ≡ length out.old + 950 }
 {
@@ -57,7 +57,7 @@ fn page_count(held: usize) -> usize
 
 // All pages: 180 charges have 8 pages of 950 bytes.
 pub fn print_pages(clock: u32, charges: &Charges, out: &mut Text)
-    requires { Columns charges.now × Each ChargeFits (charges_of charges.now) × (length out.old + 7600 ≤ Text.CAPACITY) }
+    requires { Each ChargeFits (charges_of charges.now) × (length out.old + 7600 ≤ Text.CAPACITY) }
     ensures { out.new ≡ out.old ++ pages clock (charges_of charges.now) }
 {
     for k in 0..page_count(charges.held) {

@@ -39,7 +39,7 @@ collecting_start clock c starts =
     }
 
 module _ {clock : ℕ} {c : Charges} {starts : List ℕ} {i : ℕ} {listed : List ℕ} {k : ℕ}
-    (v : Collecting clock c starts i listed k) (low : i < c.held) (few : c.held ≤ places) where
+    (v : Collecting clock c starts i listed k) (low : i < c.held) where
   pub collecting_begun :
       {listed' : List ℕ} {k' : ℕ}
       → (charge_at c i).start < clock
@@ -64,7 +64,7 @@ module _ {clock : ℕ} {c : Charges} {starts : List ℕ} {i : ℕ} {listed : Lis
       → Collecting clock c starts (i + 1) listed' k'
   collecting_waiting h p q =
       let waits = is_waiting_lem clock (charge_at c i) h in
-      let room : k < length listed = omega (arith, v.few, v.filled.full) in
+      let room : k < length listed = omega (arith, v.few, v.filled.full, c.few) in
       rw (p, q)
       (record {
         few = omega (arith, v.few);

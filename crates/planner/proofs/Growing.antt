@@ -71,7 +71,7 @@ module _ {y : Limits} {clock : ℕ} {c : Charges} {placed : List Charge} {p : Pr
         go true e =
             rw (eqb-true k i e)
             (start_last placed (charge_at c i) s fresh
-            ∙ sym (get_or-set_same starts i s 0 (omega (arith, v.length_is, h.columns.few))))
+            ∙ sym (get_or-set_same starts i s 0 (omega (arith, v.length_is, c.few))))
         go false e =
             let ne : k ≡ i → ⊥ = eqb-false k i e in
             start_other placed (charge_at c i) s (charge_at c k).ticket (places_apart h i k low l (λ j. ne (sym j)))

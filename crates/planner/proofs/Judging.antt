@@ -51,7 +51,6 @@ module _ (b : Beside) {c next : Charges} (ss : List ℕ) (listed : Listed c) (h 
   pub next_profiled : Profiled next
   next_profiled =
       record {
-        columns = h.columns;
         plannable =
             plannable (charges_of next)
             (rw h.charges

@@ -59,6 +59,6 @@ queue_latest_start {clock} {c} {q} h e o =
             length_tabulate (charge_at c) c.held 0,
             ap length o.charges,
             length-map q (charge_at c),
-            h.columns.few,
+            c.few,
           );
     })

@@ -62,7 +62,6 @@ plannable (c ∷ cs) r e = (
 pub listed_profiled : {c : Charges} → Listed c → Profiled c
 listed_profiled {c} h =
     record {
-      columns = h.columns;
       plannable =
           plannable (charges_of c)
           (each_tabulate (λ x. IsRate x.rate) (charge_at c) c.held 0 (λ i p q. (h.small i (omega arith)).is_rate))

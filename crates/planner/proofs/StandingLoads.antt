@@ -73,7 +73,7 @@ module _ (b : Beside) where
   module _ {p : Profile} (s : Shows p b.clock (loads_lent b.others)) {c : Charges} (v : Profiled c) {xs : List Load} (lent : xs ≡ loads_of (charges_of c))
       (before : ℕ) where
     few : length xs ≤ places
-    few = omega (arith, ap length lent, length_loads_of (charges_of c), length_tabulate (charge_at c) c.held 0, v.columns.few)
+    few = omega (arith, ap length lent, length_loads_of (charges_of c), length_tabulate (charge_at c) c.held 0, c.few)
 
     pub own_can_add : {size : ℕ} → Spacious b size → CanAddStarted p size xs 0 before
     own_can_add space = can_add_before s before xs (rw lent v.plannable) (omega (arith, spacious_room space, few)) space.most

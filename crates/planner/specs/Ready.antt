@@ -5,7 +5,7 @@ use Rattle.rules.specs.Load as rules
 use Rattle.rules.specs.Charge.{Charge, loads_of, begun_charges}
 use Rattle.rules.specs.Site.{places}
 use Rattle.charges.specs.declared.Charges.{Charges}
-use Rattle.charges.specs.Arrays.{charge_at, charges_of, Columns}
+use Rattle.charges.specs.Arrays.{charge_at, charges_of}
 use Rattle.charges.specs.Held.{Listed}
 use Rattle.charges.specs.Drawn.{loads_lent}
 use Rattle.profile.specs.Steps.{most_steps}
@@ -24,7 +24,6 @@ pub record Spacious (b : Beside) (size : ℕ) : Type 0 where
 
 -- charges that a profile takes
 pub record Profiled (c : Charges) : Type 0 where
-  pub columns : Columns c
   pub plannable : Each Plannable (loads_of (charges_of c))
 
 pub record Ready (b : Beside) (c : Charges) : Type 0 where

@@ -26,7 +26,6 @@ pub struct Judgement {
 
 // "Cause 4 compares the largest s + p + r of the site": whether it is later with the next charges than now.
 fn ends_later(beside: Beside<'_>, charges: &Charges, next: &Charges) -> bool
-    requires { Columns charges.now × Columns next.now }
     ensures { result ≡ ltb (last_until (seen (terms_of beside.entry) (charges_of charges.now))) (last_until (seen (terms_of beside.entry) (charges_of next.now))) }
 {
     let others = beside.others.last_until();
@@ -68,7 +67,7 @@ fn or_late(kept: Result<(), Cause>, before: u64, after: u64) -> Result<(), Cause
 
 // The waiting charges get these starts, or all stays.
 pub fn judged<const N: usize>(beside: Beside<'_>, charges: &Charges, starts: &[u32]) -> Judgement
-    requires { Spacious beside N × Listed charges.now × (length starts.now ≡ waiting_count beside.clock charges.now) }
+    requires { Spacious beside N × Columns charges.now × Listed charges.now × (length starts.now ≡ waiting_count beside.clock charges.now) }
     ensures { Judges beside.entry charges.now starts.now result }
 {
     let next = charges.restarted(beside.clock, starts);

@@ -6,11 +6,12 @@ use Rattle.rules.specs.Site as rules
 use Rattle.rules.proofs.Rounding.{bound_at_most}
 use Rattle.planner.specs.declared.Beside.{Beside}
 use Rattle.planner.specs.Ready.{Ready}
+use Rattle.station.specs.declared.Feeder.{Feeder}
 use Rattle.station.specs.declared.Station.{Station}
 use Rattle.station.specs.declared.surroundings.Surroundings.{Surroundings}
 use Rattle.station.specs.View.{feeder_at, Valid}
 use Rattle.station.specs.Beside.{Surrounds, Lends}
-use Rattle.station.proofs.Views.{view_number}
+use Rattle.station.proofs.Views.{view_number, read_at, feeder_read}
 use Rattle.station.proofs.Held.{valid_listed, held_settings, held_charge}
 use Rattle.station.proofs.Rests.{lent_beside}
 use Rattle.planning.specs.Answers.{CanTest}
@@ -29,11 +30,15 @@ module _ {s : Station} {p : ℕ} {b : Beside} (w : CanTest s p b) where
   own_site : b.limits.site ≡ s.site
   own_site = ap (λ y. y.site) w.beside.terms
 
+  pub own_read : (other : Feeder) → read_at s p other ≡ feeder_at s p
+  own_read = feeder_read s w.valid.formed w.inside
+
   -- a feeder that can be tested can be planned
-  pub ready : Ready b (feeder_at s p).charges
-  ready =
+  pub ready : (other : Feeder) → Ready b (read_at s p other).charges
+  ready other =
       let x = held_settings s w.valid p w.inside in
-      record {
+      rw (own_read other)
+      (record {
         listed = valid_listed s w.valid p w.inside;
         clock_most = omega (arith, w.beside.clock, w.valid.state.clock_high);
         limit_most = omega (arith, own_limit, x.limit_high);
@@ -42,4 +47,4 @@ module _ {s : Station} {p : ℕ} {b : Beside} (w : CanTest s p b) where
         within_limit = λ i l. omega (arith, own_limit, (held_charge s w.valid p w.inside i l).within_limit);
         within_bound = λ i l. omega (arith, own_bound, (held_charge s w.valid p w.inside i l).within_bound);
         within_site_lem = λ i l. omega (arith, own_site, (held_charge s w.valid p w.inside i l).within_site_lem);
-      }
+      })

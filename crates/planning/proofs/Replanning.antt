@@ -15,12 +15,15 @@ use Rattle.planner.specs.Starts.{waiting_count}
 use Rattle.planner.specs.Answers.{proposal_of, Proposes}
 use Rattle.lines.specs.declared.rounds.Replanned.{Replanned as Lined}
 use Rattle.lines.specs.Rounds.{Replans}
+use Rattle.station.specs.declared.Feeder.{Feeder}
 use Rattle.station.specs.declared.Station.{Station}
 use Rattle.station.specs.View.{view, feeder_at}
 use Rattle.station.specs.Given.{Gives}
+use Rattle.station.proofs.Views.{read_at}
 use Rattle.station.proofs.Refusing.{call_granted}
 use Rattle.planning.specs.declared.Planned.{Planned}
 use Rattle.planning.specs.Answers.{planned_of, CanTest, Tests}
+use Rattle.planning.proofs.Ready.{own_read}
 use Rattle.planning.proofs.Testing.{own}
 use Rattle.planning.proofs.Refusals.{offer_granted, latest_granted, lines_granted}
 
@@ -49,16 +52,16 @@ module _ {s : Station} {n p : ℕ} (names : n ≡ p + 1) where
       (t : Tests s (p + 1) rounds (proposal_of (waiting_count s.clock (feeder_at s p).charges) r) answer next)
     where
       pub latest_tested :
-          {q : Proposal} {made : Result (List ℕ) Cause}
-          → Proposes b.clock (feeder_at s p).charges q made
-          → q ≡ latest (terms_of b) b.clock (charges_of (feeder_at s p).charges)
+          (other : Feeder) {q : Proposal} {made : Result (List ℕ) Cause}
+          → Proposes b.clock (read_at s p other).charges q made
+          → q ≡ latest (terms_of b) b.clock (charges_of (read_at s p other).charges)
           → r ≡ made
           → rounds ≡ 0
           → Gives (step (view s) (replan_latest n)) (planned_of answer) next []
       unfolding replanning_latest
-      latest_tested e h m z =
+      latest_tested other e h m z =
           let same : proposal_of (waiting_count s.clock (feeder_at s p).charges) r ≡ latest (limits_of (view s) n) s.clock (charges_on (view s) n) =
-          rw (m, ← w.beside.clock) (sym e.same ∙ h ∙ rw (w.beside.terms, names, own w) refl) in
+          rw (m, ← w.beside.clock) (rw (own_read w other) at (sym e.same ∙ h) ∙ rw (w.beside.terms, names, own w) refl) in
           record {
             result =
                 (t.gives []).result
@@ -68,19 +71,19 @@ module _ {s : Station} {n p : ℕ} (names : n ≡ p + 1) where
           }
 
       pub lines_tested :
-          {q : Replanned} {made : Lined} (allowance : ℕ)
-          → Replans b.clock (feeder_at s p).charges q made
-          → q ≡ by_lines (terms_of b) b.clock allowance (charges_of (feeder_at s p).charges)
+          {q : Replanned} {made : Lined} (allowance : ℕ) (other : Feeder)
+          → Replans b.clock (read_at s p other).charges q made
+          → q ≡ by_lines (terms_of b) b.clock allowance (charges_of (read_at s p other).charges)
           → r ≡ made.proposed
           → rounds ≡ made.rounds
           → 1 ≤ allowance
           → allowance ≤ 1000
           → Gives (step (view s) (replan_lines n allowance)) (planned_of answer) next []
       unfolding replanning_lines
-      lines_tested allowance e h m z low high =
+      lines_tested allowance other e h m z low high =
           let same : record { proposal = proposal_of (waiting_count s.clock (feeder_at s p).charges) r; rounds = rounds }
           ≡ by_lines (limits_of (view s) n) s.clock allowance (charges_on (view s) n) =
-          rw (m, z, ← w.beside.clock) (sym e.same ∙ h ∙ rw (w.beside.terms, names, own w) refl) in
+          rw (m, z, ← w.beside.clock) (rw (own_read w other) at (sym e.same ∙ h) ∙ rw (w.beside.terms, names, own w) refl) in
           record {
             result =
                 (t.gives []).result

@@ -22,6 +22,7 @@ use Rattle.planner.specs.declared.judge.Judgement.{Judgement}
 use Rattle.planner.specs.Causes.{number_of, cause_in}
 use Rattle.planner.specs.Answers.{proposal_of}
 use Rattle.planner.specs.Judged.{TakenAs, held_after, Judges}
+use Rattle.station.specs.declared.Feeder.{Feeder}
 use Rattle.station.specs.declared.Station.{Station}
 use Rattle.station.specs.View.{feeder_at, view}
 use Rattle.station.proofs.Views.{view_number, is_feeder_lem}
@@ -80,7 +81,7 @@ module _ {s : Station} {p : ℕ} {b : Beside} (w : CanTest s p b) where
         }
 
     -- its charges are held where it has no cause
-    module _ {c : Charges} (is : j.taken ≡ Ok c) where
+    module _ {c : Charges} (is : j.taken ≡ Ok c) (other : Feeder) where
       none_is : judged (limits_of (view s) (p + 1)) s.clock (charges_on (view s) (p + 1)) ss ≡ 0
       none_is = cause_is ∙ ap cause_in is
 
@@ -90,12 +91,12 @@ module _ {s : Station} {p : ℕ} {b : Beside} (w : CanTest s p b) where
           (subst (λ (t : Result Charges Cause). TakenAs s.clock (feeder_at s p).charges ss t) is
           (subst (λ (k : ℕ). TakenAs k (feeder_at s p).charges ss j.taken) (ap (λ (x : Beside). x.clock) same ∙ w.beside.clock) e.held))
 
-      taken_view : view (changed_at s p c s.next) ≡ holding (view s) (p + 1) (restarted s.clock (charges_on (view s) (p + 1)) ss) s.next
-      taken_view = changed_view s w.valid.formed p c s.next w.inside ∙ ap (λ cs. holding (view s) (p + 1) cs s.next) next.charges
+      taken_view : view (changed_at s p other c s.next) ≡ holding (view s) (p + 1) (restarted s.clock (charges_on (view s) (p + 1)) ss) s.next
+      taken_view = changed_view s w.valid.formed p other c s.next w.inside ∙ ap (λ cs. holding (view s) (p + 1) cs s.next) next.charges
 
       pub taken_tests :
           {held : Charges} {rounds before after : ℕ} → held ≡ c → before ≡ j.before → after ≡ j.after →
-          Tests s (p + 1) rounds (starts ss) (record { cause = None; before = before; after = after; rounds = rounds }) (changed_at s p held s.next)
+          Tests s (p + 1) rounds (starts ss) (record { cause = None; before = before; after = after; rounds = rounds }) (changed_at s p other held s.next)
       taken_tests {held} {rounds} put x y =
           let then : j.after ≡ lateness (charges_of c) =
           sym e.after ∙ ap (λ (t : Result Charges Cause). lateness (charges_of (held_after (feeder_at s p).charges t))) is in
@@ -108,7 +109,7 @@ module _ {s : Station} {p : ℕ} {b : Beside} (w : CanTest s p b) where
                   valid =
                       rw put
                       (record {
-                        formed = changed_formed s w.valid.formed p c s.next w.inside next.columns;
+                        formed = changed_formed s w.valid.formed p other c s.next w.inside next.columns;
                         state = subst ValidState (sym taken_view)
                             (plan_valid (view s) (p + 1) ss w.valid.state (is_feeder_lem s p w.inside)
                             (judged_meets (limits_of (view s) (p + 1)) s.clock (charges_on (view s) (p + 1)) ss none_is));

@@ -6,7 +6,7 @@ ghost use Rattle.std.specs.Prelude.{◌≡◌, length};
 ghost use Rattle.rules.specs.Load.{sound};
 ghost use Rattle.rules.specs.Charge.{seen};
 ghost use Rattle.rules.specs.Replan.{latest as latest_of, by_lines};
-ghost use Rattle.charges.specs.Arrays.{charges_of};
+ghost use Rattle.charges.specs.Arrays.{charges_of, Columns};
 ghost use Rattle.charges.specs.Held.{Listed};
 ghost use Rattle.planner.specs.Ready.{terms_of, Profiled, Ready};
 ghost use Rattle.planner.specs.Starts.{waiting_count};
@@ -47,7 +47,7 @@ pub fn by_lines(beside: Beside<'_>, charges: &Charges, allowance: u32) -> Replan
 
 // The test that an offer and both replans end with.
 pub fn judged(beside: Beside<'_>, charges: &Charges, starts: &[u32]) -> Judgement
-    requires { Listed charges.now × (length starts.now ≡ waiting_count beside.clock charges.now) }
+    requires { Columns charges.now × Listed charges.now × (length starts.now ≡ waiting_count beside.clock charges.now) }
     ensures { Judges beside.entry charges.now starts.now result }
 {
     if beside.others.held == 0 {

@@ -1,21 +1,23 @@
 -- The minutes and counts of a list of steps: one put in, and some raised on a line.
 use Prim.Native.Nat.{ℕ, suc, ◌+◌, ◌-◌, ◌≤◌, ◌<◌}
 use mathlib.Core.Path.{◌≡◌, sym, ◌∙◌, ap}
-use mathlib.Core.Logic.{⊎_elim}
+use mathlib.Core.Logic.{◌⊎◌, inl, inr, ⊎_elim}
 use native.Mathlib.Omega.{arith}
 use mathlib.Core.List.{List}
-use lib.ListN.{length, get_or, set, take, length-set, length-take}
+use lib.ListN.{length, get_or, set, take, drop, length-set, length-take}
+use borrow.Rule.Slice.PartMut.{put_mid}
+use Rattle.std.proofs.Common.{rules}
 use Rattle.std.proofs.Math.ListN.{get_or-map}
 use Rattle.std.proofs.lemmas.List as lists
-use Rattle.std.proofs.lemmas.List.{length-map, get_or-take, get_or-set_same, get_or-set_other}
-use Rattle.std.proofs.Math.Seq.{map-set_same}
+use Rattle.std.proofs.lemmas.List.{places, ext_get_or, length-map, length-drop, get_or-take, get_or-set_same, get_or-set_other}
 use Rattle.std.specs.List.{CopiedTo, SameBelow}
-use Rattle.rules.specs.Load.{IsColumn, share}
+use Rattle.rules.specs.Load.{IsColumn}
 use Rattle.profile.specs.declared.steps.Step.{Step}
 use Rattle.profile.specs.Steps.{minutes_of, counts_of, empty_step, begun_at, Inserted, Doubled, RaisedOn}
 use Rattle.profile.specs.Shows.{Profile, line_of, first_minute}
 use Rattle.profile.specs.Loads.{Raised}
 use Rattle.profile.proofs.Levels.{same_or_not}
+use Rattle.rules.proofs.Ranges.{below_or_not}
 
 pub minute_at : (p : Profile) (i : ℕ) → get_or (minutes_of p) i 0 ≡ (get_or p i (empty_step 0)).minute
 minute_at p i = get_or-map (λ (s : Step). s.minute) p i (empty_step 0)
@@ -96,29 +98,46 @@ doubled_put xs ys {n} {i} {t} below room long moved still =
     back : (m : ℕ) → i < m → i + (suc m - (i + 1)) ≡ m
     back m b = omega arith
 
--- one more step raised
-pub raised_more :
-    {p q : Profile} {line rate i k : ℕ} {x : Step} → k < length q → i ≤ k → IsColumn line → RaisedOn (get_or q k (empty_step 0)) line rate x → Raised p line rate i k q →
-    Raised p line rate i (k + 1) (set q k x)
-raised_more {p} {q} {line} {rate} {i} {k} {x} below from hl on r =
-    record {
-      minutes = map-set_same (λ (s : Step). s.minute) q k x (empty_step 0) on.minute ∙ r.minutes;
-      size = length-set q k x ∙ r.size;
-      each = λ l hc.
-          record {
-            before = λ m b. other l m (λ e. omega (arith, e)) ∙ (r.each l hc).before m b;
-            between = λ m b c.
-                ⊎_elim
-                (λ e.
-                rw e
-                (ap (λ (s : Step). counts_of s l) (get_or-set_same q k x (empty_step 0) below)
-                ∙ on.each l hc hl
-                ∙ ap (λ (n : ℕ). n + share line rate l) ((r.each l hc).after k (omega arith))))
-                (λ ne. other l m ne ∙ (r.each l hc).between m b (omega arith))
-                (same_or_not m k);
-            after = λ m b. other l m (λ e. omega (arith, e)) ∙ (r.each l hc).after m (omega arith);
-          };
-    }
-  where
-    other : (l m : ℕ) → (m ≡ k → ⊥) → line_of (set q k x) l m ≡ line_of q l m
-    other l m ne = ap (λ (s : Step). counts_of s l) (get_or-set_other q k m x (empty_step 0) ne)
+-- the first k steps have the rate more on a line, and the others are as they were
+pub record Raising (gs hs : List Step) (line rate k : ℕ) : Type 0 where
+  pub done : (m : ℕ) → m < k → RaisedOn (get_or gs m (empty_step 0)) line rate (get_or hs m (empty_step 0))
+  pub left : (m : ℕ) → k ≤ m → get_or hs m (empty_step 0) ≡ get_or gs m (empty_step 0)
+
+-- a list of n steps, with the part from i up to j raised as a whole and put back
+module _ (xs : List Step) {ys : List Step} {n line rate i j k : ℕ} (few : n ≤ length xs) (order : i ≤ j) (below : j ≤ n) (hl : IsColumn line) (r : Raising (take (j - i) (drop i xs)) ys line rate k) (long : length ys ≡ length (take (j - i) (drop i xs))) (all : length (take (j - i) (drop i xs)) ≤ k) where
+  abbrev edited : Profile
+  edited = take n (put_mid i (j - i) xs ys)
+
+  within : length ys ≡ j - i
+  within = omega (arith, long, length-take (j - i) (drop i xs), length-drop i xs)
+
+  outside : (m : ℕ) → (m < i) ⊎ (j ≤ m) → get_or edited m (empty_step 0) ≡ get_or (take n xs) m (empty_step 0)
+  outside m (inl b) = search (rules, places)
+  outside m (inr b) = search (rules, places)
+
+  inside : (m : ℕ) → i ≤ m → m < j → RaisedOn (get_or (take n xs) m (empty_step 0)) line rate (get_or edited m (empty_step 0))
+  inside m b c =
+      let was : get_or (take (j - i) (drop i xs)) (m - i) (empty_step 0) ≡ get_or (take n xs) m (empty_step 0) = search (rules, places) in
+      let is : get_or ys (m - i) (empty_step 0) ≡ get_or edited m (empty_step 0) = search (rules, places) in
+      rw (← was, ← is) (r.done (m - i) (omega (arith, all, long, within)))
+
+  same_minute : (m : ℕ) → (m < i) ⊎ (i ≤ m) → (m < j) ⊎ (j ≤ m) → (get_or edited m (empty_step 0)).minute ≡ (get_or (take n xs) m (empty_step 0)).minute
+  same_minute m (inl b) _ = ap (λ (s : Step). s.minute) (outside m (inl b))
+  same_minute m (inr b) (inl c) = (inside m b c).minute
+  same_minute m (inr b) (inr c) = ap (λ (s : Step). s.minute) (outside m (inr c))
+
+  size : length edited ≡ length (take n xs)
+  size = search (rules, places)
+
+  pub raised_part : Raised (take n xs) line rate i j edited
+  raised_part =
+      record {
+        minutes = ext_get_or 0 _ _ (length-map edited _ ∙ size ∙ sym (length-map (take n xs) _)) (λ m _. minute_at edited m ∙ same_minute m (below_or_not m i) (below_or_not m j) ∙ sym (minute_at (take n xs) m));
+        size = size;
+        each = λ l hc.
+            record {
+              before = λ m b. ap (λ (s : Step). counts_of s l) (outside m (inl b));
+              between = λ m b c. (inside m b c).each l hc hl;
+              after = λ m b. ap (λ (s : Step). counts_of s l) (outside m (inr b));
+            };
+      }

@@ -91,8 +91,10 @@ impl<const N: usize> Profile<N> {
         requires { CanRaise self.old line rate i j }
         ensures { Raised self.old line rate i j self.new }
     {
-        for k in i..j {
-            self.list[k] = self.list[k].raised(line, rate);
+        // A slice first: no part of an array of N places is lent to a loop.
+        let list = &mut self.list[..];
+        for step in &mut list[i..j] {
+            *step = step.raised(line, rate);
         }
     }
 

@@ -12,7 +12,7 @@ use Rattle.rules.proofs.Lists.{map-append}
 use Rattle.rules.proofs.Sorting.{length-sorted}
 use Rattle.rules.proofs.Queues.{Distinct}
 use Rattle.charges.specs.declared.Charges.{Charges}
-use Rattle.charges.specs.Arrays.{charge_at, charges_of, Columns}
+use Rattle.charges.specs.Arrays.{charge_at, charges_of}
 use Rattle.charges.proofs.Words.{map_is}
 use Rattle.queues.specs.Queues.{Ordered}
 use Rattle.queues.specs.Reports.{pair_at, pairs_in, together, CanReport}
@@ -35,7 +35,7 @@ reports_none clock target entry = record { as_many = refl; list_is = refl }
 
 module _
     {clock target : ℕ} {c : Charges} {is : List ℕ} {cs : List Charge} {entry list : List ℕ} {n : ℕ}
-    (w : Columns c) (o : Ordered c (reported clock target (charges_of c)) is) (d : Distinct (charges_of c ++ cs))
+    (o : Ordered c (reported clock target (charges_of c)) is) (d : Distinct (charges_of c ++ cs))
     (v : Reports clock target cs entry list n) (room : 2 * (n + length is) ≤ length entry) where
   abbrev before : List Charge
   before = reported clock target cs
@@ -55,7 +55,6 @@ module _
   pub can_report : CanReport c is list n
   can_report =
       record {
-        columns = w;
         places = o.places;
         room =
             omega (

@@ -125,7 +125,7 @@ module _ (o : One) (k : Columns (held_by o)) where
   SameByte column j byte = (q : ℕ) → byte_of byte (get_or column q 0) ≡ packed (fields_of (charge_at (held_by o) q)) j
 
   pub held_long : (column : List ℕ) → Filled (held_by o).held column → length (held column) ≡ (held_by o).held
-  held_long column f = length-take-le (held_by o).held column (omega (arith, k.few, f.full))
+  held_long column f = length-take-le (held_by o).held column (omega (arith, (held_by o).few, f.full))
 
   pub row_of_lem :
       (column : List ℕ) (j byte : ℕ) → Filled (held_by o).held column → j < 20 → SameByte column j byte → RowOf (content_byte (single o)) (held column) j byte
@@ -137,7 +137,7 @@ module _ (o : One) (k : Columns (held_by o)) where
             ∙ e q
             ∙ ap (λ c. packed (fields_of c) j) (sym (held_at_lem o q m))
             ∙ sym (record_held (single o) q j (omega (arith, held_count o)))
-            ∙ sym (record_content (single o) q j (omega (arith, k.few)) h);
+            ∙ sym (record_content (single o) q j (omega (arith, (held_by o).few)) h);
         none = λ q l m. record_content (single o) q j m h ∙ record_none (single o) q j (omega (arith, held_count o, held_long column f));
       }
 

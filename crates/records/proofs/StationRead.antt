@@ -57,8 +57,8 @@ module _ (xs : List ℕ) (right : header_right xs ≡ true) where
   charges_in_lem :
       (c : Charges) → HoldsFrom xs (header_at xs 20) (header_at xs 8) c → charges_of c ≡ tabulate (charge_from xs (header_at xs 8)) (header_at xs 20) 0
   charges_in_lem c h =
-      rw h.held_is
-      (tabulate_same (charge_at c) (charge_from xs (header_at xs 8)) (header_at xs 20) 0 (λ q p l. h.each q (omega arith)))
+      ap (λ n. tabulate (charge_at c) n 0) h.held_is
+      ∙ (tabulate_same (charge_at c) (charge_from xs (header_at xs 8)) (header_at xs 20) 0 (λ q p l. h.each q (omega arith)))
 
   abbrev only_with : Header → ℕ → Charges → One
   only_with h bound c =

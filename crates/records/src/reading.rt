@@ -6,6 +6,7 @@ ghost use Rattle.records.specs.Columns.{RowJoined, ColumnRead, ColumnTo, HoldsFr
 
 use crate::arrangement::place_of;
 use blocks::bytes::number_at;
+use blocks::contents::CONTENTS;
 use charges::{Charges, PLACES};
 use profile::balance::nearest_hundreds;
 use station::Feeder;
@@ -15,9 +16,8 @@ use validity::ranges::Header;
 // The first so many records of some contents.
 #[derive(Clone, Copy)]
 struct Records<'a> {
-    contents: &'a [u8],
+    contents: &'a [u8; CONTENTS],
     held: usize,
-    ghost long: { length contents.now ≡ 4572 },
     ghost few: { held ≤ places },
 }
 
@@ -78,8 +78,7 @@ fn with_tail(times: &[u32], tail: u32) -> [u32; PLACES]
 }
 
 // The numbers of block 0.
-fn read_header(contents: &[u8]) -> Header
-    requires { length contents.now ≡ 4572 }
+fn read_header(contents: &[u8; CONTENTS]) -> Header
     ensures { result ≡ header_in contents.now }
 {
     Header {
@@ -95,8 +94,7 @@ fn read_header(contents: &[u8]) -> Header
 
 // Whether the number held and the settings are in range.
 #[tactic(auto, unfolding(crate::specs::Contents::header_right))]
-pub fn header_right(contents: &[u8]) -> bool
-    requires { length contents.now ≡ 4572 }
+pub fn header_right(contents: &[u8; CONTENTS]) -> bool
     ensures { result ≡ header_right contents.now }
 {
     let header = read_header(contents);
@@ -104,8 +102,8 @@ pub fn header_right(contents: &[u8]) -> bool
 }
 
 // The only feeder of the station that the contents would be of. No whole station is made of it, since that has the places of four.
-pub fn read(contents: &[u8]) -> One
-    requires { (length contents.now ≡ 4572) × (header_right contents.now ≡ true) }
+pub fn read(contents: &[u8; CONTENTS]) -> One
+    requires { header_right contents.now ≡ true }
     ensures { ReadFrom contents.now result }
 {
     let header = read_header(contents);

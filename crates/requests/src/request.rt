@@ -52,6 +52,12 @@ pub enum Request {
 // The most numbers that are read: more than a request can hold.
 const MOST: usize = 2048;
 
+// The most bytes of a line that is read.
+const LONGEST: usize = 4096;
+
+// What a line begins with that is passed over.
+const COMMENT: u8 = b'#';
+
 // How many numbers a call takes, at least and at most.
 #[derive(Clone, Copy)]
 struct Takes {
@@ -197,13 +203,13 @@ pub fn read_request(text: &[u8], numbers: &mut [u32]) -> Result<Request, Reason>
     requires { 2048 ≤ length numbers.old }
     ensures { Asks (read_request text.now) (request_values text.now) numbers.old numbers.new result }
 {
-    if text.len() > 4096 {
+    if text.len() > LONGEST {
         return Err(Reason::LineTooLong);
     }
     if text.is_empty() {
         return Ok(Request::Nothing);
     }
-    if text[0] == b'#' {
+    if text[0] == COMMENT {
         return Ok(Request::Nothing);
     }
     let Some(name) = call_named(first_word(text)) else {

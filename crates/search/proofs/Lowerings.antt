@@ -7,8 +7,7 @@ use mathlib.Core.Logic.{◌⊎◌, inl, inr, ⊎_elim}
 use native.Mathlib.Omega.{arith}
 use borrow.Author.Tests.{lt-ltb, le-ltb, lt-leb, le-leb, eq-eqb, ne_eqb}
 use lib.Dec.{ltb, leb, eqb}
-use lib.ListN.{length, get_or, set, take, drop, replicate, length-set, get_or-eq_default}
-use lib.Seq.{get_or-set_same, get_or-set_other}
+use lib.ListN.{length, get_or, take, drop, replicate, get_or-eq_default}
 use Rattle.std.proofs.lemmas.List.{get_or_append_left, get_or-append_right, get_or-drop, get_or-replicate, length-replicate, length-take}
 use Rattle.rules.specs.Load.{IsLine}
 use Rattle.rules.specs.Search.{Caps}

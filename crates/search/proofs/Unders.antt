@@ -4,7 +4,7 @@ use mathlib.Core.Path.{◌≡◌, refl, sym, ◌∙◌, ap}
 use mathlib.Core.Bool.{Bool, true, false, cond, ◌&&◌, and-true, and-false, true≢false}
 use mathlib.Core.List.{List}
 use native.Mathlib.Omega.{arith}
-use borrow.Author.Tests.{le-leb, lt-leb}
+use borrow.Author.Tests.{le-leb}
 use lib.Dec.{leb}
 use lib.ListN.{length, get_or}
 use Rattle.rules.specs.Basics.{run_of}
@@ -12,14 +12,13 @@ use Rattle.rules.specs.Load.{draw, Load, IsLine, whole_of, counts}
 use Rattle.rules.specs.Search.{Caps, room_for, fits_under}
 use Rattle.rules.proofs.Ranges.{fails, throughout_at}
 use Rattle.rules.proofs.Fitting.{run_is, fits_run_lem}
-use Rattle.profile.specs.Steps.{minutes_of, counts_of, empty_step, In}
-use Rattle.profile.specs.Shows.{Profile, line_of, level_of, levels, first_minute, last_minute, Shows}
-use Rattle.profile.specs.declared.steps.Step.{Step}
+use Rattle.profile.specs.Steps.{minutes_of, empty_step, In}
+use Rattle.profile.specs.Shows.{Profile, line_of, level_of, levels, last_minute, Shows}
 use Rattle.profile.proofs.Lines.{line_column}
 use Rattle.profile.proofs.Levels.{level_in}
 use Rattle.search.specs.Rooms.{has_room, FailsAt, Misses, Least}
 use Rattle.search.specs.Starts.{CanStart}
-use Rattle.search.specs.Caps.{caps_of, CapsShown, under_in, room_under, CanRun, CanCap, EarliestStartUnder}
+use Rattle.search.specs.Caps.{caps_of, CapsShown, under_in, room_under, CanCap, EarliestStartUnder}
 use Rattle.search.specs.declared.caps.LineCaps.{LineCaps}
 use Rattle.search.proofs.Sounds.{whole_none, whole_columns}
 use Rattle.search.proofs.Rooms.{room_after, room_always}

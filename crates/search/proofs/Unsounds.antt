@@ -1,7 +1,7 @@
 -- The minutes that are not sound, by the first and the last step that is not.
 use Prim.Native.Nat.{ℕ, ◌+◌, ◌-◌, ◌≤◌, ◌<◌}
-use mathlib.Core.Path.{◌≡◌, refl, sym, ◌∙◌, ap, subst}
-use mathlib.Core.Bool.{Bool, true, false, true≢false}
+use mathlib.Core.Path.{◌≡◌, sym, ◌∙◌, ap}
+use mathlib.Core.Bool.{Bool, true, true≢false}
 use mathlib.Core.List.{[]}
 use mathlib.Core.Logic.{⊎_elim}
 use native.Mathlib.Omega.{arith}
@@ -11,7 +11,7 @@ use Rattle.rules.proofs.Ranges.{below_or_not}
 use Rattle.rules.proofs.Counts.{sound_all}
 use Rattle.rules.specs.Load.{sound_counts}
 use Rattle.profile.specs.Steps.{minutes_of, counts_of, empty_step, In}
-use Rattle.profile.specs.Shows.{Profile, line_of, first_minute, last_minute, Formed}
+use Rattle.profile.specs.Shows.{Profile, line_of, Formed}
 use Rattle.profile.specs.declared.steps.Step.{Step}
 use Rattle.profile.proofs.Lines.{line_column, sound_tests}
 use Rattle.profile.proofs.Levels.{at_step, in_more, rising_le, step_of, step_from, level_test}

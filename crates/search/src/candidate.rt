@@ -26,12 +26,12 @@ pub fn test_start(
     ensures { TestedAs steps.now limits draw start result }
 {
     let until = start + draw.time;
-    for i in step..steps.len() {
-        let t = steps[i].minute.max(start);
+    for (i, held) in steps.iter().enumerate().skip(step) {
+        let t = held.minute.max(start);
         if until <= t {
             break;
         }
-        if !limits.allow_with(steps[i], draw) {
+        if !limits.allow_with(*held, draw) {
             let looked = t - start + 1;
             return Err(Miss { looked, step: i });
         }

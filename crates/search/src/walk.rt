@@ -39,12 +39,12 @@ pub fn first_failing(
     ensures { FirstFailing (room_under steps.now caps.now draw.line draw.rate) steps.now from (from + draw.time) result }
 {
     let until = from + draw.time;
-    for i in step..steps.len() {
-        let t = steps[i].minute.max(from);
+    for (i, held) in steps.iter().enumerate().skip(step) {
+        let t = held.minute.max(from);
         if until <= t {
             break;
         }
-        let minute = t.max(caps.under_in(steps[i], draw));
+        let minute = t.max(caps.under_in(*held, draw));
         if minute < end_of(steps, i, until) {
             return Some(Failing { minute, step: i });
         }

@@ -59,13 +59,6 @@ module _ {s : State} {image after : List ℕ} (one : length s.feeders ≡ 1) (w 
     pub saved_blocks : blocks_in r ≡ differing image (image_of s)
     saved_blocks = ap (λ (x : SaveResult). x.blocks) saved_is
 
-  -- it is not refused
-  pub not_unsaved : (k : Refusal) → Saves s image image after (Err k) → ⊥
-  not_unsaved k h =
-      let some = number_some k in
-      let none : number_of k ≡ 0 = ap (λ (x : SaveResult). x.refusal) (saved_is h) in
-      omega (arith, some, none)
-
 -- A call
 
 -- a refusal that comes before leaves everything, whatever the call would give
@@ -120,44 +113,56 @@ module _ {image : List ℕ} {answer : Result Unit Refusal} {o : One} (r : Restor
   pub whole : Whole image
   whole = (accepted image (sym none_refused)).size
 
-  module _ (c : Call) {s next : Station} {a : Answer} {list : List ℕ} (same : s ≡ station_of o) (g : Gives (step (view s) c) a next list) where
-    step_is : record { answer = a; state = view next; list = list } ≡ step (view (station_of o)) c
+  -- `s` is the station that the call is made to, and `made` what it answers
+  module _ (c : Call) (made : Result Told Refusal) {s next : Station} {list : List ℕ} (same : s ≡ station_of o)
+      (g : Gives (step (view s) c) (calls.answer_of made) next list) where
+    step_is : record { answer = calls.answer_of made; state = view next; list = list } ≡ step (view (station_of o)) c
     step_is = g.result ∙ ap (λ (x : Station). step (view x) c) same
 
     -- the step, where the restore is not refused
-    called_is : (numbers : List ℕ) → left numbers image (record { answer = a; state = view next; list = list }) ≡ called numbers image c
+    called_is : (numbers : List ℕ) → left numbers image (record { answer = calls.answer_of made; state = view next; list = list }) ≡ called numbers image c
     unfolding called
     called_is numbers =
         ap (left numbers image) (step_is ∙ ap (λ (x : State). step x c) (state_is r))
         ∙ ap (restored_to image numbers c) none_refused
 
+    pub call_refused :
+        {after list_now : List ℕ} (k : Refusal) → made ≡ Err k → after ≡ image → list_now ≡ list → Serves image c (Err k) after list_now
+    unfolding left
+    call_refused k e i l = record { result = λ numbers. rw (i, l) (rw e at (called_is numbers)) }
+
     -- the next station has one feeder too
-    pub still_one : length (view next).feeders ≡ 1
+    still_one : length (view next).feeders ≡ 1
     still_one = ap (λ (x : Given). length x.state.feeders) step_is ∙ feeders_stay (view (station_of o)) c
 
-  module _ (c : Call) {s next : Station} {made : Result Told Refusal} {list after list_now : List ℕ} (same : s ≡ station_of o)
-      (g : Gives (step (view s) c) (calls.answer_of made) next list) where
-    pub call_refused : (k : Refusal) → made ≡ Err k → after ≡ image → list_now ≡ list → Serves image c (Err k) after list_now
-    unfolding left
-    call_refused k e i l =
-        record { result = λ numbers. rw (i, l) (called_is c same (rw e at g) numbers) }
+    -- the next station is saved over the image
+    module _ {kept : Station} {after : List ℕ} {q : Result ℕ Refusal} (v : Saves (view kept) image image after q) (is_next : kept ≡ next) where
+      next_saved : Saves (view next) image image after q
+      next_saved = rw is_next at v
 
-    -- `a` is what the call told
-    pub call_saved :
-        (a : Told) (n : Numbers) {blocks : ℕ}
-        → made ≡ Ok a
-        → Tells (calls.told_of a) n
-        → blocks ≡ differing image (image_of (view next))
-        → after ≡ image_of (view next)
-        → list_now ≡ list
-        → Serves image c (Ok (with_blocks blocks n)) after list_now
-    call_saved a n {blocks} e t b i l =
-        let gives : Gives (step (view s) c) (calls.told_of a) next list = rw e at g in
-        let told_is = told_by (view (station_of o)) c a n r.alone.valid.state (ap (λ (x : Given). x.answer) (step_is c same gives)) t in
-        record {
-          result =
-              λ numbers.
-              ap (λ (ns : List ℕ). leaving 0 (written (blocks ∷ ns) numbers) after list_now) (same_numbers c blocks n)
-              ∙ rw (b, i, l)
-              (sym (told_left numbers image (calls.told_of a) (view next) list (numbers_of c n) told_is) ∙ called_is c same gives numbers);
-        }
+      -- which is not refused
+      pub not_unsaved : (k : Refusal) → q ≡ Err k → ⊥
+      not_unsaved k e =
+          let some = number_some k in
+          let none : refusal_in q ≡ 0 = ap (λ (x : SaveResult). x.refusal) (saved_is still_one whole next_saved) in
+          let number : refusal_in q ≡ number_of k = ap refusal_in e in
+          omega (arith, some, none, number)
+
+      -- `a` is what the call told
+      pub call_saved :
+          {list_now : List ℕ} (a : Told) (n : Numbers) {blocks : ℕ}
+          → made ≡ Ok a
+          → Tells (calls.told_of a) n
+          → q ≡ Ok blocks
+          → list_now ≡ list
+          → Serves image c (Ok (with_blocks blocks n)) after list_now
+      call_saved {list_now} a n {blocks} e t b l =
+          let told_is = told_by (view (station_of o)) c a n r.alone.valid.state (rw e at (ap (λ (x : Given). x.answer) step_is)) t in
+          let blocks_are : blocks ≡ differing image (image_of (view next)) = sym (ap blocks_in b) ∙ saved_blocks still_one whole next_saved in
+          record {
+            result =
+                λ numbers.
+                ap (λ (ns : List ℕ). leaving 0 (written (blocks ∷ ns) numbers) after list_now) (same_numbers c blocks n)
+                ∙ rw (blocks_are, saved_whole still_one whole next_saved, l)
+                (sym (told_left numbers image (calls.told_of a) (view next) list (numbers_of c n) told_is) ∙ rw e at (called_is numbers));
+          }

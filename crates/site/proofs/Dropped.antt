@@ -16,8 +16,8 @@ use Rattle.charges.specs.declared.Charges.{Charges}
 use Rattle.charges.specs.Arrays.{charge_at, charges_of}
 use Rattle.station.specs.declared.Feeder.{Feeder}
 use Rattle.station.specs.declared.Station.{Station}
-use Rattle.station.specs.View.{outside, feeder_at, view, Formed}
-use Rattle.station.proofs.Views.{view_length, view_at, length_among, among_at}
+use Rattle.station.specs.View.{feeder_at, view, Formed}
+use Rattle.station.proofs.Views.{view_length, view_at, length_among, among_read}
 use Rattle.station.proofs.Moves.{passed_feeder}
 use Rattle.site.proofs.FromTheLast.{held_from, from_none, from_on}
 
@@ -37,13 +37,13 @@ left_on s target k h =
     ∙ ap (λ (g : rules.Feeder). unfinished_charges target g.charges ++ joined (map (passed_feeder target) (drop (suc k) (view s).feeders))) (view_at s k h)
     ∙ ap (λ (j : ℕ). unfinished_charges target (charges_of (feeder_at s k).charges) ++ left_from s target j) (sym (add-one k))
 
--- so many of a feeder's charges are not finished
+-- a feeder is left no more charges than it holds
 module _ (c : Charges) (target : ℕ) where
   pub unfinished_few : {m : ℕ} → m ≡ length (unfinished_charges target (charges_of c)) → m ≤ c.held
   unfinished_few e =
       omega (arith, e, length_keep (λ x. not (is_finished target x)) (charges_of c), length_tabulate (charge_at c) c.held 0)
 
--- n charges of the first k feeders are finished: with those that are not, and with all of the others, they are all
+-- n charges of the first k feeders are finished: what these hold is n more than what is left of it, said with the feeders behind
 pub record DroppedBefore (s : Station) (gs : List Feeder) (target n k : ℕ) : Type 0 where
   pub all : gs ≡ take s.count s.feeders
   pub few : n ≤ 180 * k
@@ -57,15 +57,15 @@ module _ (s : Station) (w : Formed s) {gs : List Feeder} {target n k : ℕ} (d :
   many : length gs ≡ s.count
   many = ap length d.all ∙ length_among s w
 
-  module _ (h : k < length gs) where
+  module _ (h : k < length gs) {g : Feeder} (is : g ≡ get_or gs k g) where
     abbrev here : Charges
-    here = (get_or gs k outside).charges
+    here = g.charges
 
     inside : k < s.count
     inside = omega (arith, h, many)
 
     own : here ≡ (feeder_at s k).charges
-    own = ap (λ (hs : List Feeder). (get_or hs k outside).charges) d.all ∙ ap (λ (g : Feeder). g.charges) (among_at s k inside)
+    own = ap (λ (x : Feeder). x.charges) (is ∙ ap (λ (hs : List Feeder). get_or hs k g) d.all ∙ among_read s (omega (arith, h, ap length d.all)) inside g)
 
     pub dropped_on :
         {m n' k' : ℕ}
@@ -77,7 +77,7 @@ module _ (s : Station) (w : Formed s) {gs : List Feeder} {target n k : ℕ} (d :
         rw (q, z)
         (record {
           all = d.all;
-          few = omega (arith, d.few, (w.columns k inside).few, ap (λ (c : Charges). c.held) own);
+          few = omega (arith, d.few, here.few);
           sum =
               omega (
                 arith,

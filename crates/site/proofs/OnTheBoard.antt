@@ -93,7 +93,6 @@ module _
       (entry : List ℕ) → rises_from 0 asked ≡ true → base ≡ written (replicate (length asked) not_held) entry → CanBoard g.charges asked list
   feeder_boardable entry up room =
       record {
-        columns = listed.columns;
         rising = listed.rising;
         rises = up;
         room = omega (arith, room_left asked entry room, r.same_length);
@@ -110,7 +109,7 @@ module _
           b.looked_at,
           looked_most asked (charges_of g.charges),
           length_tabulate (charge_at g.charges) g.charges.held 0,
-          listed.columns.few,
+          g.charges.few,
         )
 
     pub boarded_on : {n' : ℕ} → length list' ≡ length list → n' ≡ n + m → BoardedBehind s rest' asked base list' n'

@@ -64,13 +64,13 @@ module _ (s : Station) (v : Valid s) {rest rest' : List Feeder} {g : Feeder} (x 
 
     pub report_few : n + length is ≤ 180 * (s.count - length rest')
     report_few =
-        omega (arith, x.one_less, x.inside, r.few, o.places.few, last_listed.columns.few)
+        omega (arith, x.one_less, x.inside, r.few, o.places.few, g.charges.few)
 
     fits : 2 * (n + length is) ≤ length entry
     fits = omega (arith, report_few, room)
 
     pub feeder_can : CanReport g.charges is list n
-    feeder_can = can_report last_listed.columns o apart r.reports fits
+    feeder_can = can_report o apart r.reports fits
 
     pub reported_on :
         {list' : List ℕ} {n' : ℕ}
@@ -83,5 +83,5 @@ module _ (s : Station) (v : Valid s) {rest rest' : List Feeder} {g : Feeder} (x 
           left = x.left;
           same_length = l ∙ r.same_length;
           few = omega (arith, report_few, m);
-          reports = rw x.held (reports_join last_listed.columns o apart r.reports fits w m);
+          reports = rw x.held (reports_join o apart r.reports fits w m);
         }

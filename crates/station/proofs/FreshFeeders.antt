@@ -51,7 +51,7 @@ product_granted a i h l =
 
 -- charges of which none is held
 pub none_held : (c : Charges) → Holds [] c → c ≡ no_charges
-none_held c h = charges_same c no_charges h.columns holds_none.columns h.charges
+none_held c h = charges_same c no_charges h.columns (holds_none _).columns h.charges
 
 -- The feeders of a fresh station
 
@@ -88,7 +88,7 @@ formed_fresh a l h =
       few = h;
       columns =
           λ i m.
-          subst (λ g. Columns g.charges) (sym (fresh_place a i (omega arith) ∙ fresh_used a i m)) holds_none.columns;
+          subst (λ g. Columns g.charges) (sym (fresh_place a i (omega arith) ∙ fresh_used a i m)) (holds_none _).columns;
       rest = λ i m k. fresh_place a i k ∙ fresh_unused a i m;
     }
 

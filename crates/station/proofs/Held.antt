@@ -89,7 +89,6 @@ module _ (s : Station) (v : Valid s) where
     pub valid_listed : Listed (feeder_at s i).charges
     valid_listed =
         record {
-          columns = v.formed.columns i h;
           small = small;
           rising = λ k l. rising_places (charge_at (feeder_at s i).charges) 1 (feeder_at s i).charges.held 0 held_plan.rising k (k + 1) (omega arith) (omega arith) (omega arith);
         }

@@ -5,7 +5,7 @@ use mathlib.Core.Logic.{⊎_elim}
 use native.Mathlib.Omega.{arith}
 use lib.ListN.{length, get_or, set, take, length-set}
 use lib.Seq.{get_or-set_same, get_or-set_other}
-use Rattle.std.proofs.lemmas.List.{get_or-take, length-take-le}
+use Rattle.std.proofs.lemmas.List.{get_or-take, get_or_default, length-take-le}
 use Rattle.rules.specs.Basics.{tabulate}
 use Rattle.rules.specs.Site as rules
 use Rattle.rules.specs.Site.{no_feeder, feeder_of, charges_on}
@@ -51,6 +51,17 @@ among s w h = omega (arith, h, length_among s w)
 
 pub among_at : (s : Station) (i : ℕ) → i < s.count → get_or (take s.count s.feeders) i outside ≡ feeder_at s i
 among_at s i h = get_or-take s.count s.feeders i outside h
+
+-- what is read at a place of the feeders, whatever would stand behind the last of them
+
+abbrev pub read_at : Station → ℕ → Feeder → Feeder
+read_at s i other = get_or s.feeders i other
+
+pub feeder_read : (s : Station) {i : ℕ} → Formed s → i < s.count → (other : Feeder) → read_at s i other ≡ feeder_at s i
+feeder_read s {i} w h other = get_or_default s.feeders i other outside (omega (arith, h, w.four, w.few))
+
+pub among_read : (s : Station) {i : ℕ} → i < length (take s.count s.feeders) → i < s.count → (other : Feeder) → get_or (take s.count s.feeders) i other ≡ feeder_at s i
+among_read s {i} l h other = get_or_default (take s.count s.feeders) i other outside l ∙ among_at s i h
 
 -- One feeder changed
 

@@ -1,5 +1,6 @@
 -- What a station is in the words of the rules, and what every call needs of it and keeps.
 use Rattle.std.specs.Prelude.{◌≡◌, ℕ, ◌+◌, ◌≤◌, ◌<◌, true, ◌||◌, [], ◌∷◌, ltb, length, get_or, replicate, Result, Ok, Err}
+use native.Mathlib.Omega.{arith}
 use Rattle.rules.specs.Basics.{tabulate}
 use Rattle.rules.specs.Site as rules
 use Rattle.rules.specs.Site.{places, State}
@@ -35,6 +36,7 @@ no_charges =
       dues = replicate places 0;
       starts = replicate places 0;
       rates = replicate places 0;
+      few = omega arith;
     }
 
 -- a feeder that is not there
@@ -60,6 +62,7 @@ outside =
             dues = [];
             starts = [];
             rates = [];
+            few = omega arith;
           };
     }
 

@@ -1,9 +1,9 @@
 -- The theorem about the program that is run. Read this file first: it says of which calls the rest is true.
 --
 -- A station is opened by `Station::open` (crates/station/src/open.rt) with any count, W and settings of feeders. Then calls are made through
--- `apply` (crates/calls/src/lib.rt), any calls with any numbers and any lists, each on the station that the
--- last one handed back. `MeetsOpen` and `MeetsApply` below are the contracts of the two: src/lib.rt calls them, and the
--- checker has proved there that what they give meets these. Nothing else is asked of the code.
+-- `apply` or, where the station is lent, `make` (crates/calls/src/lib.rt), any calls with any numbers and any lists, each on the station
+-- that the last one left. `MeetsOpen` below is the contract of `open`, and `MeetsApply` that of the other two: src/lib.rt calls them, and
+-- the checker has proved there that what they give meets these. Nothing else is asked of the code.
 use Rattle.std.specs.Prelude.{◌≡◌, ℕ, List, [], ◌∷◌, map, Result}
 use Rattle.rules.specs.Basics.{Each}
 use Rattle.rules.specs.Calls as rules
@@ -21,7 +21,7 @@ use Rattle.station.specs.View.{view, Valid}
 use Rattle.station.specs.Opened.{open_answer, Opens}
 use Rattle.calls.specs.Applied.{call_of, list_after, answer_of, Applies}
 
--- One call made through `apply`: what was passed in, and what came back.
+-- One call made through `apply` or `make`: what was passed in, and what came back.
 pub record Made : Type 0 where
   pub call : Call
   -- the list that an offer or a board reads
@@ -47,7 +47,7 @@ made call numbers list written answer station =
 abbrev pub MeetsOpen : Asked → Result Opened Refusal → Station → Type 0
 MeetsOpen x answer first = Opens (opening x) answer first
 
--- The contract of `apply`: it asks a valid station.
+-- The contract of `apply` and of `make`: it asks a valid station.
 abbrev pub MeetsApply : Station → Made → Type 0
 MeetsApply s m =
     Valid s → Applies (view s) m.call m.numbers m.list m.written m.answer m.station
@@ -81,7 +81,7 @@ known h (m ∷ ms) = known (extended h (call_made m) (given m)) ms
 
 -- What is proved of an opening that asks for x and gave `answer` and `first`, and of the calls made then.
 pub record Guaranteed (x : Asked) (answer : Result Opened Refusal) (first : Station) (calls : List Made) : Type 0 where
-  -- every station of the chain is valid, so that what `apply` asks is always met
+  -- every station of the chain is valid, so that what the next call asks is always met
   pub first_valid : Valid first
   pub valid : Each (λ m. Valid m.station) calls
   -- every answer and every list is that of the rules

@@ -1,4 +1,4 @@
-// The calls of which the theorem in specs/Theorem.antt speaks: the checker holds it here to the contracts of `open` and `apply`.
+// The calls of which the theorem in specs/Theorem.antt speaks: the checker holds it here to the contracts of `open`, `apply` and `make`.
 #![tactic(auto)]
 
 ghost use Rattle.station.specs.View.{Valid};
@@ -26,4 +26,16 @@ pub fn apply(
     ensures { MeetsApply station (made call numbers.now list.old list.new result.answer result.station) }
 {
     calls::apply(station, call, numbers, list)
+}
+
+pub fn make(
+    station: &mut Station,
+    call: Call,
+    numbers: &[u32],
+    list: &mut [u32],
+) -> Result<Answer, Refusal>
+    requires { Valid station.old }
+    ensures { MeetsApply station.old (made call numbers.now list.old list.new result station.new) }
+{
+    calls::make(station, call, numbers, list)
 }

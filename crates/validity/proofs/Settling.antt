@@ -73,7 +73,7 @@ module _ (o : One) where
     ticket_at_lem q = go (below_or_not q held)
       where
         some : length (take held charges.tickets) ≡ held
-        some = length-take-le held charges.tickets (omega (arith, h.columns.few, (h.columns.filled tickets).full))
+        some = length-take-le held charges.tickets (omega (arith, charges.few, (h.columns.filled tickets).full))
 
         go : (q < held) ⊎ (held ≤ q) → ticket_or_next (take held charges.tickets) o.next q ≡ ticket_at (single o) q
         go (inl l) =
@@ -108,7 +108,7 @@ module _ (o : One) where
     valid-is r t e f =
         rw (
           held_count,
-          le-leb held 180 h.columns.few,
+          le-leb held 180 charges.few,
           valid_ranged o.feeder.limit o.feeder.percent o.feeder.tail o.clock o.next o.site h.settings,
           eq-eqb o.feeder.bound (bound_of o.feeder.limit o.feeder.percent) h.bound_is,
           le-leb 1 o.feeder.bound (omega (arith, h.bound_is, valid_bound o.feeder.limit o.feeder.percent o.feeder.tail o.clock o.next o.site h.settings)),
@@ -146,7 +146,6 @@ module _ (o : One) where
     pub all_profiled : every (record_right (single o)) held ≡ true → Profiled charges
     all_profiled all =
         record {
-          columns = h.columns;
           plannable =
               plannable (charges_of charges)
               (each_map (RightCharge (single o)) (λ c. IsRate c.rate) (λ c r. r.rate) (charges_of charges) right)

@@ -11,7 +11,7 @@ use Rattle.rules.specs.Site.{State}
 use Rattle.refusals.specs.declared.Refusal.{Refusal}
 use Rattle.refusals.specs.Refusals.{refusal_in}
 use Rattle.charges.specs.declared.Charges.{Charges}
-use Rattle.charges.specs.Arrays.{charges_of, Columns}
+use Rattle.charges.specs.Arrays.{charges_of}
 use Rattle.station.specs.declared.only.One.{One}
 use Rattle.station.specs.View.{view, station_of}
 use Rattle.station.proofs.Refusing.{number_some}
@@ -40,9 +40,6 @@ module _ {image : List ℕ} {r : Result Unit Refusal} {o : One} (h : Restores im
 
   abbrev held : Charges
   held = o.feeder.charges
-
-  pub held_columns : Columns held
-  held_columns = h.alone.valid.formed.columns 0 (omega arith)
 
   pub refused_shown : true ≡ is_err r → no_station ≡ wall image
   refused_shown e = sym (wall_refused image (λ z. refused_number r e (refusal_is ∙ z)))

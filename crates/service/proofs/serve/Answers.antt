@@ -1,7 +1,7 @@
 -- Refused by the restore, refused by the call, where the image stays, and saved, which is never refused.
 use Rattle.std.proofs.lemmas.Result.{err_from_is_err_and}
 use Rattle.calls.specs.Applied.{call_of}
-use Rattle.service.proofs.Serving.{list_kept, saved_whole, saved_blocks, not_unsaved, whole, still_one, restore_refused, call_refused, call_saved}
+use Rattle.service.proofs.Serving.{list_kept, restore_refused, call_refused, not_unsaved, call_saved}
 use borrow.Author.Rules.{rules}
 use Rattle.service.proofs.serve.Goals as goal
 
@@ -15,20 +15,16 @@ pub returns-in_err-answer-clause-serves : goal.returns-in_err-answer-clause-serv
 returns-in_err-answer-clause-serves c =
     let p = err_from_is_err_and c.from_residual-in_err-answer.result c.from_residual-in_err-answer.ensures.1 in
     rw (p.1, p.2)
-    (call_refused c.restore-restored.ensures (search rules) (call_of c.args.call c.args.numbers.now c.args.list.now) c.of_only-station.ensures
+    (call_refused c.restore-restored.ensures (search rules) (call_of c.args.call c.args.numbers.now c.args.list.now) _ c.of_only-station.ensures
     c.make.ensures.gives _ (search rules) (search rules) (search rules))
 
 pub returns-in_err-blocks-clause-serves : goal.returns-in_err-blocks-clause-serves
 returns-in_err-blocks-clause-serves c =
-    let w = whole c.restore-restored.ensures (search rules) in
-    let call = call_of c.args.call c.args.numbers.now c.args.list.now in
-    let one = still_one c.restore-restored.ensures (search rules) call c.of_only-station.ensures c.make.ensures.gives in
-    absurd (not_unsaved one w _ c.in_err-blocks.ensures)
+    absurd
+    (not_unsaved c.restore-restored.ensures (search rules) (call_of c.args.call c.args.numbers.now c.args.list.now) _ c.of_only-station.ensures
+    c.make.ensures.gives c.save_back.ensures (search rules) c.in_err-blocks.field-0.0 (search rules))
 
 pub returns-clause-serves : goal.returns-clause-serves
 returns-clause-serves c =
-    let w = whole c.restore-restored.ensures (search rules) in
-    let call = call_of c.args.call c.args.numbers.now c.args.list.now in
-    let one = still_one c.restore-restored.ensures (search rules) call c.of_only-station.ensures c.make.ensures.gives in
-    call_saved c.restore-restored.ensures (search rules) call c.of_only-station.ensures c.make.ensures.gives _ _ (search rules) c.from.ensures
-    (search (saved_blocks one w c.in_ok-blocks.ensures)) (saved_whole one w c.in_ok-blocks.ensures) (search rules)
+    call_saved c.restore-restored.ensures (search rules) (call_of c.args.call c.args.numbers.now c.args.list.now) _ c.of_only-station.ensures
+    c.make.ensures.gives c.save_back.ensures (search rules) _ _ (search rules) c.from.ensures (search rules) (search rules)

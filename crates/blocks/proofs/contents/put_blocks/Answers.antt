@@ -7,8 +7,8 @@ pub loop-block-preserved : goal.loop-block-preserved
 loop-block-preserved c =
     let contents = c.args.contents.now in
     let block = c.loop-block.block in
-    putting_more contents block c.requires.0 (omega arith) _ c.loop-block.invariant c.copy_from_slice.ensures.after
-    (check_counted _ _ _ (bytes_long contents block c.requires.0 (omega arith)) (byte_put contents block c.requires.0 (omega arith)) c.check_of.ensures)
+    putting_more contents block (omega arith) (omega arith) _ c.loop-block.invariant c.copy_from_slice.ensures.after
+    (check_counted _ _ _ (bytes_long contents block (omega arith) (omega arith)) (byte_put contents block (omega arith) (omega arith)) c.check_of.ensures)
     c.put_number.ensures
 
 pub returns : goal.returns

@@ -9,15 +9,15 @@ use Rattle.blocks.proofs.Taking.{bytes_long, byte_taken, taking_more, taken_all}
 use Rattle.blocks.proofs.contents.take_blocks.Goals as goal
 
 pub loop-block-init : goal.loop-block-init
-loop-block-init c = (filling_none _ _ _ c.requires.1, sym (every_none _))
+loop-block-init c = (filling_none _ _ _ (omega arith), sym (every_none _))
 
 pub loop-block-preserved : goal.loop-block-preserved
 loop-block-preserved c =
     let image = c.args.image.now in
     let block = c.loop-block.block in (
-      taking_more image block c.requires.0 (omega arith) _ c.loop-block.invariant.0 c.copy_from_slice.ensures.after,
+      taking_more image block c.requires (omega arith) _ c.loop-block.invariant.0 c.copy_from_slice.ensures.after,
       checked_more image block _ _ _ c.loop-block.invariant.1
-          (check_counted _ _ _ (bytes_long image block c.requires.0 (omega arith)) (byte_taken image block c.requires.0 (omega arith)) c.check_of.ensures)
+          (check_counted _ _ _ (bytes_long image block c.requires (omega arith)) (byte_taken image block c.requires (omega arith)) c.check_of.ensures)
           c.number_at.ensures,
     )
 

@@ -3,7 +3,7 @@ use Rattle.std.proofs.Common.{ap, ◌∙◌, length, arith}
 use Rattle.std.proofs.lemmas.Result.{err_from_is_err_and}
 use Rattle.layout.proofs.Imaging.{image_length}
 use Rattle.blocks.specs.Contents.{laid_out}
-use Rattle.image.proofs.Imaging.{contents_long, laid_image}
+use Rattle.image.proofs.Imaging.{laid_image}
 use Rattle.image.proofs.SavedImages.{first_refused, passed, first_saved}
 use Rattle.image.proofs.saving.save_first.Goals as goal
 
@@ -13,7 +13,7 @@ returns-in_err-save_refusal c =
     rw (p.1, p.2) (first_refused _ _ _ _ _ c.in_err-save_refusal.ensures)
 
 pub put_blocks-requires : goal.put_blocks-requires
-put_blocks-requires c = (ap length c.contents_of.ensures ∙ contents_long _, (passed _ _ _ c.in_ok-save_refusal.ensures).long)
+put_blocks-requires c = (passed _ _ _ c.in_ok-save_refusal.ensures).long
 
 pub differing_blocks-requires : goal.differing_blocks-requires
 differing_blocks-requires c =

@@ -3,7 +3,6 @@ use Prim.Native.Nat.{◌-◌, ◌/◌}
 use native.Mathlib.Omega.{arith}
 use lib.ListN.{length, length-append}
 use Rattle.text.specs.Numbers.{decimal}
-use Rattle.page.specs.Lines.{spaces, at_right}
 use Rattle.page.proofs.Aligning.{length_spaces, length_right, some_digit, more_digits, right_alone, right_behind}
 use Rattle.page.proofs.row.+print_right.Goals as goal
 use Rattle.page.proofs.row.+print_right.Goals.{then-n-lt10, else-n-lt10}

@@ -9,8 +9,8 @@ loop-i-init c = (omega arith, omega arith, collecting_start c.args.clock c.args.
 pub loop-i-preserved : goal.loop-i-preserved
 loop-i-preserved c =
     elim c.if-clock-charges.branch [
-      | then-clock-charges w ↦ (omega arith, omega (arith, w.k-is), collecting_waiting c.loop-i.invariant.2 (omega arith) c.requires.few (omega (arith, w.if-clock-charges.true)) w.listed-is w.k-is)
-      | else-clock-charges w ↦ (omega arith, omega (arith, w.k-is), collecting_begun c.loop-i.invariant.2 (omega arith) c.requires.few (omega (arith, w.if-clock-charges.false)) w.listed-is w.k-is)
+      | then-clock-charges w ↦ (omega arith, omega (arith, w.k-is), collecting_waiting c.loop-i.invariant.2 (omega arith) (omega (arith, w.if-clock-charges.true)) w.listed-is w.k-is)
+      | else-clock-charges w ↦ (omega arith, omega (arith, w.k-is), collecting_begun c.loop-i.invariant.2 (omega arith) (omega (arith, w.if-clock-charges.false)) w.listed-is w.k-is)
     ]
 
 pub returns : goal.returns

@@ -3,6 +3,7 @@ use mathlib.Core.Path.{refl, ◌∙◌}
 use native.Mathlib.Omega.{arith}
 use Rattle.std.proofs.lemmas.Result.{err_from_is_err_and}
 use Rattle.rules.specs.Calls.{offer}
+use Rattle.station.proofs.Views.{feeder_read}
 use Rattle.planning.proofs.Ready.{can_test}
 use Rattle.planning.proofs.Refusals.{gives_no_feeder, offer_refused}
 use Rattle.planning.proofs.Replanning.{offer_tested}
@@ -15,11 +16,11 @@ returns-in_err-place c =
 
 pub returns-then-starts-waiting_count : goal.returns-then-starts-waiting_count
 returns-then-starts-waiting_count c =
-    offer_refused _ c.in_ok-place.ensures.0 c.in_ok-place.ensures.1 _ c.waiting_count.ensures.0 (omega arith) c.requires c.if-starts-waiting_count.true
+    offer_refused _ c.in_ok-place.ensures.0 c.in_ok-place.ensures.1 _ (rw (feeder_read _ c.requires.formed c.in_ok-place.ensures.1 c.index-station-place.result) at c.waiting_count.ensures.0) (omega arith) c.requires c.if-starts-waiting_count.true
 
 pub tested-requires : goal.tested-requires
-tested-requires c = (can_test c.requires c.in_ok-place.ensures.1 c.surroundings-surroundings.ensures c.lent-beside.ensures (search), c.if-starts-waiting_count.false ∙ c.waiting_count.ensures.0)
+tested-requires c = (can_test c.requires c.in_ok-place.ensures.1 c.surroundings-surroundings.ensures c.lent-beside.ensures (search), c.if-starts-waiting_count.false ∙ (rw (feeder_read _ c.requires.formed c.in_ok-place.ensures.1 c.index-station-place.result) at c.waiting_count.ensures.0))
 
 pub returns : goal.returns
 returns c =
-    offer_tested c.in_ok-place.ensures.0 c.in_ok-place.ensures.1 c.waiting_count.ensures.0 c.if-starts-waiting_count.false (omega arith) c.tested.ensures
+    offer_tested c.in_ok-place.ensures.0 c.in_ok-place.ensures.1 (rw (feeder_read _ c.requires.formed c.in_ok-place.ensures.1 c.index-station-place.result) at c.waiting_count.ensures.0) c.if-starts-waiting_count.false (omega arith) c.tested.ensures

@@ -14,7 +14,7 @@ returns-in_err-place c =
     rw (p.1, p.2) (gives_no_feeder c.args.number (replan_latest c.args.number) c.requires c.in_err-place.ensures.0 c.in_err-place.ensures.1 refl)
 
 pub latest-proposed-requires : goal.latest-proposed-requires
-latest-proposed-requires c = ready (can_test c.requires c.in_ok-place.ensures.1 c.surroundings-surroundings.ensures c.lent-beside.ensures refl)
+latest-proposed-requires c = ready (can_test c.requires c.in_ok-place.ensures.1 c.surroundings-surroundings.ensures c.lent-beside.ensures refl) _
 
 pub replanned-requires : goal.replanned-requires
 replanned-requires c = can_test c.requires c.in_ok-place.ensures.1 c.surroundings-surroundings.ensures c.lent-beside.ensures refl
@@ -22,4 +22,4 @@ replanned-requires c = can_test c.requires c.in_ok-place.ensures.1 c.surrounding
 pub returns : goal.returns
 returns c =
     latest_tested c.in_ok-place.ensures.0 (can_test c.requires c.in_ok-place.ensures.1 c.surroundings-surroundings.ensures c.lent-beside.ensures refl)
-    c.replanned.ensures c.latest-proposed.ensures (search) (search) (omega arith)
+    c.replanned.ensures c.index-station-place.result c.latest-proposed.ensures (search) (search) (omega arith)

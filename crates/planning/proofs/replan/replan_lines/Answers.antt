@@ -2,7 +2,7 @@
 use mathlib.Core.Path.{refl}
 use native.Mathlib.Omega.{arith}
 use Rattle.std.proofs.lemmas.Result.{err_from_is_err_and}
-use Rattle.std.proofs.lemmas.Grind.{common_steps}
+use Rattle.std.proofs.lemmas.Bool.Decides.{nat_tests}
 use Rattle.rules.specs.Calls.{replan_lines}
 use Rattle.planning.proofs.Ready.{can_test, ready}
 use Rattle.planning.proofs.Refusals.{gives_no_feeder, lines_refused}
@@ -15,10 +15,10 @@ returns-in_err-place c =
     rw (p.1, p.2) (gives_no_feeder c.args.number (replan_lines c.args.number c.args.allowance) c.requires c.in_err-place.ensures.0 c.in_err-place.ensures.1 refl)
 
 pub returns-then-not-contains : goal.returns-then-not-contains
-returns-then-not-contains c = lines_refused _ c.in_ok-place.ensures.0 c.in_ok-place.ensures.1 c.args.allowance (omega arith) c.requires (grind (arith, common_steps))
+returns-then-not-contains c = lines_refused _ c.in_ok-place.ensures.0 c.in_ok-place.ensures.1 c.args.allowance (omega arith) c.requires (grind (arith, nat_tests))
 
 pub by_lines-made-requires : goal.by_lines-made-requires
-by_lines-made-requires c = ready (can_test c.requires c.in_ok-place.ensures.1 c.surroundings-surroundings.ensures c.lent-beside.ensures refl)
+by_lines-made-requires c = ready (can_test c.requires c.in_ok-place.ensures.1 c.surroundings-surroundings.ensures c.lent-beside.ensures refl) _
 
 pub replanned-requires : goal.replanned-requires
 replanned-requires c = can_test c.requires c.in_ok-place.ensures.1 c.surroundings-surroundings.ensures c.lent-beside.ensures refl
@@ -26,4 +26,4 @@ replanned-requires c = can_test c.requires c.in_ok-place.ensures.1 c.surrounding
 pub returns : goal.returns
 returns c =
     lines_tested c.in_ok-place.ensures.0 (can_test c.requires c.in_ok-place.ensures.1 c.surroundings-surroundings.ensures c.lent-beside.ensures refl)
-    c.replanned.ensures c.args.allowance c.by_lines-made.ensures (search) (search) (search) (grind (arith, common_steps)) (grind (arith, common_steps))
+    c.replanned.ensures c.args.allowance c.index-station-place.result c.by_lines-made.ensures (search) (search) (search) (grind (arith, nat_tests)) (grind (arith, nat_tests))

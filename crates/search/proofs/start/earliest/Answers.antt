@@ -1,7 +1,6 @@
 -- `search::start::earliest` meets its contract.
 use native.Mathlib.Omega.{arith}
 use Rattle.profile.proofs.Edited.{minute_at}
-use Rattle.search.proofs.Within.{first_last}
 use Rattle.search.proofs.Starts.{told_unsound, start_anywhere, start_covers, start_late}
 use Rattle.search.proofs.start.earliest.Goals as goal
 

@@ -8,7 +8,7 @@ use Rattle.charges.specs.Arrays.{charges_of}
 use Rattle.charges.specs.Drawn.{seen_from}
 use Rattle.charges.proofs.Feeders.{others_pass, others_join}
 use Rattle.station.specs.View.{feeder_at}
-use Rattle.station.proofs.Views.{view_length, among, among_at}
+use Rattle.station.proofs.Views.{view_length, among, among_read}
 use Rattle.station.proofs.Rests.{held_at_lem, length_gathered}
 use Rattle.station.proofs.Station.rest.Goals.{then-i-place, else-i-place}
 use Rattle.station.proofs.Station.rest.Goals as goal
@@ -22,9 +22,9 @@ loop-i-preserved c =
     elim c.if-i-place.branch [
       | then-i-place w ↦
           let joined : w.append.new.self ≡ c.loop-i.rest ++ seen_from false (loads_of (charges_of (feeder_at s i).charges)) =
-          w.append.ensures ∙ rw (among_at s i here) refl in (
+          w.append.ensures ∙ rw (c.other-item.is ∙ among_read s c.loop-i-test.true here _) refl in (
             rw w.rest-is (others_join before.0 (λ e. w.if-i-place.true (omega (arith, e))) (omega (arith, here, view_length s)) (held_at_lem s i c.requires.0 here) joined),
-            λ h. rw w.rest-is (omega (arith, before.1 (omega (arith, h, w.if-i-place.true)), (c.requires.0.columns i here).few, length_gathered false c.loop-i.rest (feeder_at s i).charges joined)),
+            λ h. rw w.rest-is (omega (arith, before.1 (omega (arith, h, w.if-i-place.true)), (feeder_at s i).charges.few, length_gathered false c.loop-i.rest (feeder_at s i).charges joined)),
           )
       | else-i-place w ↦ (
         rw w.rest-is (others_pass before.0 (omega (arith, w.if-i-place.false))),

@@ -1,5 +1,4 @@
 -- `search::caps::LineCaps::lower` meets its contract.
-use mathlib.Core.Path.{refl}
 use native.Mathlib.Omega.{arith}
 use Rattle.search.proofs.Lowerings.{lowered_one, lowered_two, lowered_three}
 use Rattle.search.proofs.caps.LineCaps.lower.Goals as goal
