@@ -19,16 +19,16 @@ use site::enquiry::Enquiry;
 use station::open::Opened;
 use text::Text;
 
-fn print_refused(refusal: Refusal, out: &mut Text)
-    requires { length out.old + 96 ≤ Text.CAPACITY }
+fn print_refused<const N: usize>(refusal: Refusal, out: &mut Text<N>)
+    requires { length out.old + 96 ≤ N }
     ensures { PrintedAlone (refused (number_of refusal)) out.old out.new }
 {
-    out.print_fields(&[(b"refused ", refusal.number() as u64)]);
+    out.print_fields(&[(b"refused ", u64::from(u32::from(refusal)))]);
 }
 
 // The reported pairs stand at the front of the list that was lent to the move.
-fn print_moved(moved: Moved, list: &[u32], out: &mut Text)
-    requires { (2 * moved.reported ≤ length list.now) × (length out.old + (96 + 21 * (2 * moved.reported)) ≤ Text.CAPACITY) }
+fn print_moved<const N: usize>(moved: Moved, list: &[u32], out: &mut Text<N>)
+    requires { (2 * moved.reported ≤ length list.now) × (length out.old + (96 + 21 * (2 * moved.reported)) ≤ N) }
     ensures { (asked : ℕ) → out.new ≡ out.old ++ answer_text (moved_of moved) asked list.now }
 {
     out.print_field(b"moved ", moved.reported as u64);
@@ -38,37 +38,37 @@ fn print_moved(moved: Moved, list: &[u32], out: &mut Text)
     out.print(b"\n");
 }
 
-fn print_planned(planned: Planned, out: &mut Text)
-    requires { length out.old + 96 ≤ Text.CAPACITY }
+fn print_planned<const N: usize>(planned: Planned, out: &mut Text<N>)
+    requires { length out.old + 96 ≤ N }
     ensures { PrintedAlone (planned_of planned) out.old out.new }
 {
     out.print_fields(&[
-        (b"plan ", planned.cause_number() as u64),
+        (b"plan ", u64::from(planned.cause_number())),
         (b" ", planned.before),
         (b" ", planned.after),
-        (b" ", planned.rounds as u64),
+        (b" ", u64::from(planned.rounds)),
     ]);
 }
 
-fn print_enquiry(enquiry: Enquiry, out: &mut Text)
-    requires { length out.old + 96 ≤ Text.CAPACITY }
+fn print_enquiry<const N: usize>(enquiry: Enquiry, out: &mut Text<N>)
+    requires { length out.old + 96 ≤ N }
     ensures { PrintedAlone (enquiry_of enquiry) out.old out.new }
 {
     match enquiry {
         Enquiry::Waiting { start, rate } => {
-            out.print_fields(&[(b"waiting ", start as u64), (b" ", rate as u64)]);
+            out.print_fields(&[(b"waiting ", u64::from(start)), (b" ", u64::from(rate))]);
         }
         Enquiry::Charging { start, end, rate } => out.print_fields(&[
-            (b"charging ", start as u64),
-            (b" ", end as u64),
-            (b" ", rate as u64),
+            (b"charging ", u64::from(start)),
+            (b" ", u64::from(end)),
+            (b" ", u64::from(rate)),
         ]),
     }
 }
 
 // The answers of the tickets asked for stand at the front of the list that was lent to the board.
-fn print_looked(looked: usize, asked: usize, list: &[u32], out: &mut Text)
-    requires { (asked ≤ length list.now) × (length out.old + (96 + 21 * asked) ≤ Text.CAPACITY) }
+fn print_looked<const N: usize>(looked: usize, asked: usize, list: &[u32], out: &mut Text<N>)
+    requires { (asked ≤ length list.now) × (length out.old + (96 + 21 * asked) ≤ N) }
     ensures { out.new ≡ out.old ++ answer_text (looked_answer looked) asked list.now }
 {
     out.print_field(b"board ", looked as u64);
@@ -77,8 +77,8 @@ fn print_looked(looked: usize, asked: usize, list: &[u32], out: &mut Text)
 }
 
 // The bounds D of the feeders up to the count: four at most.
-fn print_opened(opened: Opened, out: &mut Text)
-    requires { length out.old + 96 ≤ Text.CAPACITY }
+fn print_opened<const N: usize>(opened: Opened, out: &mut Text<N>)
+    requires { length out.old + 96 ≤ N }
     ensures { PrintedAlone (opened_of opened) out.old out.new }
 {
     out.print(b"open 0");
@@ -86,8 +86,8 @@ fn print_opened(opened: Opened, out: &mut Text)
     out.print(b"\n");
 }
 
-pub fn print_opening(answer: Result<Opened, Refusal>, out: &mut Text)
-    requires { length out.old + 96 ≤ Text.CAPACITY }
+pub fn print_opening<const N: usize>(answer: Result<Opened, Refusal>, out: &mut Text<N>)
+    requires { length out.old + 96 ≤ N }
     ensures { out.new ≡ out.old ++ answer_text (open_answer answer) 0 [] }
 {
     match answer {
@@ -96,15 +96,15 @@ pub fn print_opening(answer: Result<Opened, Refusal>, out: &mut Text)
     }
 }
 
-fn print_told(answer: Answer, asked: usize, list: &[u32], out: &mut Text)
-    requires { (listed_of (told_of answer) asked ≤ length list.now) × (length out.old + (96 + 21 * listed_of (told_of answer) asked) ≤ Text.CAPACITY) }
+fn print_told<const N: usize>(answer: Answer, asked: usize, list: &[u32], out: &mut Text<N>)
+    requires { (listed_of (told_of answer) asked ≤ length list.now) × (length out.old + (96 + 21 * listed_of (told_of answer) asked) ≤ N) }
     ensures { out.new ≡ out.old ++ answer_text (told_of answer) asked list.now }
 {
     match answer {
-        Answer::Previewed(start) => out.print_fields(&[(b"start ", start as u64)]),
+        Answer::Previewed(start) => out.print_fields(&[(b"start ", u64::from(start))]),
         Answer::Committed(committed) => out.print_fields(&[
-            (b"ticket ", committed.ticket as u64),
-            (b" start ", committed.start as u64),
+            (b"ticket ", u64::from(committed.ticket)),
+            (b" start ", u64::from(committed.start)),
         ]),
         Answer::Moved(moved) => print_moved(moved, list, out),
         Answer::Planned(planned) => print_planned(planned, out),
@@ -115,8 +115,13 @@ fn print_told(answer: Answer, asked: usize, list: &[u32], out: &mut Text)
 }
 
 // The answer of any call, with the number of tickets that were asked for and the list that was lent for writing.
-pub fn print_answer(answer: Result<Answer, Refusal>, asked: usize, list: &[u32], out: &mut Text)
-    requires { (listed_of (answer_of answer) asked ≤ length list.now) × (length out.old + (96 + 21 * listed_of (answer_of answer) asked) ≤ Text.CAPACITY) }
+pub fn print_answer<const N: usize>(
+    answer: Result<Answer, Refusal>,
+    asked: usize,
+    list: &[u32],
+    out: &mut Text<N>,
+)
+    requires { (listed_of (answer_of answer) asked ≤ length list.now) × (length out.old + (96 + 21 * listed_of (answer_of answer) asked) ≤ N) }
     ensures { out.new ≡ out.old ++ answer_text (answer_of answer) asked list.now }
 {
     match answer {

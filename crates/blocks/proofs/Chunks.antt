@@ -1,32 +1,35 @@
--- Lists of bytes that code compares as wholes, and the chunks of two images.
+-- Lists of bytes that code compares as wholes, the chunks of two images, and the blocks of one.
 use mathlib.Core.Logic.{inl, inr}
 use mathlib.Core.Path.{◌≡◌, refl, ap, sym, subst, ◌∙◌}
-use Prim.Native.Nat.{ℕ, zero, suc, ◌+◌, ◌*◌, ◌≤◌, ◌<◌}
+use Prim.Native.Nat.{ℕ, zero, suc, ◌+◌, ◌*◌, ◌/◌, ◌≤◌, ◌<◌}
 use mathlib.Core.Bool.{Bool, true, false, cond, not}
 use mathlib.Core.List.{List, [], ◌∷◌}
 use native.Mathlib.Omega.{arith}
 use native.Mathlib.Numerals.{add-one}
 use denote.Ref.{Bor}
 use lib.Dec.{eqb}
-use lib.ListN.{length, get_or, take}
+use lib.ListN.{length, get_or, take, drop}
 use lib.Seq.{ext_get_or}
 use borrow.Author.Tests.{eq-eqb, eqb-true}
 use Rattle.std.proofs.Common.{Option, Some, None}
-use Rattle.std.specs.List.{fold, IsSubsliceAt}
+use Rattle.std.specs.List.{fold, list_all, IsSubsliceAt}
 use Rattle.std.specs.Option.{option_map, IfSome}
 use Rattle.std.specs.Cmp.Lexicographic.{pointwise}
 use Rattle.std.specs.Slice.Iter.{chunks_steps, chunks_size, chunks_rest}
+use Rattle.std.specs.Simd.{first_chunks}
 use Rattle.std.specs.Iterator.Runs.{Run, IsChunksRun, IsZipRun}
-use Rattle.std.proofs.lemmas.List.{take_more, take_all}
+use Rattle.std.proofs.lemmas.List.{take_more, take_all, get_or-take, get_or-drop, drop-drop}
+use Rattle.std.proofs.lemmas.List.Folds.{list_all_more}
 use Rattle.std.proofs.lemmas.List.Sums.{fold-append}
 use Rattle.std.proofs.lemmas.Slice.Eq.{slice_eq-Decides}
 use Rattle.std.proofs.lemmas.Bool.Decides.{Decides-eqb}
 use Rattle.rules.proofs.Ranges.{same_test}
 use Rattle.layout.specs.Lists.{every}
-use Rattle.layout.specs.Reading.{same_place}
+use Rattle.layout.specs.Reading.{checked, same_place}
 use Rattle.layout.specs.Blocks.{failing, same_at, same_block, differing}
 use Rattle.layout.proofs.Listing.{every_at, every_all}
 use Rattle.blocks.specs.Contents.{same_part}
+use Rattle.blocks.proofs.Checking.{checked_same}
 
 every_same : (f g : ℕ → Bool) (n : ℕ) → ((i : ℕ) → i < n → f i ≡ g i) → every f n ≡ every g n
 unfolding every
@@ -155,3 +158,42 @@ differing_told {zips = zips} xs ys q a b l m w z p r =
         block_told xs ys x.0.now x.1.now k l m h
         (subst P (z.0.2 k ∙ ap (option_map (λ (y : Pair). y.0)) at) (part xs k (a.at k) (p.2 k)))
         (subst Q (z.1.2 k ∙ ap (option_map (λ (y : Pair). y.1)) at) (part ys k (b.at k) (r.2 k)))
+
+-- Blocks as arrays
+
+chunks_long : (k : ℕ) (xs : List ℕ) → length (first_chunks 512 k xs) ≡ k
+chunks_long zero xs = refl
+chunks_long (suc k) xs = ap suc (chunks_long k (drop 512 xs))
+
+-- a block among those of an image
+chunk_at : (k : ℕ) (xs : List ℕ) (b : ℕ) → b < k → get_or (first_chunks 512 k xs) b [] ≡ take 512 (drop (512 * b) xs)
+chunk_at zero xs b h = absurd (omega arith)
+chunk_at (suc k) xs zero h = refl
+chunk_at (suc k) xs (suc b) h =
+    let e : 512 + 512 * b ≡ 512 * suc b = omega arith in
+    chunk_at k (drop 512 xs) b (omega arith) ∙ ap (take 512) (drop-drop (512 * b) 512 xs ∙ ap (λ m. drop m xs) e)
+
+chunk_checked : (k : ℕ) (xs : List ℕ) (b : ℕ) → b < k → checked (get_or (first_chunks 512 k xs) b []) 0 ≡ checked xs b
+chunk_checked k xs b h =
+    checked_same (get_or (first_chunks 512 k xs) b []) xs 0 b
+    (λ i l.
+    let z : 512 * 0 + i ≡ i = omega arith in
+    rw (chunk_at k xs b h, z, get_or-take 512 (drop (512 * b) xs) i 0 l, get_or-drop (512 * b) xs i 0) refl)
+
+-- a test of each of the first blocks
+chunks_below :
+    (n : ℕ) (xs : List ℕ) (k : ℕ) → k ≤ n → list_all (λ block. checked block 0) (take k (first_chunks 512 n xs)) ≡ every (checked xs) k
+unfolding every
+chunks_below n xs zero h = refl
+chunks_below n xs (suc k) h =
+    rw (
+      ← add-one k,
+      list_all_more (λ block. checked block 0) (first_chunks 512 n xs) k [] (omega (arith, chunks_long n xs)),
+      chunks_below n xs k (omega arith),
+      chunk_checked n xs k h,
+    )
+
+pub chunks_checked : (xs : List ℕ) → length xs ≡ 4608 → list_all (λ block. checked block 0) (first_chunks 512 (length xs / 512) xs) ≡ every (checked xs) 9
+chunks_checked xs l =
+    let n : length xs / 512 ≡ 9 = omega arith in
+    rw n (ap (list_all (λ block. checked block 0)) (sym (take_all 9 (first_chunks 512 9 xs) (omega (arith, chunks_long 9 xs)))) ∙ chunks_below 9 xs 9 (omega arith))

@@ -22,10 +22,10 @@ module _ (image : List ℕ) (b : ℕ) (long : length image ≡ 4608) (inside : b
   abbrev bytes : List ℕ
   bytes = between (512 * b) (512 * b + 508) image
 
-  pub bytes_long : length bytes ≡ 508
+  bytes_long : length bytes ≡ 508
   bytes_long = omega (arith, length-between image (512 * b) (512 * b + 508) (omega arith))
 
-  pub byte_taken : (i : ℕ) → i < 508 → get_or bytes i 0 ≡ in_block image b i
+  byte_taken : (i : ℕ) → i < 508 → get_or bytes i 0 ≡ in_block image b i
   byte_taken i h = get_or-between image (512 * b) (512 * b + 508) i 0 (omega arith)
 
   pub taking_more :

@@ -1,8 +1,8 @@
 -- The contents of the nine blocks one after another, 508 bytes of each: an image without its checks.
-use Rattle.std.specs.Prelude.{ℕ, ◌+◌, ◌*◌, ◌/◌, ◌%◌, ◌≡◌, Bool, List, get_or}
+use Rattle.std.specs.Prelude.{ℕ, ◌+◌, ◌*◌, ◌/◌, ◌%◌, Bool, List, get_or}
 use Rattle.layout.specs.Lists.{listed, every}
 use Rattle.layout.specs.Image.{block_byte}
-use Rattle.layout.specs.Reading.{in_block, checked, same_place}
+use Rattle.layout.specs.Reading.{in_block, same_place}
 
 -- byte m of the contents of an image
 abbrev pub taken_at : List ℕ → ℕ → ℕ
@@ -25,8 +25,3 @@ laid_out contents = listed (laid_at contents) 4608
 -- two lists have the same bytes at so many places from one on
 unfoldable pub same_part : List ℕ → List ℕ → ℕ → ℕ → Bool
 same_part xs ys from count = every (λ i. same_place xs ys (from + i)) count
-
--- all contents, and whether the checks are right
-pub record BlocksTaken (image after : List ℕ) (right : Bool) : Type 0 where
-  pub all_checked : right ≡ every (checked image) 9
-  pub taken : after ≡ contents_in image

@@ -1,7 +1,9 @@
 // The contents of the nine blocks, 508 bytes of each, one after another: taken from an image, and put into one with their checks.
 ghost use Rattle.std.specs.Prelude.{◌≡◌, ◌≤◌, length, get_or};
+ghost use Rattle.layout.specs.Lists.{every};
 ghost use Rattle.layout.specs.Image.{weighed};
-ghost use Rattle.blocks.specs.Contents.{laid_out, BlocksTaken};
+ghost use Rattle.layout.specs.Reading.{checked};
+ghost use Rattle.blocks.specs.Contents.{contents_in, laid_out};
 
 use crate::bytes::{number_at, put_number};
 
@@ -29,25 +31,37 @@ fn check_of(bytes: &[u8]) -> u32
     sum
 }
 
-// The contents of all blocks, and whether each block's check is right. They are taken also where one is wrong, so they are lent and no
-// `Option`. Blocks go by their numbers, since of what is written through `chunks_mut` a proof knows the length alone.
-pub fn take_blocks(image: &[u8], contents: &mut [u8; CONTENTS]) -> bool
-    requires { length image.now ≡ 4608 }
-    ensures { BlocksTaken image.now contents.new result }
+// Whether the check of a block is right, which is block 0 of itself.
+#[tactic(auto, using(crate::proofs::Checking::checked_told))]
+fn is_checked(block: &[u8; BLOCK]) -> bool
+    ensures { result ≡ checked block.now 0 }
 {
-    let mut right = true;
+    check_of(&block[..PER_BLOCK]) == number_at(block, PER_BLOCK)
+}
+
+// Whether each block's check is right.
+pub fn is_undamaged(image: &[u8; IMAGE]) -> bool
+    ensures { result ≡ every (checked image.now) 9 }
+{
+    let (blocks, _) = image.as_chunks::<BLOCK>();
+    blocks.iter().all(is_checked)
+}
+
+// The contents of all blocks, whether their checks are right or not. They are lent, since an array that a call hands back is copied
+// twice and stands twice on the stack of its caller. Blocks go by their numbers, since of what is written through `chunks_mut` a proof
+// knows the length alone.
+pub fn take_blocks(image: &[u8; IMAGE], contents: &mut [u8; CONTENTS])
+    ensures { contents.new ≡ contents_in image.now }
+{
     for block in 0..BLOCKS {
         let start = BLOCK * block;
         let bytes = &image[start..start + PER_BLOCK];
         contents[PER_BLOCK * block..PER_BLOCK * (block + 1)].copy_from_slice(bytes);
-        right &= check_of(bytes) == number_at(image, start + PER_BLOCK);
     }
-    right
 }
 
 // The image that has these contents, block by block in the same way.
-pub fn put_blocks(contents: &[u8; CONTENTS], image: &mut [u8])
-    requires { length image.old ≡ 4608 }
+pub fn put_blocks(contents: &[u8; CONTENTS], image: &mut [u8; IMAGE])
     ensures { image.new ≡ laid_out contents.now }
 {
     for block in 0..BLOCKS {

@@ -22,6 +22,6 @@ pub extern "C" fn togbeyis_board(
             *looked = told.looked;
             0
         }
-        Err(refusal) => refusal.number(),
+        Err(refusal) => u32::from(refusal),
     }
 }

@@ -25,6 +25,6 @@ pub extern "C" fn togbeyis_move(
             *dropped = told.dropped;
             0
         }
-        Err(refusal) => refusal.number(),
+        Err(refusal) => u32::from(refusal),
     }
 }

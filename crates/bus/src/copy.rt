@@ -13,7 +13,7 @@ pub extern "C" fn togbeyis_restore(image: &[u8]) -> u32
 {
     match restore(image).answer {
         Ok(()) => 0,
-        Err(refusal) => refusal.number(),
+        Err(refusal) => u32::from(refusal),
     }
 }
 
@@ -35,6 +35,6 @@ pub extern "C" fn togbeyis_save(image: &[u8], copy: &mut [u8], blocks: &mut u32)
             *blocks = count;
             0
         }
-        Err(refusal) => refusal.number(),
+        Err(refusal) => u32::from(refusal),
     }
 }

@@ -22,14 +22,14 @@ pub extern "C" fn togbeyis_enquire(
     match serve_alone(image, call) {
         Ok(told) => {
             *blocks = told.blocks;
-            *charging = told.charging;
+            *charging = u32::from(told.end.is_some());
             *start = told.start;
             *rate = told.rate;
-            if 0 < told.charging {
-                *end = told.end;
+            if let Some(until) = told.end {
+                *end = until;
             }
             0
         }
-        Err(refusal) => refusal.number(),
+        Err(refusal) => u32::from(refusal),
     }
 }

@@ -48,6 +48,6 @@ pub extern "C" fn togbeyis_open(
             *bound = told.bound;
             0
         }
-        Err(refusal) => refusal.number(),
+        Err(refusal) => u32::from(refusal),
     }
 }

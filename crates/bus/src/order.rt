@@ -34,7 +34,7 @@ pub extern "C" fn togbeyis_preview(
             *start = told.start;
             0
         }
-        Err(refusal) => refusal.number(),
+        Err(refusal) => u32::from(refusal),
     }
 }
 
@@ -68,6 +68,6 @@ pub extern "C" fn togbeyis_commit(
             *start = told.start;
             0
         }
-        Err(refusal) => refusal.number(),
+        Err(refusal) => u32::from(refusal),
     }
 }

@@ -29,7 +29,7 @@ fn tell_plan(
             *rounds = told.rounds;
             0
         }
-        Err(refusal) => refusal.number(),
+        Err(refusal) => u32::from(refusal),
     }
 }
 

@@ -16,6 +16,6 @@ pub extern "C" fn togbeyis_withdraw(image: &mut [u8], ticket: u32, blocks: &mut 
             *blocks = told.blocks;
             0
         }
-        Err(refusal) => refusal.number(),
+        Err(refusal) => u32::from(refusal),
     }
 }

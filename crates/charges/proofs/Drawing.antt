@@ -1,12 +1,13 @@
 -- What charges draw, column by column, and with one load more.
-use mathlib.Core.Path.{◌≡◌, ap, sym, ◌∙◌}
-use Prim.Native.Nat.{ℕ, ◌+◌, ◌<◌}
+use mathlib.Core.Path.{◌≡◌, refl, ap, sym, ◌∙◌}
+use Prim.Native.Nat.{ℕ, ◌+◌, ◌≤◌, ◌<◌}
 use mathlib.Core.Bool.{Bool, true, false, cond}
 use mathlib.Core.List.{List, [], ◌∷◌, ◌++◌, append_assoc, map}
 use native.Mathlib.Omega.{arith}
 use lib.Dec.{ltb}
-use lib.ListN.{length, get_or, set}
-use lib.Seq.{get_or-set_same, get_or-set_other}
+use lib.ListN.{length, get_or, set, take}
+use lib.Seq.{get_or-set_same, get_or-set_other, length-take-le}
+use Rattle.std.proofs.lemmas.List.{get_or-take}
 use Rattle.rules.specs.Basics.{keep, tabulate}
 use Rattle.rules.specs.Load.{Load, draw, load_from, elsewhere}
 use Rattle.rules.specs.Charge.{Charge, load_of, loads_of, begun_charges}
@@ -36,6 +37,19 @@ all_seen : (own : Bool) (c : Charges) → tabulate (seen_at own c) c.held 0 ≡ 
 all_seen true c = sym (loads_in_lem c)
 all_seen false c =
     sym (ap (map elsewhere) (loads_in_lem c) ∙ map_tabulate elsewhere (load_in c.lines c.active_times c.starts c.rates) c.held 0)
+
+-- what the first n places of four columns lend
+pub loads_cut :
+    (n : ℕ) (lines active_times starts rates : List ℕ)
+    → n ≤ length starts
+    → loads_in (length (take n starts)) (take n lines) (take n active_times) (take n starts) (take n rates)
+    ≡ loads_in n lines active_times starts rates
+loads_cut n lines active_times starts rates h =
+    rw (length-take-le n starts h)
+    (tabulate_same (load_in (take n lines) (take n active_times) (take n starts) (take n rates)) (load_in lines active_times starts rates) n 0
+    (λ i a b.
+    let l : i < n = omega arith in
+    rw (get_or-take n lines i 0 l, get_or-take n active_times i 0 l, get_or-take n starts i 0 l, get_or-take n rates i 0 l) refl))
 
 pub loads_length : (n : ℕ) (lines active_times starts rates : List ℕ) → length (loads_in n lines active_times starts rates) ≡ n
 loads_length n lines active_times starts rates = length_tabulate (load_in lines active_times starts rates) n 0

@@ -56,9 +56,6 @@ pub record OthersDrawn (f : ℕ) (gs : List Feeder) (k : ℕ) (drawn : List Load
   pub loads : drawn ≡ map elsewhere (loads_of (others_from f 1 (take k gs)))
   pub few : length drawn ≤ places * k
 
-pub others_none : (f : ℕ) (gs : List Feeder) {drawn : List Load} → drawn ≡ [] → OthersDrawn f gs 0 drawn
-others_none f gs e = record { loads = e; few = omega (arith, ap length e) }
-
 module _ {f : ℕ} {gs : List Feeder} {k : ℕ} {drawn : List Load} (v : OthersDrawn f gs k drawn) where
   -- the feeder itself is passed over
   pub others_pass : k + 1 ≡ f → OthersDrawn f gs (k + 1) drawn

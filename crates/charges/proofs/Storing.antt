@@ -1,5 +1,5 @@
 -- No charge, and one charge more: what the eight arrays hold then.
-use mathlib.Core.Path.{◌≡◌, refl, ap, sym, ◌∙◌}
+use mathlib.Core.Path.{◌≡◌, refl, sym, ◌∙◌}
 use Prim.Native.Nat.{ℕ, zero, suc, ◌+◌, ◌≤◌, ◌<◌}
 use mathlib.Core.List.{List, [], ◌∷◌, ◌++◌}
 use native.Mathlib.Omega.{arith}
@@ -7,7 +7,7 @@ use lib.ListN.{length, get_or, set, replicate, length-set}
 use lib.Seq.{get_or-set_same, get_or-set_other}
 use Rattle.rules.specs.Site.{places}
 use Rattle.rules.specs.Charge.{Charge}
-use Rattle.rules.proofs.Lists.{length_tabulate, tabulate_same, tabulate_next}
+use Rattle.rules.proofs.Lists.{tabulate_same, tabulate_next}
 use Rattle.charges.specs.declared.Charges.{Charges}
 use Rattle.charges.specs.Arrays.{Column, tickets, lines, order_minutes, times, active_times, dues, starts, rates, column_of, value_of, charge, charge_at, charges_of, Filled, Columns, Holds}
 
@@ -30,9 +30,6 @@ value_at c i active_times = refl
 value_at c i dues = refl
 value_at c i starts = refl
 value_at c i rates = refl
-
-pub holds_length : {xs : List Charge} {c : Charges} → Holds xs c → c.held ≡ length xs
-holds_length {xs} {c} h = sym (length_tabulate (charge_at c) c.held 0) ∙ ap length h.charges
 
 -- No charge
 

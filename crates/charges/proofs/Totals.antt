@@ -1,25 +1,28 @@
--- Up to when they draw, and the lateness of the charges at the places from 0 on, one charge after another.
-use mathlib.Core.Path.{◌≡◌}
-use Prim.Native.Nat.{ℕ, ◌+◌, max}
-use mathlib.Core.List.{List, [], ◌∷◌, ◌++◌}
+-- Up to when charges draw, and their lateness, as one goes over their columns.
+use mathlib.Core.Path.{◌≡◌, refl}
+use Prim.Native.Nat.{ℕ, zero, suc, ◌+◌, ◌≤◌, max}
+use mathlib.Core.List.{List, [], ◌∷◌}
 use native.Mathlib.Omega.{arith}
+use native.Mathlib.Numerals.{add-one}
+use lib.ListN.{length, get_or}
+use Rattle.std.specs.List.{fold, zip, sum_by, range_with_len}
+use Rattle.std.proofs.lemmas.List.Sums.{sum_by-cons}
 use Rattle.rules.specs.Basics.{tabulate}
 use Rattle.rules.specs.Load.{Load, last_until}
 use Rattle.rules.specs.Charge.{Charge, late_of, lateness}
-use Rattle.rules.proofs.Lists.{tabulate_next}
 
-until_more : (xs : List Load) (x : Load) → last_until (xs ++ (x ∷ [])) ≡ max (last_until xs) x.until
-until_more [] x = omega arith
-until_more (y ∷ xs) x = omega (arith, until_more xs x)
+-- the largest of m and of all ends, where g is what is drawn by the charges from place a on
+pub until_is :
+    (g : ℕ → Load) (xs ys : List ℕ) (m a : ℕ) → length xs ≤ length ys
+    → ((i j : ℕ) → j ≡ a + i → (g j).until ≡ get_or xs i 0 + get_or ys i 0)
+    → fold (λ n p. max n (p.0 + p.1)) m (zip xs ys) ≡ max m (last_until (tabulate g (length xs) a))
+until_is g [] ys m a l h = omega arith
+until_is g (x ∷ xs) [] m a l h = absurd (omega arith)
+until_is g (x ∷ xs) (y ∷ ys) m a l h =
+    omega (arith, h 0 a (omega arith), until_is g xs ys (max m (x + y)) (suc a) (omega arith) (λ i j e. h (suc i) j (omega (arith, e))))
 
-pub until_next :
-    (g : ℕ → Load) (i : ℕ) → last_until (tabulate g (i + 1) 0) ≡ max (last_until (tabulate g i 0)) (g i).until
-until_next g i = rw (tabulate_next g i) (until_more (tabulate g i 0) (g i))
-
-lateness_append : (xs : List Charge) (x : Charge) → lateness (xs ++ (x ∷ [])) ≡ lateness xs + late_of x
-lateness_append [] x = omega arith
-lateness_append (y ∷ xs) x = rw (lateness_append xs x) (omega arith)
-
-pub lateness_next :
-    (g : ℕ → Charge) (i : ℕ) → lateness (tabulate g (i + 1) 0) ≡ lateness (tabulate g i 0) + late_of (g i)
-lateness_next g i = rw (tabulate_next g i) (lateness_append (tabulate g i 0) (g i))
+pub lateness_is :
+    (g : ℕ → Charge) (k a : ℕ) → sum_by (λ i. late_of (g i)) (range_with_len a k) ≡ lateness (tabulate g k a)
+lateness_is g zero a = refl
+lateness_is g (suc k) a =
+    rw (add-one a, sum_by-cons (λ i. late_of (g i)) a (range_with_len (suc a) k), lateness_is g k (suc a))

@@ -1,12 +1,10 @@
 -- Walks along the places from 0 on: what one turn adds to the members that pass a test.
 use mathlib.Core.Path.{◌≡◌}
-use Prim.Native.Nat.{ℕ, ◌+◌, ◌≤◌, ◌<◌}
+use Prim.Native.Nat.{ℕ, ◌+◌}
 use mathlib.Core.Bool.{Bool, true, false}
 use mathlib.Core.List.{[], ◌∷◌, ◌++◌, append-nil}
 use lib.ListN.{length, length-append}
-use borrow.Author.Tests.{lt-ltb, le-ltb}
 use Rattle.rules.specs.Basics.{tabulate, keep}
-use Rattle.rules.specs.Charge.{Charge, is_waiting}
 use Rattle.rules.proofs.Lists.{tabulate_next, keep_append}
 
 -- The members that pass a test
@@ -22,10 +20,3 @@ module _ {A : Type 0} (f : A → Bool) (g : ℕ → A) (i : ℕ) where
   count_hit e = rw (keep_hit e) (length-append (keep f (tabulate g i 0)) (g i ∷ []))
 
 -- A charge that waits, and one that does not
-
-module _ (clock : ℕ) (x : Charge) where
-  pub is_waiting_lem : clock ≤ x.start → is_waiting clock x ≡ true
-  is_waiting_lem h = rw (le-ltb x.start clock h)
-
-  pub is_begun_lem : x.start < clock → is_waiting clock x ≡ false
-  is_begun_lem h = rw (lt-ltb x.start clock h)

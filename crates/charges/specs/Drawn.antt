@@ -1,5 +1,5 @@
 -- What charges draw, as four columns: of one feeder, or of several, one feeder after another.
-use Rattle.std.specs.Prelude.{ℕ, ◌*◌, Bool, cond, List, map, get_or}
+use Rattle.std.specs.Prelude.{ℕ, ◌*◌, Bool, cond, List, map, get_or, length}
 use Rattle.rules.specs.Basics.{tabulate}
 use Rattle.rules.specs.Load.{Load, draw, load_from, elsewhere}
 use Rattle.rules.specs.Site.{places}
@@ -18,7 +18,7 @@ loads_in held lines active_times starts rates = tabulate (load_in lines active_t
 
 -- what is drawn by the charges whose columns are lent
 abbrev pub loads_lent : Loads → List Load
-loads_lent l = loads_in l.held l.lines.now l.active_times.now l.starts.now l.rates.now
+loads_lent l = loads_in (length l.starts.now) l.lines.now l.active_times.now l.starts.now l.rates.now
 
 -- what a feeder's charges draw as itself sees it, and as the others do
 abbrev pub seen_from : Bool → List Load → List Load

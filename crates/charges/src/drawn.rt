@@ -75,11 +75,10 @@ impl Drawn {
         ensures { loads_lent result ≡ self.now }
     {
         Loads {
-            held: self.held,
-            lines: &self.lines,
-            active_times: &self.active_times,
-            starts: &self.starts,
-            rates: &self.rates,
+            lines: &self.lines[..self.held],
+            active_times: &self.active_times[..self.held],
+            starts: &self.starts[..self.held],
+            rates: &self.rates[..self.held],
         }
     }
 }

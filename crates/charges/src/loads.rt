@@ -2,21 +2,20 @@
 ghost use Rattle.std.specs.Prelude.{◌≤◌, length};
 
 use crate::Charges;
-use crate::ends::end_of;
+use crate::ends::last_until;
 
-// The first `held` of each column.
+// As many loads as starts: the other columns reach as far.
 #[derive(Clone, Copy)]
 pub struct Loads<'a> {
-    pub held: usize,
     pub lines: &'a [u32],
     pub active_times: &'a [u32],
     pub starts: &'a [u32],
     pub rates: &'a [u32],
-    pub ghost reaches: { (held ≤ length lines.now) × (held ≤ length active_times.now) × (held ≤ length starts.now) × (held ≤ length rates.now) },
+    pub ghost reaches: { (length starts.now ≤ length lines.now) × (length starts.now ≤ length active_times.now) × (length starts.now ≤ length rates.now) },
 }
 
 impl<'a> Loads<'a> {
-    ghost use Rattle.std.specs.Prelude.{[], ◌≡◌};
+    ghost use Rattle.std.specs.Prelude.{[], ◌≡◌, eqb, length};
     ghost use Rattle.rules.specs.Load.{last_until};
     ghost use Rattle.charges.specs.Drawn.{loads_lent};
 
@@ -25,7 +24,6 @@ impl<'a> Loads<'a> {
         ensures { loads_lent result ≡ [] }
     {
         Loads {
-            held: 0,
             lines: &[],
             active_times: &[],
             starts: &[],
@@ -37,11 +35,14 @@ impl<'a> Loads<'a> {
     pub fn last_until(&self) -> u64
         ensures { result ≡ last_until (loads_lent self.now) }
     {
-        let mut last = 0u64;
-        for i in 0..self.held {
-            last = last.max(end_of(self.starts[i], self.active_times[i]));
-        }
-        last
+        last_until(self.starts, self.active_times)
+    }
+
+    // Whether nothing is drawn.
+    pub fn is_empty(&self) -> bool
+        ensures { result ≡ eqb (length (loads_lent self.now)) 0 }
+    {
+        self.starts.is_empty()
     }
 }
 
@@ -56,11 +57,10 @@ impl Charges {
         ensures { loads_lent result ≡ loads_of (charges_of self.now) }
     {
         Loads {
-            held: self.held,
-            lines: &self.lines,
-            active_times: &self.active_times,
-            starts: &self.starts,
-            rates: &self.rates,
+            lines: &self.lines[..self.held],
+            active_times: &self.active_times[..self.held],
+            starts: &self.starts[..self.held],
+            rates: &self.rates[..self.held],
         }
     }
 }

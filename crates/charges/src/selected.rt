@@ -3,19 +3,18 @@ ghost use Rattle.std.specs.Prelude.{◌≡◌, ◌<◌, Bool, not, length, map};
 ghost use Rattle.rules.specs.Charge.{Charge, is_waiting, is_finished, has_ticket, unfinished_charges, without_ticket};
 ghost use Rattle.rules.specs.Calls.{is_passed};
 ghost use Rattle.charges.specs.Arrays.{charge_at, charges_of, Columns, Holds};
-ghost use Rattle.charges.specs.Places.{Inside, Tests, places_where, gathered_of};
+ghost use Rattle.charges.specs.Places.{Tests, places_where, gathered_of};
 
 use crate::ends::end_of;
 use crate::places::Places;
 use crate::{Charges, PLACES};
 
 // What a column has at these places, and zeros behind.
-fn gathered(column: &[u32; PLACES], places: &[usize]) -> [u32; PLACES]
-    requires { Inside places.now }
+fn gathered(column: &[u32; PLACES], places: &Places) -> [u32; PLACES]
     ensures { result ≡ gathered_of column.now places.now }
 {
     let mut next = [0; PLACES];
-    for (k, place) in places.iter().enumerate() {
+    for (k, place) in places.as_slice().iter().enumerate() {
         next[k] = column[*place];
     }
     next
@@ -65,12 +64,11 @@ impl Charges {
     }
 
     // The charges at these places.
-    fn at_places(&self, places: &[usize]) -> Charges
-        requires { Inside places.now }
+    fn at_places(&self, places: &Places) -> Charges
         ensures { Holds (map (charge_at self.now) places.now) result }
     {
         Charges {
-            held: places.len(),
+            held: places.as_slice().len(),
             tickets: gathered(&self.tickets, places),
             lines: gathered(&self.lines, places),
             order_minutes: gathered(&self.order_minutes, places),
@@ -98,13 +96,13 @@ impl Charges {
         if kept.len() == self.held {
             return *self;
         }
-        self.at_places(kept.as_slice())
+        self.at_places(&kept)
     }
 
     // The charges but for that of the ticket.
     pub fn without(&self, ticket: u32) -> Charges
         ensures { Holds (without_ticket ticket (charges_of self.now)) result }
     {
-        self.at_places(self.other_places(ticket).as_slice())
+        self.at_places(&self.other_places(ticket))
     }
 }

@@ -30,7 +30,8 @@ impl Charges {
         requires { Columns self.now × (length starts.now ≡ length (waiting_charges clock (charges_of self.now))) }
         ensures { Holds (restarted_of clock (charges_of self.now) starts.now) result }
     {
-        let mut next = self.starts;
+        let mut restarted = *self;
+        let next = &mut restarted.starts[..];
         let mut k = 0;
         for i in 0..self.held {
             if clock <= self.starts[i] {
@@ -38,8 +39,6 @@ impl Charges {
                 k += 1;
             }
         }
-        let mut restarted = *self;
-        restarted.starts = next;
         restarted
     }
 }

@@ -1,7 +1,8 @@
 // Reading and writing, of which no contract can speak: `turn` is handed what is read, and the text that it leaves is written.
 ghost use Rattle.std.specs.Prelude.{◌≡◌, ◌+◌, ◌≤◌, length, take};
-ghost use Rattle.session.specs.Turns.{over, Reached};
+ghost use Rattle.session.specs.Turns.{Reached};
 
+use crate::{BLOCK, NUMBERS, PLACES, TEXT};
 use session::turn::{Buffers, Session, Wants};
 use station::Station;
 use std::io::{Read, Write};
@@ -13,26 +14,20 @@ fn read_wanted(input: &mut Stdin, wants: Wants, block: &mut [u8], held: usize) -
     requires { held ≤ length block.old }
     ensures { (held + result ≤ length block.old) × (take held block.new ≡ take held block.old) }
 {
-    let Wants::Bytes = wants else {
+    if wants != Wants::Bytes {
         return 0;
-    };
-    input.read(&mut block[held..]).unwrap_or(0)
-}
-
-fn is_over(wants: Wants) -> bool
-    ensures { result ≡ over wants }
-{
-    match wants {
-        Wants::Bytes => false,
-        Wants::Room => false,
-        Wants::Nothing => true,
     }
+    input.read(&mut block[held..]).unwrap_or(0)
 }
 
 // From the fresh station of 1, 100, with one feeder and W 720, turn by turn to the end of the input; the last session. A write that fails is
 // passed over: the calls after it are made all the same. A proved loop has to end, and nothing says that the input does: no run takes so
 // many turns.
-pub fn serve(mut input: Stdin, mut output: Stdout, buffers: &mut Buffers) -> Session
+pub fn serve(
+    mut input: Stdin,
+    mut output: Stdout,
+    buffers: &mut Buffers<BLOCK, NUMBERS, PLACES, TEXT>,
+) -> Session
     ensures { Reached result buffers.new.block }
 {
     let station = Station::least();
@@ -47,8 +42,7 @@ pub fn serve(mut input: Stdin, mut output: Stdout, buffers: &mut Buffers) -> Ses
         let count = read_wanted(&mut input, wants, &mut buffers.block, held);
         session.turn(count, buffers);
         let _ = output.write_all(buffers.out.as_bytes());
-        let then = session.wants;
-        if is_over(then) {
+        if session.wants == Wants::Nothing {
             break;
         }
     }

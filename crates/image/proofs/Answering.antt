@@ -25,7 +25,7 @@ use Rattle.layout.proofs.Refusing.{refused_contents, not_refused}
 use Rattle.layout.proofs.RoundTrip.{restoring_valid}
 use Rattle.validity.specs.Settled.{settings_valid}
 use Rattle.std.specs.Cmp.Lexicographic.{pointwise}
-use Rattle.blocks.specs.Contents.{contents_in, BlocksTaken}
+use Rattle.blocks.specs.Contents.{contents_in}
 use Rattle.blocks.proofs.Chunks.{same_part_told}
 use Rattle.records.specs.Contents.{contents_of, charge_from, state_from, header_right}
 use Rattle.records.specs.Columns.{ReadFrom}
@@ -89,13 +89,10 @@ module _ (xs : List ℕ) where
 -- Restoring
 
 -- an image whose checks are right, by the contents that were taken from it
-module _ (xs cs : List ℕ) (right : Bool) (long : length xs ≡ 4608) (small : (k : ℕ) → get_or xs k 0 < 256) (taken : BlocksTaken xs cs right)
-    (found : right ≡ true) where
-  checks : every (checked xs) 9 ≡ true
-  checks = sym taken.all_checked ∙ found
-
+module _ (xs cs : List ℕ) (long : length xs ≡ 4608) (small : (k : ℕ) → get_or xs k 0 < 256) (checks : every (checked xs) 9 ≡ true)
+    (taken : cs ≡ contents_in xs) where
   of_taken : is_of xs (state_in xs) ≡ is_from cs (state_from cs)
-  of_taken = right_taken xs long small checks ∙ ap (λ zs. is_from zs (state_from zs)) (sym taken.taken)
+  of_taken = right_taken xs long small checks ∙ ap (λ zs. is_from zs (state_from zs)) (sym taken)
 
   pub contents_wrong : is_from cs (state_from cs) ≡ false → restore_refusal xs ≡ 22
   contents_wrong e = refused_contents xs long checks (of_taken ∙ e)
@@ -130,8 +127,6 @@ module _ (xs : List ℕ) where
                     formed = only_formed o p.settled.columns;
                     state = rw (ap (λ z. z.state) whole) (restoring_valid xs);
                   };
-              single = p.single;
-              first = p.first;
             };
       }
     where

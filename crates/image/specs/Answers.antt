@@ -1,14 +1,13 @@
 -- What saving and restoring answer, write and give back.
-use Rattle.std.specs.Prelude.{ℕ, ◌≡◌, Bool, ◌&&◌, List, length, eqb, Result, Ok, Err}
-use Rattle.rules.specs.Basics.{first_of}
+use Rattle.std.specs.Prelude.{ℕ, ◌≡◌, Bool, ◌&&◌, List, length, Result, Ok, Err}
 use Rattle.rules.specs.Site.{State}
 use Rattle.refusals.specs.declared.Refusal.{Refusal}
 use Rattle.refusals.specs.Refusals.{refusal_in}
 use Rattle.station.specs.declared.only.One.{One}
 use Rattle.station.specs.View.{view, station_of, Alone}
 use Rattle.layout.specs.Validity.{is_valid}
-use Rattle.layout.specs.Reading.{sized, RestoreResult, restoring}
-use Rattle.layout.specs.Saving.{save_rows, SaveResult, saving}
+use Rattle.layout.specs.Reading.{RestoreResult, restoring}
+use Rattle.layout.specs.Saving.{SaveResult, saving}
 use Rattle.blocks.specs.Contents.{same_part}
 use Rattle.records.specs.Contents.{contents_of}
 
@@ -20,10 +19,6 @@ blocks_in (Err refusal) = 0
 -- the answer and the whole of the lent list afterwards
 abbrev pub saved : Result ℕ Refusal → List ℕ → SaveResult
 saved r image = record { refusal = refusal_in r; blocks = blocks_in r; image = image }
-
--- the refusal of saving, by the number of feeders
-unfoldable pub count_refusal : ℕ → List ℕ → List ℕ → ℕ
-count_refusal count previous list = first_of (save_rows (sized previous && sized list) (eqb count 1))
 
 pub record Saves (s : State) (previous before after : List ℕ) (r : Result ℕ Refusal) : Type 0 where
   pub result : saved r after ≡ saving s previous before

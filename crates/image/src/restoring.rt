@@ -5,7 +5,7 @@ ghost use Rattle.station.specs.View.{view, station_of, Alone};
 ghost use Rattle.validity.specs.Settled.{Settled};
 ghost use Rattle.image.specs.Answers.{is_from, Restores};
 
-use blocks::contents::{CONTENTS, IMAGE, take_blocks};
+use blocks::contents::{CONTENTS, IMAGE, is_undamaged, take_blocks};
 use records::reading::{header_right, read};
 use records::writing::contents_of;
 use refusals::Refusal;
@@ -36,13 +36,14 @@ fn refused(refusal: Refusal) -> Done<Result<(), Refusal>, One>
 pub fn restore(image: &[u8]) -> Done<Result<(), Refusal>, One>
     ensures { Restores image.now result.answer result.station }
 {
-    if image.len() != IMAGE {
+    let Some(image) = image.as_array::<IMAGE>() else {
         return refused(Refusal::ImageLength);
-    }
-    let mut contents = [0; CONTENTS];
-    if !take_blocks(image, &mut contents) {
+    };
+    if !is_undamaged(image) {
         return refused(Refusal::ImageDamaged);
     }
+    let mut contents = [0; CONTENTS];
+    take_blocks(image, &mut contents);
     if !header_right(&contents) {
         return refused(Refusal::ImageInvalid);
     }

@@ -1,61 +1,58 @@
 // A station saved as an image.
-ghost use Rattle.std.specs.Prelude.{◌≡◌};
-ghost use Rattle.refusals.specs.Refusals.{refusal_in};
 ghost use Rattle.charges.specs.Arrays.{Columns};
 ghost use Rattle.station.specs.View.{view, Valid, station_of, Alone};
-ghost use Rattle.image.specs.Answers.{count_refusal, SavesFirst, Saves};
+ghost use Rattle.image.specs.Answers.{SavesFirst, Saves};
 
-use blocks::comparing::{copied, differing_blocks};
+use blocks::comparing::differing_blocks;
 use blocks::contents::{IMAGE, put_blocks};
 use records::writing::contents_of;
 use refusals::Refusal;
 use station::Station;
 use station::only::One;
 
-// The refusal of saving a station with so many feeders: 20 for either size, then 22 for several feeders.
-#[tactic(auto, unfolding(crate::specs::Answers::count_refusal))]
-fn save_refusal(count: usize, previous: &[u8], image: &[u8]) -> Result<(), Refusal>
-    ensures { refusal_in result ≡ count_refusal count previous.now image.now }
-{
-    if previous.len() != IMAGE || image.len() != IMAGE {
-        return Err(Refusal::ImageLength);
-    }
-    if count != 1 {
-        return Err(Refusal::ImageInvalid);
-    }
-    Ok(())
-}
-
-// The image of a station with so many feeders, of which this is the first, and how many blocks differ from the previous image; or the
-// refusal, and then nothing is written.
-fn save_first(count: usize, one: &One, previous: &[u8], image: &mut [u8]) -> Result<u32, Refusal>
+// The image of a station with so many feeders, of which this is the first, and how many blocks differ from the previous image; or 22
+// for several feeders, and then nothing is written.
+#[tactic(auto, using(crate::proofs::SavedImages::first_several, crate::proofs::SavedImages::first_saved))]
+fn save_first(
+    count: usize,
+    one: &One,
+    previous: &[u8; IMAGE],
+    image: &mut [u8; IMAGE],
+) -> Result<u32, Refusal>
     requires { Columns one.now.feeder.charges }
     ensures { SavesFirst count (view (station_of one.now)) previous.now image.old image.new result }
 {
-    save_refusal(count, previous, image)?;
+    if count != 1 {
+        return Err(Refusal::ImageInvalid);
+    }
     put_blocks(&contents_of(one), image);
     Ok(differing_blocks(previous, image))
 }
 
-// The same where the previous image is the one that is lent: how many of its blocks change.
-#[tactic(auto, using(crate::proofs::SavedImages::first_refused, crate::proofs::SavedImages::size_refused))]
+// The same where the previous image is the one that is lent: how many of its blocks change. A list of another length is refused with 20.
+#[tactic(auto, using(crate::proofs::SavedImages::first_unsized))]
 fn save_over(count: usize, one: &One, image: &mut [u8]) -> Result<u32, Refusal>
     requires { Columns one.now.feeder.charges }
     ensures { SavesFirst count (view (station_of one.now)) image.old image.old image.new result }
 {
-    if image.len() != IMAGE {
+    let Some(image) = image.as_mut_array::<IMAGE>() else {
         return Err(Refusal::ImageLength);
-    }
-    let before = copied(image);
+    };
+    let before = *image;
     save_first(count, one, &before, image)
 }
 
 // A station over an image that is lent beside the previous one.
-#[tactic(auto, using(crate::proofs::SavedImages::saves_taken))]
 pub fn save(station: &Station, previous: &[u8], image: &mut [u8]) -> Result<u32, Refusal>
     requires { Valid station.now }
     ensures { Saves (view station.now) previous.now image.old image.new result }
 {
+    let Some(previous) = previous.as_array::<IMAGE>() else {
+        return Err(Refusal::ImageLength);
+    };
+    let Some(image) = image.as_mut_array::<IMAGE>() else {
+        return Err(Refusal::ImageLength);
+    };
     save_first(station.count, &station.one(0), previous, image)
 }
 

@@ -5,7 +5,7 @@ use mathlib.Core.Bool.{true, false}
 use mathlib.Core.List.{List, ◌++◌}
 use native.Mathlib.Omega.{arith}
 use lib.Dec.{ltb}
-use lib.ListN.{length, get_or, take}
+use lib.ListN.{length, get_or}
 use borrow.Author.Tests.{eq-eqb, ne_eqb, lt-ltb, le-ltb}
 use Rattle.std.specs.declared.option.Option.TheVariants.{Some, None}
 use Rattle.rules.specs.Basics.{at, nothing, Each}
@@ -22,7 +22,7 @@ use Rattle.profile.specs.declared.steps.Step.{Step}
 use Rattle.profile.specs.Steps.{minutes_of, counts_of, empty_step, In}
 use Rattle.profile.specs.Shows.{Profile, line_of, level_of, levels, most_drawn, Rated}
 use Rattle.profile.proofs.Levels.{level_in}
-use Rattle.planner.specs.Starts.{waiting_count, WaitingStarts}
+use Rattle.planner.specs.Starts.{WaitingStarts}
 use Rattle.planner.specs.declared.Beside.{Beside}
 use Rattle.planner.specs.Ready.{terms_of}
 use Rattle.planner.specs.Placed.{plan_of, AllPlaced}
@@ -89,7 +89,7 @@ module _ (cap : Caps) (b : Beside) {c : Charges} {p : Profile} {given : List ℕ
       {listed : List ℕ}
       → first_unbalanced (terms_of b) b.clock plan ≡ nothing
       → WaitingStarts b.clock c given listed
-      → round (terms_of b) b.clock (charges_of c) cap ≡ ends (starts (take (waiting_count b.clock c) listed))
+      → round (terms_of b) b.clock (charges_of c) cap ≡ ends (starts listed)
   unfolding round
   round_balanced e w = rw (a.gives, e, after_round, w.gives a.placed a.plan.stored)
 

@@ -27,7 +27,6 @@ use Rattle.planner.specs.Ready.{terms_of}
 use Rattle.planner.specs.Placed.{plan_of}
 use Rattle.planner.proofs.Queueing.{places_apart}
 use Rattle.planner.proofs.Growing.{grown, plan_can_add, plan_on}
-use Rattle.planner.proofs.StandingLoads.{spacious_room}
 use Rattle.lines.specs.declared.place.Task.{Task}
 use Rattle.lines.specs.declared.next.Next.{Next}
 use Rattle.lines.specs.Next.{Bounds, NextAt}
@@ -73,7 +72,7 @@ module _ {size : ℕ} {caps : LineCaps} {k : Task} {line : ℕ} {left : List ℕ
   module _ {a : Draw} (drawn : profile.draw_of a ≡ draw_of who) where
     pub next_can_add : CanAdd p size a t.start
     next_can_add =
-        plan_can_add h.ready.listed v.plan i t.start low_place near_now drawn (spacious_room b h.space) h.space.most
+        plan_can_add h.ready.listed v.plan i t.start low_place near_now drawn h.space.enough h.space.most
         (omega (arith, line_room h.ready.listed on v, r.inside))
 
   bounds_next : Bounds c (remove left t.place) t.crowd

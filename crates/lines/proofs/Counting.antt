@@ -4,6 +4,7 @@ use Prim.Native.Nat.{ℕ, zero, suc, ◌+◌, ◌-◌, max, ◌≤◌, ◌<◌}
 use mathlib.Core.List.{List}
 use native.Mathlib.Omega.{arith}
 use native.Mathlib.Numerals.{add-one}
+use Rattle.std.specs.declared.ops.ControlFlow.TheVariants.{Break, Continue}
 use Rattle.std.specs.declared.result.Result.{Result}
 use Rattle.std.specs.declared.result.Result.TheVariants.{Err}
 use Rattle.rules.specs.Search.{Caps}
@@ -15,13 +16,10 @@ use Rattle.search.specs.Caps.{CapsShown, CapLowered}
 use Rattle.search.proofs.Lowerings.{lowered_shows}
 use Rattle.planner.specs.declared.cause.Cause.{Cause}
 use Rattle.planner.specs.declared.cause.Cause.TheVariants.{AllowanceSpent}
-use Rattle.planner.specs.Starts.{waiting_count}
 use Rattle.planner.specs.Ready.{terms_of, Ready}
 use Rattle.lines.specs.declared.rounds.Lowering.{Lowering}
-use Rattle.lines.specs.declared.rounds.Round.{Round}
-use Rattle.lines.specs.declared.rounds.Round.TheVariants.{Ends, Lowers}
 use Rattle.lines.specs.declared.place.Task.{Task}
-use Rattle.lines.specs.Rounds.{outcome, Plays, Replans}
+use Rattle.lines.specs.Rounds.{Round, outcome, Plays, Replans}
 
 -- What comes after so many rounds, with so many more allowed
 
@@ -64,25 +62,24 @@ module _ {k : Task} {allowance : ℕ} {caps : LineCaps} {made : ℕ} (v : Rounds
   -- one more round
   module _ (more : made < max allowance 1) {r : Round} (h : Plays k caps r) where
     played :
-        whole_of k allowance
-        ≡ go_on (suc made) (after (round_of k) (max allowance 1 - suc made) (suc made)) v.cap (outcome (waiting_count k.beside.clock k.charges.now) r)
+        whole_of k allowance ≡ go_on (suc made) (after (round_of k) (max allowance 1 - suc made) (suc made)) v.cap (outcome r)
     played =
         let one_more : max allowance 1 - made ≡ suc (max allowance 1 - suc made) = omega arith in
         v.whole ∙ rw one_more (after_one (round_of k) (max allowance 1 - suc made) (suc made) v.cap ∙ rw (h.same v.cap v.shown) refl)
 
     pub rounds_done :
-        {p : Result (List ℕ) Cause} {rounds : ℕ} → r ≡ Ends p → rounds ≡ made + 1
+        {p : Result (List ℕ) Cause} {rounds : ℕ} → r ≡ Break p → rounds ≡ made + 1
         → Replans k.beside.clock k.charges.now (whole_of k allowance) (record { proposed = p; rounds = rounds })
-    rounds_done e total = rw (total, add-one made) record { same = rw e at played; filled = rw e at h.fits }
+    rounds_done e total = rw (total, add-one made) record { same = rw e at played; many = rw e at h.fits }
 
-    module _ {x : Lowering} (e : r ≡ Lowers x) where
+    module _ {x : Lowering} (e : r ≡ Continue x) where
       -- it was the last that is allowed
       pub rounds_spent :
           {rounds : ℕ} → rounds ≡ made + 1 → rounds ≡ max allowance 1
           → Replans k.beside.clock k.charges.now (whole_of k allowance) (record { proposed = Err AllowanceSpent; rounds = rounds })
       rounds_spent total all =
           let none_left : max allowance 1 - suc made ≡ 0 = omega arith in
-          rw (total, add-one made) record { same = (rw e at played) ∙ rw none_left refl; filled = tt }
+          rw (total, add-one made) record { same = (rw e at played) ∙ rw none_left refl; many = tt }
 
       lowers_fit : (x.minute < 4294967295) × (k.beside.limits.bound ≤ x.cap)
       lowers_fit = rw e at h.fits

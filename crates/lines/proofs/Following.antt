@@ -23,7 +23,6 @@ use Rattle.planner.specs.Ready.{terms_of}
 use Rattle.planner.specs.Placed.{plan_of}
 use Rattle.planner.proofs.Growing.{plan_length}
 use Rattle.planner.proofs.Showing.{begun_and_waiting_lem}
-use Rattle.planner.proofs.StandingLoads.{spacious_room}
 use Rattle.lines.specs.declared.place.Task.{Task}
 use Rattle.lines.specs.Next.{CanNext}
 use Rattle.lines.specs.Lines.{waiting_of, CanPlace}
@@ -62,13 +61,12 @@ module _ {size : ℕ} {caps : LineCaps} {k : Task} {line : ℕ} {left : List ℕ
       )
 
   few : length (plan_of (terms_of b) b.clock c v.placed) ≤ 720
-  few = omega (arith, plan_length (terms_of b) b.clock c v.placed, line_room h.ready.listed on v, spacious_room b h.space, h.space.most)
+  few = omega (arith, plan_length (terms_of b) b.clock c v.placed, line_room h.ready.listed on v, h.space.enough, h.space.most)
 
   pub can_next : CanNext p caps line c left q from
   can_next =
       record {
         can_start = can_start v.plan.shows 1445 few (omega (arith, v.plan.ends, line_room h.ready.listed on v));
-        on_line = on;
         capped = λ j low.
             can_cap caps b.limits.site h.capped.cap line (number_of c.rates left j) h.capped.shown on
             (λ t. h.capped.enough (get_or left j 0) (v.are.inside j low) line t)

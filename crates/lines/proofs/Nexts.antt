@@ -19,9 +19,9 @@ use Rattle.search.specs.Caps.{room_under, CanRun}
 use Rattle.priority.specs.declared.crowd.Crowd.{Crowd}
 use Rattle.priority.specs.Numbers.{number_of}
 use Rattle.priority.specs.Chosen.{fits_run, CanChoose}
-use Rattle.priority.specs.Crowds.{Found, TimesOf, Narrowed}
+use Rattle.priority.specs.Crowds.{shortest_of, longest_of, Found, TimesOf, Narrowed}
 use Rattle.lines.specs.Next.{CanChooseAt, ChosenAt, StartFor, smaller_of, NextStart, Bounds, CanNext, NextAt}
-use Rattle.lines.proofs.Seeking.{rate_of, rate_range, rate_missing, rate_none, rate_long}
+use Rattle.lines.proofs.Seeking.{rate_of, rate_range, rate_found, rate_missing, rate_none, rate_long}
 
 pub times_bound : {c : Charges} {left : List ℕ} {k : Crowd} → TimesOf c left (length left) k → Bounds c left k
 times_bound t =
@@ -40,42 +40,26 @@ module _ {p : Profile} {caps : LineCaps} {line : ℕ} {c : Charges} {left : List
 
   choose_at :
       {d : Crowd} {s : ℕ} → Bounds c left d → CanChoose c left d → first_minute p ≤ s → s + 1445 < 2 ^ 32
-      → CanChooseAt p line c left d s
+      → CanChooseAt p c left d s
   choose_at {d} {s} b h low fit =
       record {
-        on_line = can.on_line;
-        one = runs d.one.longest s b.one_most low fit;
-        two = runs d.two.longest s b.two_most low fit;
+        one = runs (longest_of d.one) s b.one_most low fit;
+        two = runs (longest_of d.two) s b.two_most low fit;
         can_choose = h;
       }
 
   -- At the last start
 
-  pub next_here :
-      {r : ℕ} → ChosenAt p caps line c left k from (Some r)
-      → NextAt p caps line c left k from (record { start = from; place = r; crowd = k })
-  next_here h =
-      record {
-        inside = h.inside;
-        choice = h;
-        number = omega arith;
-        total = omega arith;
-        bounds = can.bounds;
-        low = can.low;
-        high = omega arith;
-        none = λ u a b. absurd (omega arith);
-      }
-
   -- At the smallest one behind it
 
   module _ {d : Crowd} (w : Narrowed c left k d) where
     abbrev one : ℕ
-    one = d.one.shortest
+    one = shortest_of d.one
 
     abbrev two : ℕ
-    two = d.two.shortest
+    two = shortest_of d.two
 
-    pub can_there : {s : ℕ} → first_minute p ≤ s → s + 1445 < 2 ^ 32 → CanChooseAt p line c left d s
+    pub can_there : {s : ℕ} → first_minute p ≤ s → s + 1445 < 2 ^ 32 → CanChooseAt p c left d s
     can_there =
         let can_choose = can.can_choose more in
         choose_at (times_bound w.times)
@@ -145,21 +129,21 @@ module _ {p : Profile} {caps : LineCaps} {line : ℕ} {c : Charges} {left : List
       taken_there none = ⊎_elim one_fits two_fits (reached m).found
         where
           run_one : ℕ
-          run_one = run_of (room_under p caps line 1) d.one.longest start
+          run_one = run_of (room_under p caps line 1) (longest_of d.one) start
 
           run_two : ℕ
-          run_two = run_of (room_under p caps line 2) d.two.longest start
+          run_two = run_of (room_under p caps line 2) (longest_of d.two) start
 
           one_fits : StartFor p caps line 1 one from (Some start) → ⊥
           one_fits t =
-              let g : Found c left (length left) 1 one = w.times.one.found (omega (arith, t.0, w.times.one.in_order)) in
+              let g : Found c left (length left) 1 one = rate_found can w.times.one t.0 in
               let fits : fits_run c left run_one run_two g.who ≡ true =
               rw (← g.rate_is) (le-leb (number_of c.active_times left g.who) run_one (rate_long can w.times.one t g)) in
               true≢false (sym fits ∙ none g.who (omega arith) g.inside)
 
           two_fits : StartFor p caps line 2 two from (Some start) → ⊥
           two_fits t =
-              let g : Found c left (length left) 2 two = w.times.two.found (omega (arith, t.0, w.times.two.in_order)) in
+              let g : Found c left (length left) 2 two = rate_found can w.times.two t.0 in
               let fits : fits_run c left run_one run_two g.who ≡ true =
               rw (← g.rate_is) (le-leb (number_of c.active_times left g.who) run_two (rate_long can w.times.two t g)) in
               true≢false (sym fits ∙ none g.who (omega arith) g.inside)

@@ -7,6 +7,7 @@ use native.Mathlib.Omega.{arith}
 use lib.Dec.{eqb}
 use borrow.Author.Tests.{eqb-true, eqb-false}
 use lib.ListN.{length}
+use Rattle.std.specs.declared.ops.ControlFlow.TheVariants.{Break, Continue}
 use Rattle.std.specs.declared.option.Option.{Option}
 use Rattle.std.specs.declared.option.Option.TheVariants.{Some, None}
 use Rattle.std.specs.declared.result.Result.TheVariants.{Ok, Err}
@@ -31,10 +32,8 @@ use Rattle.planner.specs.declared.Beside.{Beside}
 use Rattle.planner.specs.Ready.{terms_of}
 use Rattle.planner.specs.Placed.{plan_of, AllPlaced}
 use Rattle.planner.proofs.Growing.{plan_length}
-use Rattle.planner.proofs.StandingLoads.{spacious_room}
 use Rattle.lines.specs.declared.place.Task.{Task}
 use Rattle.lines.specs.declared.rounds.Lowering.{Lowering}
-use Rattle.lines.specs.declared.rounds.Round.TheVariants.{Ends, Lowers}
 use Rattle.lines.specs.Lines.{lines_placed, CanPlace, LinesUnder, ShowsStanding}
 use Rattle.lines.specs.Rounds.{asked_in, Comparable, Plays}
 use Rattle.lines.proofs.Extremes.{largest_alike, smallest_alike}
@@ -69,11 +68,11 @@ module _ {size : ℕ} {k : Task} {caps : LineCaps} {p : Profile} {by_place : Lis
     found : (cap : Caps) (shown : CapsShown caps b.limits.site cap) → first_unbalanced (terms_of b) b.clock (loads cap shown) ≡ found_at u
     found cap shown = unbalanced_shows first b.clock (loads cap shown) b.limits.limit b.limits.site (loads_lent b.others) (plan cap shown).plan.shows
 
-    pub plays_balanced : {listed : List ℕ} → u ≡ None → WaitingStarts b.clock c by_place listed → Plays k caps (Ends (Ok listed))
+    pub plays_balanced : {listed : List ℕ} → u ≡ None → WaitingStarts b.clock c by_place listed → Plays k caps (Break (Ok listed))
     plays_balanced e s =
         record {
           same = λ cap shown. round_balanced cap b (plan cap shown) (found cap shown ∙ ap found_at e) s;
-          fits = s.filled;
+          fits = s.many;
         }
 
     module _ {t : ℕ} (e : u ≡ Some t) where
@@ -92,7 +91,7 @@ module _ {size : ℕ} {k : Task} {caps : LineCaps} {p : Profile} {by_place : Lis
       level_counted cap shown l i = (plan cap shown).plan.shows.counted l (line_column l i) t range.0
 
       few : length some_loads ≤ 720
-      few = omega (arith, plan_length (terms_of b) b.clock c some_plan.placed, some_plan.few, spacious_room b can.space, can.space.most)
+      few = omega (arith, plan_length (terms_of b) b.clock c some_plan.placed, some_plan.few, can.space.enough, can.space.most)
 
       module _ {base : Profile} (s : ShowsStanding k base) where
         pub round_comparable : Comparable p base t b.limits.bound
@@ -124,7 +123,7 @@ module _ {size : ℕ} {k : Task} {caps : LineCaps} {p : Profile} {by_place : Lis
         base_counted : level_of base large t ≡ count (standing (terms_of b) b.clock (charges_of c)) large t
         base_counted = s.counted large (line_column large (largest_line_lem (levels p t)).line) t range.0
 
-        plays_none : level_of p large t ≡ level_of base large t → Plays k caps (Ends (Err NoStart))
+        plays_none : level_of p large t ≡ level_of base large t → Plays k caps (Break (Err NoStart))
         plays_none same =
             record {
               same =
@@ -137,7 +136,7 @@ module _ {size : ℕ} {k : Task} {caps : LineCaps} {p : Profile} {by_place : Lis
         abbrev lowering : Lowering
         lowering = record { line = large; minute = t; cap = level_of p small t + b.limits.bound }
 
-        plays_lowers : (level_of p large t ≡ level_of base large t → ⊥) → Plays k caps (Lowers lowering)
+        plays_lowers : (level_of p large t ≡ level_of base large t → ⊥) → Plays k caps (Continue lowering)
         plays_lowers ne =
             record {
               same =
@@ -151,20 +150,20 @@ module _ {size : ℕ} {k : Task} {caps : LineCaps} {p : Profile} {by_place : Lis
             }
 
         -- what the round ends with, or lowers, is what the minute asks for
-        pub ends_asked : None ≡ asked_in p base t b.limits.bound → Plays k caps (Ends (Err NoStart))
+        pub ends_asked : None ≡ asked_in p base t b.limits.bound → Plays k caps (Break (Err NoStart))
         ends_asked asked = go (eqb (level_of p large t) (level_of base large t)) refl asked
           where
             go :
                 (same : Bool) → eqb (level_of p large t) (level_of base large t) ≡ same → None ≡ cond same None (Some lowering)
-                → Plays k caps (Ends (Err NoStart))
+                → Plays k caps (Break (Err NoStart))
             go true h' a = plays_none (eqb-true _ _ h')
             go false h' a = absurd (cc)
 
-        pub lowers_asked : {x : Lowering} → Some x ≡ asked_in p base t b.limits.bound → Plays k caps (Lowers x)
+        pub lowers_asked : {x : Lowering} → Some x ≡ asked_in p base t b.limits.bound → Plays k caps (Continue x)
         lowers_asked {x} asked = go (eqb (level_of p large t) (level_of base large t)) refl asked
           where
             go :
                 (same : Bool) → eqb (level_of p large t) (level_of base large t) ≡ same → Some x ≡ cond same None (Some lowering)
-                → Plays k caps (Lowers x)
+                → Plays k caps (Continue x)
             go true h' a = absurd (cc)
             go false h' a = let e : x ≡ lowering = cc in rw e (plays_lowers (eqb-false _ _ h'))

@@ -6,6 +6,7 @@ use mathlib.Core.Bool.{Bool, true≢false}
 use mathlib.Core.List.{List}
 use native.Mathlib.Omega.{arith}
 use lib.ListN.{length}
+use Rattle.std.specs.declared.option.Option.{Option}
 use Rattle.std.specs.declared.option.Option.TheVariants.{Some, None}
 use Rattle.rules.specs.Basics.{run_of}
 use Rattle.rules.proofs.Ranges.{below_or_not}
@@ -19,7 +20,7 @@ use Rattle.search.proofs.Within.{first_last}
 use Rattle.priority.specs.declared.crowd.Span.{Span}
 use Rattle.priority.specs.declared.crowd.Crowd.{Crowd}
 use Rattle.priority.specs.Numbers.{number_of}
-use Rattle.priority.specs.Crowds.{Found, SpanOf}
+use Rattle.priority.specs.Crowds.{shortest_of, longest_of, Found, FoundIf, SpanOf}
 use Rattle.lines.specs.Next.{StartFor, CanNext}
 
 -- a start that passes has a run at least as long
@@ -40,12 +41,20 @@ module _ {p : Profile} {caps : LineCaps} {line : ℕ} {c : Charges} {left : List
   pub rate_range : {rate time a : ℕ} → StartFor p caps line rate time from (Some a) → (first_minute p ≤ a) × (a ≤ last_minute p)
   rate_range t = (omega (arith, t.1.least.low, can.low, first_last can.can_start), t.1.high)
 
-  module _ {rate : ℕ} {s : Span} (z : SpanOf c left (length left) rate s) where
+  module _ {rate : ℕ} {s : Option Span} (z : SpanOf c left (length left) rate s) where
+    -- one is as short as the shortest time, if there is one
+    pub rate_found : 1 ≤ shortest_of s → Found c left (length left) rate (shortest_of s)
+    rate_found = go s z.found
+      where
+        go : (x : Option Span) → FoundIf c left (length left) rate x → 1 ≤ shortest_of x → Found c left (length left) rate (shortest_of x)
+        go (Some x) f h = f
+        go None f h = absurd (omega arith)
+
     -- where no charge has the rate, none is left with it
-    pub rate_missing : StartFor p caps line rate s.shortest from None → (j : ℕ) → j < length left → rate ≡ number_of c.rates left j → ⊥
+    pub rate_missing : StartFor p caps line rate (shortest_of s) from None → (j : ℕ) → j < length left → rate ≡ number_of c.rates left j → ⊥
     rate_missing e j h same = omega (arith, (z.each j h same).0)
 
-    module _ {a : ℕ} (t : StartFor p caps line rate s.shortest from (Some a)) where
+    module _ {a : ℕ} (t : StartFor p caps line rate (shortest_of s) from (Some a)) where
       pub rate_none :
           (u : ℕ) → from ≤ u → u < a → (j : ℕ) → j < length left → rate ≡ number_of c.rates left j
           → Misses (room_under p caps line (number_of c.rates left j)) (number_of c.active_times left j) u
@@ -60,10 +69,10 @@ module _ {p : Profile} {caps : LineCaps} {line : ℕ} {c : Charges} {left : List
           }
 
       -- one that is as short as that is no longer than the run
-      pub rate_long : (f : Found c left (length left) rate s.shortest) → number_of c.active_times left f.who ≤ run_of (room_under p caps line rate) s.longest a
+      pub rate_long : (f : Found c left (length left) rate (shortest_of s)) → number_of c.active_times left f.who ≤ run_of (room_under p caps line rate) (longest_of s) a
       rate_long f =
           omega (
             arith,
             f.time_is,
-            run_least (room_under p caps line rate) s.shortest s.longest _ a t.1.least z.in_order,
+            run_least (room_under p caps line rate) (shortest_of s) (longest_of s) _ a t.1.least z.in_order,
           )

@@ -25,6 +25,7 @@ use Rattle.search.specs.Caps.{CapsShown, room_under}
 use Rattle.search.proofs.Unders.{run_shows, misses_fails}
 use Rattle.priority.specs.declared.crowd.Crowd as code
 use Rattle.priority.specs.Numbers.{number_of}
+use Rattle.priority.specs.Crowds.{longest_of}
 use Rattle.priority.specs.Chosen.{fits_run, Ahead}
 use Rattle.lines.specs.declared.next.Next.{Next}
 use Rattle.lines.specs.Next.{NextAt}
@@ -73,16 +74,16 @@ module _ {cap : Caps} {caps : LineCaps} {site clock : ℕ} {c : Charges} {line :
   start_near = omega (arith, r.high, near, shows.ends (length p - 1) (omega (arith, shows.formed.some)))
 
   -- a charge fits exactly when it is no longer than the run
-  fits_same : (j : ℕ) → j < length left → fits s (left_at c left j) ≡ fits_run c left (run_of (room_under p caps line 1) next.crowd.one.longest s) (run_of (room_under p caps line 2) next.crowd.two.longest s) j
+  fits_same : (j : ℕ) → j < length left → fits s (left_at c left j) ≡ fits_run c left (run_of (room_under p caps line 1) (longest_of next.crowd.one) s) (run_of (room_under p caps line 2) (longest_of next.crowd.two) s) j
   fits_same j b =
       rw (are.on_line j b)
       (⊎_elim
       (λ l.
       let e : 1 ≡ number_of c.rates left j = omega (arith, (h.small (get_or left j 0) (are.inside j b)).is_rate.low) in
-      rw (← e) (run_shows on shows shown 1 (number_of c.active_times left j) next.crowd.one.longest s start_low (r.bounds.one j b e)))
+      rw (← e) (run_shows on shows shown 1 (number_of c.active_times left j) (longest_of next.crowd.one) s start_low (r.bounds.one j b e)))
       (λ l.
       let e : 2 ≡ number_of c.rates left j = omega (arith, (h.small (get_or left j 0) (are.inside j b)).is_rate.high) in
-      rw (← e) (run_shows on shows shown 2 (number_of c.active_times left j) next.crowd.two.longest s start_low (r.bounds.two j b e)))
+      rw (← e) (run_shows on shows shown 2 (number_of c.active_times left j) (longest_of next.crowd.two) s start_low (r.bounds.two j b e)))
       (below_or_not (number_of c.rates left j) 2))
 
   taken_fits : fits s (left_at c left next.place) ≡ true

@@ -1,3 +1,4 @@
+pub mod OnLine
 pub mod Next
 pub mod Lines
 pub mod Rounds

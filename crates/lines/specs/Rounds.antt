@@ -1,5 +1,7 @@
 -- The rounds of replan by lines, as the rules have them.
-use Rattle.std.specs.Prelude.{◌≡◌, ℕ, ◌+◌, ◌≤◌, ◌<◌, cond, eqb, Option, Some, None}
+use Rattle.std.specs.Prelude.{◌≡◌, ℕ, ◌+◌, ◌≤◌, ◌<◌, cond, eqb, List, Option, Some, None, Result}
+use Rattle.std.specs.declared.ops.ControlFlow.{ControlFlow}
+use Rattle.std.specs.declared.ops.ControlFlow.TheVariants.{Break, Continue}
 use Rattle.rules.specs.Replan as rules
 use Rattle.rules.specs.Replan.{largest_line, smallest_line, ends, lowers, round}
 use Rattle.rules.specs.Load.{IsLine}
@@ -9,19 +11,22 @@ use Rattle.charges.specs.Arrays.{charges_of}
 use Rattle.profile.specs.Shows.{Profile, level_of, levels, first_minute, Formed, most_drawn}
 use Rattle.search.specs.declared.caps.LineCaps.{LineCaps}
 use Rattle.search.specs.Caps.{CapsShown}
+use Rattle.planner.specs.declared.cause.Cause.{Cause}
 use Rattle.planner.specs.Ready.{terms_of}
 use Rattle.planner.specs.Starts.{waiting_count}
-use Rattle.planner.specs.Answers.{proposal_of, FilledBy}
+use Rattle.planner.specs.Answers.{proposal_of, ForEach}
 use Rattle.lines.specs.declared.place.Task.{Task}
 use Rattle.lines.specs.declared.rounds.Replanned.{Replanned}
 use Rattle.lines.specs.declared.rounds.Lowering.{Lowering}
-use Rattle.lines.specs.declared.rounds.Round.{Round}
-use Rattle.lines.specs.declared.rounds.Round.TheVariants.{Ends, Lowers}
 
--- what came of a round with so many waiting charges
-abbrev pub outcome : ℕ → Round → rules.Outcome
-outcome n (Ends p) = ends (proposal_of n p)
-outcome n (Lowers x) = lowers x.line x.minute x.cap
+-- a round ends the replan with what is proposed, or goes on with a cap that is lowered
+abbrev pub Round : Type 0
+Round = ControlFlow (Result (List ℕ) Cause) Lowering
+
+-- what came of a round
+abbrev pub outcome : Round → rules.Outcome
+outcome (Break p) = ends (proposal_of p)
+outcome (Continue x) = lowers x.line x.minute x.cap
 
 -- what minute t asks for, seen from the profile of a plan and that of what stands alone
 abbrev pub asked_in : Profile → Profile → ℕ → ℕ → Option Lowering
@@ -39,20 +44,20 @@ pub record Comparable (p base : Profile) (t bound : ℕ) : Type 0 where
   pub small : (l : ℕ) → IsLine l → level_of p l t ≤ most_drawn
   pub bound_most : bound ≤ 60
 
--- unused places of what is proposed are 0; of a lowering the minute is a number of 32 bits, and the cap is not below the bound
+-- each of n waiting charges has a start in what is proposed; of a lowering the minute is a number of 32 bits, and the cap is not below the bound
 abbrev pub Fits : ℕ → ℕ → Round → Type 0
-Fits n bound (Ends p) = FilledBy n p
-Fits n bound (Lowers x) = (x.minute < 4294967295) × (bound ≤ x.cap)
+Fits n bound (Break p) = ForEach n p
+Fits n bound (Continue x) = (x.minute < 4294967295) × (bound ≤ x.cap)
 
 -- the answer is what came of the round under the caps, whatever they are
 pub record Plays (k : Task) (caps : LineCaps) (r : Round) : Type 0 where
   pub same :
       (cap : Caps)
       → CapsShown caps k.beside.limits.site cap
-      → round (terms_of k.beside) k.beside.clock (charges_of k.charges.now) cap ≡ outcome (waiting_count k.beside.clock k.charges.now) r
+      → round (terms_of k.beside) k.beside.clock (charges_of k.charges.now) cap ≡ outcome r
   pub fits : Fits (waiting_count k.beside.clock k.charges.now) k.beside.limits.bound r
 
 -- the answer is this proposal, with the rounds made for it
 pub record Replans (clock : ℕ) (c : Charges) (p : rules.Replanned) (r : Replanned) : Type 0 where
-  pub same : p ≡ record { proposal = proposal_of (waiting_count clock c) r.proposed; rounds = r.rounds }
-  pub filled : FilledBy (waiting_count clock c) r.proposed
+  pub same : p ≡ record { proposal = proposal_of r.proposed; rounds = r.rounds }
+  pub many : ForEach (waiting_count clock c) r.proposed

@@ -3,11 +3,12 @@ ghost use Rattle.std.specs.Prelude.{◌-◌};
 ghost use Rattle.rules.specs.Load.{IsLine};
 ghost use Rattle.lines.specs.Lines.{CanPlace, LinesUnder, ShowsStanding};
 
-use crate::next::next_charge;
+use crate::next::Room;
 use charges::places::Places;
 use charges::{Charges, PLACES};
 use planner::Beside;
 use planner::draws::draw_at;
+use priority::choice::Left;
 use priority::crowd::crowd_of;
 use profile::loads::Profile;
 use queues::line::on_line;
@@ -33,25 +34,30 @@ pub fn place_line<const N: usize>(
     ensures { LinesUnder caps.now task.now line profile.new by_place.new }
 {
     let charges = task.charges;
-    let mut left = on_line(task.queue, &charges.lines, line);
-    let mut crowd = crowd_of(charges, left.as_slice());
+    let mut places = on_line(task.queue, &charges.lines, line);
+    let mut crowd = crowd_of(charges, places.as_slice());
     let mut from = task.beside.clock;
-    while let Some(next) = next_charge(
-        profile.steps(),
-        caps,
-        line,
-        charges,
-        left.as_slice(),
-        crowd,
-        from,
-    ) {
-        let place = left.as_slice()[next.place];
+    loop {
+        let room = Room {
+            steps: profile.steps(),
+            caps,
+            line,
+        };
+        let left = Left {
+            charges,
+            places: places.as_slice(),
+            crowd,
+        };
+        let Some(next) = room.next_charge(&left, from) else {
+            return;
+        };
+        let place = places.as_slice()[next.place];
         let draw = draw_at(charges, place);
         from = next.start;
         crowd = next.crowd;
         profile.add(draw, from);
         by_place[place] = from;
-        left.remove(next.place);
+        places.remove(next.place);
     }
 }
 

@@ -7,7 +7,8 @@ ghost use Rattle.lines.specs.Lines.{CanPlace, ShowsStanding};
 ghost use Rattle.lines.specs.Rounds.{Comparable, Plays, Replans, asked_in};
 
 use crate::place::{Task, place_lines};
-use charges::{Charges, PLACES};
+use charges::Charges;
+use charges::starts::Starts;
 use planner::Beside;
 use planner::cause::Cause;
 use planner::standing::add_standing;
@@ -17,6 +18,7 @@ use profile::loads::Profile;
 use profile::steps::{Step, place};
 use queues::by_latest_start;
 use search::caps::LineCaps;
+use std::ops::ControlFlow;
 
 // From the minute on the cap of the line is no longer above this one.
 #[derive(Clone, Copy)]
@@ -26,16 +28,13 @@ pub struct Lowering {
     pub cap: u32,
 }
 
-// A round ends the replan with what is proposed, or a line's cap has to be lowered.
-pub enum Round {
-    Ends(Result<[u32; PLACES], Cause>),
-    Lowers(Lowering),
-}
+// A round ends the replan with what is proposed, or goes on with a line's cap that has to be lowered.
+type Round = ControlFlow<Result<Starts, Cause>, Lowering>;
 
 // What replan by lines proposes, with the rounds made for it.
-#[derive(Clone, Copy)]
+#[derive(Drop)]
 pub struct Replanned {
-    pub proposed: Result<[u32; PLACES], Cause>,
+    pub proposed: Result<Starts, Cause>,
     pub rounds: u32,
 }
 
@@ -71,12 +70,12 @@ fn play<const N: usize>(
     let bound = task.beside.limits.bound;
     let Some(minute) = first_unbalanced(plan.steps(), bound) else {
         let starts = waiting_starts(task.charges, task.beside.clock, &by_place);
-        return Round::Ends(Ok(starts));
+        return ControlFlow::Break(Ok(starts));
     };
     match unbalanced_in(plan.steps(), standing.steps(), minute, bound) {
-        Some(lowering) => Round::Lowers(lowering),
+        Some(lowering) => ControlFlow::Continue(lowering),
         // No placed charge is to blame.
-        None => Round::Ends(Err(Cause::NoStart)),
+        None => ControlFlow::Break(Err(Cause::NoStart)),
     }
 }
 
@@ -98,8 +97,8 @@ pub fn by_lines<const N: usize>(beside: Beside<'_>, charges: &Charges, allowance
     let most = allowance.max(1);
     for rounds in 1..=most {
         match play(&mut plan, &standing, &task, &caps) {
-            Round::Ends(proposed) => return Replanned { proposed, rounds },
-            Round::Lowers(Lowering { line, minute, cap }) => caps.lower(line, minute, cap),
+            ControlFlow::Break(proposed) => return Replanned { proposed, rounds },
+            ControlFlow::Continue(Lowering { line, minute, cap }) => caps.lower(line, minute, cap),
         }
     }
     Replanned {

@@ -18,7 +18,7 @@ use Rattle.charges.specs.Arrays.{charge_at, charges_of}
 use Rattle.planner.proofs.Showing.{length_loads_of}
 use Rattle.planner.proofs.StandingLoads.{plannable_drawable}
 use Rattle.orders.specs.declared.sought.Sought.{Sought}
-use Rattle.orders.specs.Asked.{draw_sought, start_sought, OrderBeside, CanOrder}
+use Rattle.orders.specs.Asked.{start_sought, OrderBeside, CanOrder}
 use Rattle.orders.proofs.Drawings.{sound_beside, lent_can_order}
 use Rattle.station.specs.declared.Feeder.{Feeder}
 use Rattle.station.specs.declared.Station.{Station}
@@ -71,7 +71,7 @@ module _ {s : Station} {o : Order} (u : Unrefused s o) where
         )
 
     -- the feeder's plan with what it sees is sound, and the order's charge is alone
-    plan : OrderBeside (seen_by s o) s.clock (limits_for (feeder_at s p) s.site) (draw_sought (sought_by s p o))
+    plan : OrderBeside (seen_by s o) s.clock (limits_for (feeder_at s p) s.site) (sought_by s p o).draw
     plan =
         record {
           drawable = plannable_drawable (seen_by s o) (seen_plannable (view s) u.valid.state o.feeder granted.is_feeder_lem);

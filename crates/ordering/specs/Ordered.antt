@@ -1,5 +1,5 @@
 -- An order in the words of the rules, its refusals by numbers, and what is sought for it on its feeder.
-use Rattle.std.specs.Prelude.{ℕ, ◌≡◌, Bool, ◌||◌, List, [], ◌∷◌, ltb, leb}
+use Rattle.std.specs.Prelude.{ℕ, ◌+◌, ◌≡◌, Bool, ◌||◌, List, [], ◌∷◌, ltb, leb}
 use Rattle.rules.specs.Basics.{Found, first_of}
 use Rattle.rules.specs.Site.{places}
 use Rattle.rules.specs.Calls.{Call, preview, commit, refusals, draw_for, start_for}
@@ -33,10 +33,7 @@ sought_by s p o =
     record {
       limits = limits_for (feeder_at s p) s.site;
       clock = s.clock;
-      tail = (feeder_at s p).tail;
-      line = o.line;
-      time = o.time;
-      rate = o.rate;
+      draw = record { line = o.line; time = o.time + (feeder_at s p).tail; rate = o.rate };
     }
 
 -- the start that the rules give an order

@@ -22,7 +22,7 @@ pub fn order_refusal(limits: Limits, held: usize, next: u32, order: Order) -> Re
     if !(1..=2).contains(&order.rate) {
         return Err(Refusal::RateOutOfRange);
     }
-    if limits.limit < order.rate || limits.bound < order.rate || limits.site < order.rate {
+    if !limits.allow_rate(order.rate) {
         return Err(Refusal::RateTooLarge);
     }
     if 2000000 < order.due {

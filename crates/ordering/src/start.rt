@@ -1,5 +1,5 @@
 // The start of an order. The only feeder of a station lends what its own charges draw; of several all that the site draws is gathered first.
-ghost use Rattle.std.specs.Prelude.{◌≡◌, ◌+◌, ◌<◌, [], length};
+ghost use Rattle.std.specs.Prelude.{◌≡◌, ◌+◌, []};
 ghost use Rattle.rules.specs.Basics.{at as found};
 ghost use Rattle.rules.specs.Calls.{step};
 ghost use Rattle.station.specs.View.{view, Valid};
@@ -11,6 +11,7 @@ use crate::Order;
 use crate::refusal::order_refusal;
 use orders::sought::Sought;
 use orders::start::earliest_start;
+use profile::loads::Draw;
 use profile::{FEEDER_STEPS, STEPS};
 use refusals::Refusal;
 use station::Station;
@@ -20,19 +21,20 @@ const FEW: usize = 60;
 
 const FEW_STEPS: usize = 2 * FEW + 1;
 
-// What is sought for an order on the feeder at the place.
+// What is sought for an order that is not refused, on its feeder at the place: its charge draws for the charging time and the tail.
 fn sought(station: &Station, place: usize, order: Order) -> Sought
-    requires { place < length station.now.feeders }
+    requires { Unrefused station.now order × (order.feeder ≡ place + 1) }
     ensures { result ≡ sought_by station.now place order }
 {
     let feeder = &station.feeders[place];
     Sought {
         limits: feeder.limits(station.site),
         clock: station.clock,
-        tail: feeder.tail,
-        line: order.line,
-        time: order.time,
-        rate: order.rate,
+        draw: Draw {
+            line: order.line,
+            time: order.time + feeder.tail,
+            rate: order.rate,
+        },
     }
 }
 

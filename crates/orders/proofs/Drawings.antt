@@ -8,7 +8,7 @@ use Rattle.profile.specs.Steps.{most_steps}
 use Rattle.search.specs.declared.limits.Limits.{Limits}
 use Rattle.search.specs.Numbers.{limits_beside}
 use Rattle.orders.specs.declared.sought.Sought.{Sought}
-use Rattle.orders.specs.Asked.{draw_sought, OrderBeside, CanOrder}
+use Rattle.orders.specs.Asked.{OrderBeside, CanOrder}
 
 -- what the limits say of the other feeders is not read: what these draw stands among the loads
 pub sound_beside :
@@ -18,6 +18,6 @@ sound_beside y others clock xs = refl
 
 -- loads that are lent
 pub lent_can_order :
-    (q : Sought) {places : ℕ} {lent xs : List Load} → lent ≡ xs → 1 + 2 * length xs ≤ places → places ≤ most_steps → OrderBeside xs q.clock q.limits (draw_sought q)
+    (q : Sought) {places : ℕ} {lent xs : List Load} → lent ≡ xs → 1 + 2 * length xs ≤ places → places ≤ most_steps → OrderBeside xs q.clock q.limits q.draw
     → CanOrder q places lent
 lent_can_order q e enough most plan = rw e (record { enough = enough; most = most; plan = plan })

@@ -11,13 +11,9 @@ use Rattle.search.specs.Numbers.{limits_beside, SoundAlone}
 use Rattle.windows.specs.Windows.{Drawable}
 use Rattle.orders.specs.declared.sought.Sought.{Sought}
 
--- what an order draws
-abbrev pub draw_sought : Sought → Draw
-draw_sought q = record { line = q.line; time = q.time + q.tail; rate = q.rate }
-
--- its start among these loads. What the other feeders draw stands among them, so that the limits say nothing of it.
+-- the start of an order among these loads. What the other feeders draw stands among them, so that the limits say nothing of it.
 abbrev pub start_sought : Sought → List Load → List Load → Found
-start_sought q others xs = earliest (limits_beside q.limits others) q.clock xs (draw_of (draw_sought q))
+start_sought q others xs = earliest (limits_beside q.limits others) q.clock xs (draw_of q.draw)
 
 -- a sound plan of loads with numbers in range, and what none of refusals 4 to 18 turns away
 pub record OrderBeside (xs : List Load) (clock : ℕ) (y : Limits) (a : Draw) : Type 0 where
@@ -33,4 +29,4 @@ pub record OrderBeside (xs : List Load) (clock : ℕ) (y : Limits) (a : Draw) : 
 pub record CanOrder (q : Sought) (places : ℕ) (xs : List Load) : Type 0 where
   pub enough : 1 + 2 * length xs ≤ places
   pub most : places ≤ most_steps
-  pub plan : OrderBeside xs q.clock q.limits (draw_sought q)
+  pub plan : OrderBeside xs q.clock q.limits q.draw

@@ -7,7 +7,7 @@ ghost use Rattle.orders.specs.Asked.{start_sought, CanOrder};
 
 use crate::sought::Sought;
 use charges::loads::Loads;
-use profile::loads::{Draw, Profile};
+use profile::loads::Profile;
 use search::candidate::first_fitting;
 use windows::add_started;
 
@@ -22,11 +22,7 @@ pub fn earliest_start<const N: usize>(sought: Sought, loads: Loads<'_>) -> u32
     ensures { (others : List Load) → start_sought sought others (loads_lent loads.entry) ≡ found result }
 {
     let clock = sought.clock;
-    let draw = Draw {
-        line: sought.line,
-        time: sought.time + sought.tail,
-        rate: sought.rate,
-    };
+    let draw = sought.draw;
     let mut profile = Profile::<N>::new(clock);
     let mut start = clock;
     let mut low = 0;

@@ -1,25 +1,21 @@
--- Texts at the right of a column, digit by digit, and how long they are.
-use mathlib.Core.Path.{◌≡◌, refl, ap, ◌∙◌}
-use mathlib.Core.Logic.{⊎_elim}
+-- Texts at the right of a column, and how long they are.
+use mathlib.Core.Path.{◌≡◌, refl, sym, ap, ◌∙◌}
 use mathlib.Core.List.{List, [], ◌∷◌, ◌++◌, append_assoc}
-use Prim.Native.Nat.{ℕ, zero, suc, ◌+◌, ◌-◌, ◌/◌, ◌%◌, ◌*◌, ◌^◌, ◌≤◌, ◌<◌}
-use native.Mathlib.Nat.{pow-succ'}
-use native.Mathlib.Numerals.{add-one}
+use Prim.Native.Nat.{ℕ, zero, suc, ◌+◌, ◌-◌, ◌^◌, ◌≤◌, ◌<◌}
 use native.Mathlib.Omega.{arith}
-use lib.ListN.{length, length-append}
+use lib.ListN.{length, take, drop, replicate, length-append}
+use lib.Seq.{take-append_seam}
+use Rattle.std.proofs.lemmas.Fmt.{length-decimal-le}
+use Rattle.std.proofs.lemmas.List.{take-append-drop, take-replicate}
 use Rattle.text.specs.Numbers.{decimal}
-use Rattle.text.proofs.Values.{decimal_small, decimal_more, decimal_longer}
-use Rattle.rules.proofs.Ranges.{below_or_not}
+use Rattle.text.proofs.Values.{same_digits}
 use Rattle.page.specs.Lines.{spaces, at_right, at_left, column}
 use Rattle.page.specs.Lined.{Fits}
 
--- one space more
-pub spaces_more : (n : ℕ) → spaces (n + 1) ≡ spaces n ++ (32 ∷ [])
-spaces_more n = rw (add-one n) (go n)
-  where
-    go : (n : ℕ) → spaces (suc n) ≡ spaces n ++ (32 ∷ [])
-    go zero = refl
-    go (suc n) = ap (λ (l : List ℕ). 32 ∷ l) (go n)
+-- spaces are what the library fills places with
+pub spaces_filled : (n : ℕ) → spaces n ≡ replicate n 32
+spaces_filled zero = refl
+spaces_filled (suc n) = ap (λ (l : List ℕ). 32 ∷ l) (spaces_filled n)
 
 pub length_spaces : (n : ℕ) → length (spaces n) ≡ n
 length_spaces zero = refl
@@ -38,38 +34,22 @@ pub length_column : (width : ℕ) (text : List ℕ) → length text ≤ width �
 length_column width text h =
     length-append (at_right width text) (32 ∷ []) ∙ omega (arith, length_right width text h)
 
--- Digits
+-- a text that is put into spaces so that it ends where the column does
+pub right_put :
+    (text : List ℕ) (width room start : ℕ) (place : List ℕ) → width ≤ room → start + length text ≡ width
+    → drop start place ≡ text ++ drop width (replicate room 32) → take start place ≡ take start (replicate room 32)
+    → take width place ≡ at_right width text
+right_put text width room start place h size written before =
+    let left : start ≡ width - length text = omega arith in
+    let spaced : take start place ≡ spaces (width - length text) = before ∙ take-replicate start room 32 (omega arith) ∙ rw (left, spaces_filled (width - length text)) in
+    let whole : place ≡ at_right width text ++ drop width (replicate room 32) =
+    sym (take-append-drop start place) ∙ rw (spaced, written, append_assoc (spaces (width - length text)) text (drop width (replicate room 32))) in
+    let fills : length (at_right width text) ≡ width = length_right width text (omega arith) in
+    rw whole (ap (λ k. take k (at_right width text ++ drop width (replicate room 32))) (sym fills) ∙ take-append_seam (at_right width text) (drop width (replicate room 32)))
 
 -- a number below 10 ^ k has at most k digits
-pub few_digits : (k n : ℕ) → n < 10 ^ suc k → n < 2 ^ 64 → length (decimal n) ≤ suc k
-few_digits zero n h l = let small : n < 10 = omega arith in omega (arith, ap length (decimal_small n small))
-few_digits (suc k) n h l =
-    let e : n < 10 * 10 ^ suc k = rw (pow-succ' 10 (suc k)) at h in
-    ⊎_elim
-    (λ small. omega (arith, ap length (decimal_small n small)))
-    (λ large. omega (arith, decimal_longer n large l, few_digits k (n / 10) (omega arith) (omega arith)))
-    (below_or_not n 10)
-
-module _ (n width : ℕ) where
-  pub some_digit : n < 10 → length (decimal n) ≤ width → 1 ≤ width
-  some_digit h k = omega (arith, ap length (decimal_small n h))
-
-  pub more_digits : 10 ≤ n → n < 2 ^ 64 → length (decimal n) ≤ width → length (decimal (n / 10)) + 1 ≤ width
-  more_digits h l k = omega (arith, decimal_longer n h l)
-
-  -- the last digit, behind spaces, or behind the digits before it
-  module _ {digit : ℕ} (old : List ℕ) {mid new : List ℕ} (put : new ≡ mid ++ ((48 + digit) ∷ [])) (last : digit ≡ n % 10) where
-    pub right_alone : n < 10 → mid ≡ old ++ spaces (width - 1) → new ≡ old ++ at_right width (decimal n)
-    right_alone h p =
-        let e : digit ≡ n = omega arith in
-        put ∙ rw (p, e, decimal_small n h, append_assoc old (spaces (width - 1)) ((48 + n) ∷ []))
-
-    pub right_behind :
-        10 ≤ n → n < 2 ^ 64 → mid ≡ old ++ at_right (width - 1) (decimal (n / 10)) → new ≡ old ++ at_right width (decimal n)
-    right_behind h l p =
-        let e : width - 1 - length (decimal (n / 10)) ≡ width - length (decimal n) = omega (arith, decimal_longer n h l) in
-        put
-        ∙ rw (p, e, last, append_assoc old (spaces (width - length (decimal n)) ++ decimal (n / 10)) ((48 + n % 10) ∷ []), append_assoc (spaces (width - length (decimal n))) (decimal (n / 10)) ((48 + n % 10) ∷ []), decimal_more n h l)
+few_digits : (k n : ℕ) → n < 10 ^ suc k → n < 2 ^ 64 → length (decimal n) ≤ suc k
+few_digits k n h l = rw (← same_digits n l) (length-decimal-le (suc k) n (omega arith) h l)
 
 -- the numbers of a row have no more digits than their columns have places
 module _ {ticket line start end : ℕ} (f : Fits ticket line start end) where

@@ -10,6 +10,7 @@ use Rattle.rules.specs.Charge.{Charge, end_of, is_begun}
 use Rattle.rules.proofs.Lists.{each_append}
 use Rattle.text.specs.Numbers.{decimal}
 use Rattle.page.specs.Lines.{at_left, column, columns, ticket_word, line_word, start_word, end_word, state_word, heading, state_of, row_of, row, blank, no_station_words, no_station}
+use Rattle.page.specs.declared.row.TheConstants.{NO_STATION}
 use Rattle.page.specs.Lined.{Fits, ChargeFits, Character, Lined, no_line, one_more}
 use Rattle.page.proofs.Aligning.{length_column, length_left, ticket_digits, line_digits, start_digits, end_digits}
 use Rattle.page.proofs.Characters.{decimal_shown, column_shown, left_shown, characters}
@@ -82,6 +83,10 @@ blank_lined =
 -- "A refused image prints only the row .., without a heading": one line
 pub no_station_lined : Lined 1 no_station
 no_station_lined = one_line (at_left 37 no_station_words) refl (characters (at_left 37 no_station_words) refl)
+
+-- as the code has it, for who prints it
+pub no_station_is : NO_STATION.now ≡ no_station
+no_station_is = refl
 
 pub row_lined : (clock : ℕ) (c : Charge) → ChargeFits c → Lined 1 (row clock c)
 unfolding row_of

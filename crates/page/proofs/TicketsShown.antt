@@ -6,6 +6,7 @@ use Prim.Native.Nat.{ℕ, zero, suc, ◌-◌, ◌≤◌}
 use native.Mathlib.Omega.{arith}
 use lib.Dec.{eqb}
 use lib.ListN.{length, take}
+use lib.Seq.{take-append_seam}
 use borrow.Author.Tests.{ne_eqb}
 use Rattle.rules.specs.Basics.{Each}
 use Rattle.rules.specs.Charge.{Charge, end_of, is_begun}
@@ -19,7 +20,6 @@ use Rattle.page.specs.Lined.{ChargeFits}
 use Rattle.page.proofs.Aligning.{length_right, ticket_digits}
 use Rattle.page.proofs.Characters.{digits_each}
 use Rattle.page.proofs.Paging.{row_fits}
-use Rattle.page.proofs.Standing.{front_taken}
 
 abbrev after_spaces : List ℕ → List ℕ
 after_spaces [] = []
@@ -41,7 +41,7 @@ digits_high n = digits_each (λ b. 48 ≤ b) (λ digit l. omega arith) 20 n
 
 front_column : (xs more : List ℕ) → length xs ≡ 6 → take 6 ((xs ++ (32 ∷ [])) ++ more) ≡ xs
 front_column xs more e =
-    rw (append_assoc xs (32 ∷ []) more) (ap (λ (k : ℕ). take k (xs ++ (32 ∷ more))) (sym e) ∙ front_taken xs (32 ∷ more))
+    rw (append_assoc xs (32 ∷ []) more) (ap (λ (k : ℕ). take k (xs ++ (32 ∷ more))) (sym e) ∙ take-append_seam xs (32 ∷ more))
 
 first_column : (t l s e w : List ℕ) → length t ≤ 6 → take 6 (columns t l s e w) ≡ at_right 6 t
 first_column t l s e w h =

@@ -4,5 +4,5 @@
 mod pages;
 mod row;
 
-pub use pages::print_pages;
-pub use row::print_no_station;
+pub use pages::{Listing, MOST_BYTES};
+pub use row::NO_STATION;

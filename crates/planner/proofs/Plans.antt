@@ -30,7 +30,6 @@ use Rattle.planner.specs.Placed.{Missing, plan_of, PlanShown, AllPlaced}
 use Rattle.planner.proofs.Placing.{place_none, place_on_lem, place_stuck}
 use Rattle.planner.proofs.Queueing.{charge_in, queue_from, Queue, places_apart}
 use Rattle.planner.proofs.Showing.{begun_end_most}
-use Rattle.planner.proofs.StandingLoads.{spacious_room}
 use Rattle.planner.proofs.Growing.{plan_length, plan_can_add, plan_on}
 
 -- the start that the rules look for
@@ -92,7 +91,7 @@ module _ {b : Beside} {c : Charges} {q : List ℕ} {k : ℕ} {p : Profile} {star
     inside = u.places.inside k low
 
     plan_few : length (plan_of (terms_of b) b.clock c v.placed) ≤ 720
-    plan_few = omega (arith, plan_length (terms_of b) b.clock c v.placed, v.many, u.room, spacious_room b room, room.most)
+    plan_few = omega (arith, plan_length (terms_of b) b.clock c v.placed, v.many, u.room, room.enough, room.most)
 
     pub next_can_start : CanStart p a.time
     next_can_start =
@@ -124,7 +123,7 @@ module _ {b : Beside} {c : Charges} {q : List ℕ} {k : ℕ} {p : Profile} {star
         near = omega (arith, (earliest_first (terms_of b) b.clock (plan_of (terms_of b) b.clock c v.placed) (draw_of (charge_in c q k)) s (found ∙ ap found_at g)).high)
 
         pub next_can_add : CanAdd p size a s
-        next_can_add = plan_can_add r.listed v.plan (get_or q k 0) s inside near drawn (spacious_room b room) room.most (omega (arith, v.many, u.room))
+        next_can_add = plan_can_add r.listed v.plan (get_or q k 0) s inside near drawn room.enough room.most (omega (arith, v.many, u.room))
 
         pub next_placed : {p' : Profile} → LoadAdded p p' a s → PlacedSoFar (terms_of b) b.clock c q (k + 1) p' (set starts (get_or q k 0) s)
         next_placed more =

@@ -18,7 +18,7 @@ use Rattle.planner.proofs.Plans.{sound_in}
 module _ (y : Limits) {clock : ℕ} {c : Charges} {q : List ℕ} (u : Queue clock c q) where
   pub latest_none : place_all (sound_in y clock c) [] (queue_from c q 0) ≡ stuck → Proposes clock c (latest y clock (charges_of c)) (Err NoStart)
   unfolding latest
-  latest_none e = record { same = rw (← u.charges, e); filled = tt }
+  latest_none e = record { same = rw (← u.charges, e); many = tt }
 
   pub latest_starts :
       {p : Profile} {by_place listed : List ℕ}
@@ -26,4 +26,4 @@ module _ (y : Limits) {clock : ℕ} {c : Charges} {q : List ℕ} (u : Queue cloc
       → WaitingStarts clock c by_place listed
       → Proposes clock c (latest y clock (charges_of c)) (Ok listed)
   unfolding latest
-  latest_starts a w = record { same = rw (← u.charges, a.gives, w.gives a.placed a.plan.stored); filled = w.filled }
+  latest_starts a w = record { same = rw (← u.charges, a.gives, w.gives a.placed a.plan.stored); many = w.many }

@@ -7,7 +7,7 @@ use lib.Dec.{eqb}
 use Rattle.rules.specs.Load.{Load, last_until, Limits, limit_at, balance_at, sound_at, from_on, sound}
 use Rattle.rules.specs.Search.{first_unbalanced}
 use Rattle.rules.proofs.Ranges.{and_left, and_right, and_both, fails, throughout_at, throughout_all}
-use Rattle.std.specs.Prelude.{Option, Some, None, Result, Ok, Err, is_ok}
+use Rattle.std.specs.Prelude.{Option, Some, None, is_some, Result, Ok, Err, is_ok}
 use Rattle.profile.specs.Shows.{Profile, Shows, found_at}
 use Rattle.profile.specs.Balance.{WithinLimit, Unbalanced}
 use Rattle.planner.proofs.Causes.{none_unbalanced, some_unbalanced}
@@ -72,8 +72,16 @@ module _ (y : Limits) (clock : ℕ) (xs : List Load) {p : Profile} (shows : Show
     found : first_unbalanced y clock xs ≡ found_at first
     found = found_by clock xs y.limit y.site y.others shows
 
-    pub loads_unbalanced : {t : ℕ} → within ≡ true → first ≡ Some t → 6 ≡ broken y clock xs
-    loads_unbalanced {t} e m = rw (kept ∙ e, some_unbalanced y clock xs t (found ∙ ap found_at m))
+    pub loads_unbalanced : within ≡ true → is_some first ≡ true → 6 ≡ broken y clock xs
+    loads_unbalanced e h = go first refl h
+      where
+        go : (o : Option ℕ) → first ≡ o → is_some o ≡ true → 6 ≡ broken y clock xs
+        go (Some t) m s = rw (kept ∙ e, some_unbalanced y clock xs t (found ∙ ap found_at m))
+        go None m s = absurd (true≢false (sym s))
 
-    pub loads_kept : within ≡ true → first ≡ None → 0 ≡ broken y clock xs
-    loads_kept e n = rw (kept ∙ e, none_unbalanced y clock xs (found ∙ ap found_at n))
+    pub loads_kept : within ≡ true → is_some first ≡ false → 0 ≡ broken y clock xs
+    loads_kept e h = go first refl h
+      where
+        go : (o : Option ℕ) → first ≡ o → is_some o ≡ false → 0 ≡ broken y clock xs
+        go (Some t) m s = absurd (true≢false s)
+        go None m s = rw (kept ∙ e, none_unbalanced y clock xs (found ∙ ap found_at m))

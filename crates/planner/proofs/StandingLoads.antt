@@ -14,7 +14,7 @@ use Rattle.rules.proofs.Lists.{length_keep, length_tabulate, each_map}
 use Rattle.charges.specs.declared.Charges.{Charges}
 use Rattle.charges.specs.Arrays.{charge_at, charges_of}
 use Rattle.charges.specs.Drawn.{loads_lent}
-use Rattle.charges.proofs.Drawing.{loads_length, loads_begun}
+use Rattle.charges.proofs.Drawing.{loads_begun}
 use Rattle.profile.specs.Steps.{most_steps}
 use Rattle.profile.specs.Shows.{Profile, Shows}
 use Rattle.windows.specs.Windows.{starts_in, started, Drawable, CanAddStarted, StartedAdded}
@@ -55,14 +55,8 @@ can_add_before {size} {clock} {p} {loads} s high xs each few most =
 module _ (b : Beside) where
   -- What the other feeders draw
 
-  others_length : length (loads_lent b.others) ≡ b.others.held
-  others_length = loads_length b.others.held b.others.lines.now b.others.active_times.now b.others.starts.now b.others.rates.now
-
-  pub spacious_room : {size : ℕ} → Spacious b size → 1 + 2 * (length (loads_lent b.others) + places) ≤ size
-  spacious_room space = omega (arith, space.enough, others_length)
-
   pub others_can_add : {size : ℕ} {p : Profile} → Spacious b size → Shows p b.clock [] → CanAddStarted p size (loads_lent b.others) 0 4294967295
-  others_can_add space s = can_add_before s 4294967295 (loads_lent b.others) b.others_fit.plannable (omega (arith, spacious_room space)) space.most
+  others_can_add space s = can_add_before s 4294967295 (loads_lent b.others) b.others_fit.plannable (omega (arith, space.enough)) space.most
 
   pub others_shown : {p q : Profile} → Shows p b.clock [] → StartedAdded p q (loads_lent b.others) 0 4294967295 → Shows q b.clock (loads_lent b.others)
   others_shown s a =
@@ -76,7 +70,7 @@ module _ (b : Beside) where
     few = omega (arith, ap length lent, length_loads_of (charges_of c), length_tabulate (charge_at c) c.held 0, c.few)
 
     pub own_can_add : {size : ℕ} → Spacious b size → CanAddStarted p size xs 0 before
-    own_can_add space = can_add_before s before xs (rw lent v.plannable) (omega (arith, spacious_room space, few)) space.most
+    own_can_add space = can_add_before s before xs (rw lent v.plannable) (omega (arith, space.enough, few)) space.most
 
     pub own_shown : {q : Profile} → StartedAdded p q xs 0 before → Shows q b.clock (seen (terms_of b) (begun_charges before (charges_of c)))
     own_shown a =

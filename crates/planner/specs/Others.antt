@@ -1,5 +1,5 @@
 -- What the other feeders draw, beside a plan.
-use Rattle.std.specs.Prelude.{ℕ, ◌*◌, ◌≤◌, ◌<◌, List, [], ◌∷◌}
+use Rattle.std.specs.Prelude.{ℕ, ◌*◌, ◌≤◌, ◌<◌, List, [], ◌∷◌, length}
 use Rattle.std.specs.Coded.{×_prop, Unit-prop, le_prop}
 use Rattle.rules.specs.Basics.{Each}
 use Rattle.rules.specs.Load.{Load, IsRate, last_until}
@@ -15,7 +15,7 @@ pub record Plannable (x : Load) : Type 0 where
 
 -- what up to three other feeders draw goes into a profile, and ends in time
 pub record Others (l : Loads) : Type 0 where
-  pub few : l.held ≤ 3 * places
+  pub few : length (loads_lent l) ≤ 3 * places
   pub plannable : Each Plannable (loads_lent l)
   pub end_most : last_until (loads_lent l) ≤ 100001445
 

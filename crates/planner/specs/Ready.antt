@@ -1,5 +1,5 @@
 -- What the planners ask of a feeder, and of the list for its profile.
-use Rattle.std.specs.Prelude.{ℕ, ◌+◌, ◌*◌, ◌≤◌, ◌<◌, List}
+use Rattle.std.specs.Prelude.{ℕ, ◌+◌, ◌*◌, ◌≤◌, ◌<◌, List, length}
 use Rattle.rules.specs.Basics.{Each}
 use Rattle.rules.specs.Load as rules
 use Rattle.rules.specs.Charge.{Charge, loads_of, begun_charges}
@@ -19,7 +19,7 @@ terms_of b = limits_beside b.limits (loads_lent b.others)
 
 -- a list of so many places has them for the steps of what the other feeders draw, and of 180 charges
 pub record Spacious (b : Beside) (size : ℕ) : Type 0 where
-  pub enough : 1 + 2 * (b.others.held + places) ≤ size
+  pub enough : 1 + 2 * (length (loads_lent b.others) + places) ≤ size
   pub most : size ≤ most_steps
 
 -- charges that a profile takes

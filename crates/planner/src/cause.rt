@@ -20,10 +20,10 @@ pub enum Cause {
     LatenessNotSmaller = 7,
 }
 
-impl Cause {
-    pub fn number(self) -> u32
-        ensures { result ≡ number_of self }
-    {
-        self as u32
+impl From<Cause> for u32 {
+    ghost from_gives = { λ cause n. n ≡ number_of cause };
+
+    fn from(cause: Cause) -> u32 {
+        cause as u32
     }
 }

@@ -9,14 +9,15 @@ use crate::cause::Cause;
 use crate::draws::draw_at;
 use crate::standing::add_standing;
 use crate::starts::waiting_starts;
+use charges::starts::Starts;
 use charges::{Charges, PLACES};
 use profile::loads::Profile;
 use queues::by_latest_start;
 use search::start::earliest;
 
 // Each waiting charge gets the smallest start with which what stands and those placed so far are sound. The answer: their starts in
-// ticket order, and 0 in the places behind them, since no memory is asked for a list of their number.
-pub fn latest<const N: usize>(beside: Beside<'_>, charges: &Charges) -> Result<[u32; PLACES], Cause>
+// ticket order.
+pub fn latest<const N: usize>(beside: Beside<'_>, charges: &Charges) -> Result<Starts, Cause>
     requires { Spacious beside N × Ready beside charges.now }
     ensures { Proposes beside.entry.clock charges.now (latest_of (terms_of beside.entry) beside.entry.clock (charges_of charges.now)) result }
 {
@@ -26,9 +27,7 @@ pub fn latest<const N: usize>(beside: Beside<'_>, charges: &Charges) -> Result<[
     let mut by_place = [0; PLACES];
     for place in queue.as_slice() {
         let draw = draw_at(charges, *place);
-        let Some(start) = earliest(profile.steps(), beside.limits, draw) else {
-            return Err(Cause::NoStart);
-        };
+        let start = earliest(profile.steps(), beside.limits, draw).ok_or(Cause::NoStart)?;
         profile.add(draw, start);
         by_place[*place] = start;
     }

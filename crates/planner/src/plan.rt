@@ -26,10 +26,10 @@ pub fn soundness<const N: usize>(beside: Beside<'_>, charges: &Charges) -> Resul
     if !within_limits(profile.steps(), limits.limit, limits.site) {
         return Err(Cause::AboveLimit);
     }
-    match first_unbalanced(profile.steps(), limits.bound) {
-        Some(_) => Err(Cause::AboveBound),
-        None => Ok(()),
+    if first_unbalanced(profile.steps(), limits.bound).is_some() {
+        return Err(Cause::AboveBound);
     }
+    Ok(())
 }
 
 pub fn plan_sound<const N: usize>(beside: Beside<'_>, charges: &Charges) -> bool

@@ -1,19 +1,16 @@
 // The starts that a replan gives, in ticket order.
 ghost use Rattle.planner.specs.Starts.{WaitingStarts};
 
+use charges::starts::Starts;
 use charges::{Charges, PLACES};
 
 // The starts of the waiting charges, in ticket order, from those that stand at the charges' places.
-pub fn waiting_starts(charges: &Charges, clock: u32, by_place: &[u32; PLACES]) -> [u32; PLACES]
+pub fn waiting_starts(charges: &Charges, clock: u32, by_place: &[u32; PLACES]) -> Starts
     ensures { WaitingStarts clock charges.now by_place.now result }
 {
-    let mut listed = [0; PLACES];
-    let mut k = 0;
-    for i in 0..charges.held {
-        if clock <= charges.starts[i] {
-            listed[k] = by_place[i];
-            k += 1;
-        }
+    let mut starts = Starts::none();
+    for place in charges.waiting_places(clock).as_slice() {
+        starts.push(by_place[*place]);
     }
-    listed
+    starts
 }

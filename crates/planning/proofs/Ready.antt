@@ -1,11 +1,12 @@
 -- What the planners ask, of a feeder of a valid station.
-use mathlib.Core.Path.{◌≡◌, ap, ◌∙◌}
+use mathlib.Core.Path.{◌≡◌, refl, ap, ◌∙◌}
 use Prim.Native.Nat.{ℕ, ◌<◌}
 use native.Mathlib.Omega.{arith}
 use Rattle.rules.specs.Site as rules
 use Rattle.rules.proofs.Rounding.{bound_at_most}
 use Rattle.planner.specs.declared.Beside.{Beside}
 use Rattle.planner.specs.Ready.{Ready}
+use Rattle.planner.specs.Starts.{waiting_count}
 use Rattle.station.specs.declared.Feeder.{Feeder}
 use Rattle.station.specs.declared.Station.{Station}
 use Rattle.station.specs.declared.surroundings.Surroundings.{Surroundings}
@@ -32,6 +33,10 @@ module _ {s : Station} {p : ℕ} {b : Beside} (w : CanTest s p b) where
 
   pub own_read : (other : Feeder) → read_at s p other ≡ feeder_at s p
   own_read = feeder_read s w.valid.formed w.inside
+
+  -- as many charges wait for a planner as in the station
+  pub own_waiting : (other : Feeder) → waiting_count b.clock (read_at s p other).charges ≡ waiting_count s.clock (feeder_at s p).charges
+  own_waiting other = rw (w.beside.clock, own_read other) refl
 
   -- a feeder that can be tested can be planned
   pub ready : (other : Feeder) → Ready b (read_at s p other).charges

@@ -49,7 +49,7 @@ module _ {s : Station} {n p : ℕ} (names : n ≡ p + 1) where
 
   module _
       {b : Beside} (w : CanTest s p b) {r : Result (List ℕ) Cause} {rounds : ℕ} {answer : Planned} {next : Station}
-      (t : Tests s (p + 1) rounds (proposal_of (waiting_count s.clock (feeder_at s p).charges) r) answer next)
+      (t : Tests s (p + 1) rounds (proposal_of r) answer next)
     where
       pub latest_tested :
           (other : Feeder) {q : Proposal} {made : Result (List ℕ) Cause}
@@ -60,7 +60,7 @@ module _ {s : Station} {n p : ℕ} (names : n ≡ p + 1) where
           → Gives (step (view s) (replan_latest n)) (planned_of answer) next []
       unfolding replanning_latest
       latest_tested other e h m z =
-          let same : proposal_of (waiting_count s.clock (feeder_at s p).charges) r ≡ latest (limits_of (view s) n) s.clock (charges_on (view s) n) =
+          let same : proposal_of r ≡ latest (limits_of (view s) n) s.clock (charges_on (view s) n) =
           rw (m, ← w.beside.clock) (rw (own_read w other) at (sym e.same ∙ h) ∙ rw (w.beside.terms, names, own w) refl) in
           record {
             result =
@@ -81,8 +81,7 @@ module _ {s : Station} {n p : ℕ} (names : n ≡ p + 1) where
           → Gives (step (view s) (replan_lines n allowance)) (planned_of answer) next []
       unfolding replanning_lines
       lines_tested allowance other e h m z low high =
-          let same : record { proposal = proposal_of (waiting_count s.clock (feeder_at s p).charges) r; rounds = rounds }
-          ≡ by_lines (limits_of (view s) n) s.clock allowance (charges_on (view s) n) =
+          let same : record { proposal = proposal_of r; rounds = rounds } ≡ by_lines (limits_of (view s) n) s.clock allowance (charges_on (view s) n) =
           rw (m, z, ← w.beside.clock) (rw (own_read w other) at (sym e.same ∙ h) ∙ rw (w.beside.terms, names, own w) refl) in
           record {
             result =

@@ -56,9 +56,9 @@ module _ {s : Station} {p : ℕ} {b : Beside} (w : CanTest s p b) where
 
   -- a replan without a list keeps the held plan
   pub none_tests :
-      {k : Cause} {r : Result (List ℕ) Cause} (n : ℕ) {rounds before after : ℕ} → r ≡ Err k → before ≡ lateness (charges_of (feeder_at s p).charges) → after ≡ before →
-      Tests s (p + 1) rounds (proposal_of n r) (record { cause = Some k; before = before; after = after; rounds = rounds }) s
-  none_tests {k} n {rounds} is e a = record { gives = λ list. record { result = rw is (kept_result (number_of k) rounds list e a); valid = w.valid } }
+      {k : Cause} {r : Result (List ℕ) Cause} {rounds before after : ℕ} → r ≡ Err k → before ≡ lateness (charges_of (feeder_at s p).charges) → after ≡ before →
+      Tests s (p + 1) rounds (proposal_of r) (record { cause = Some k; before = before; after = after; rounds = rounds }) s
+  none_tests {k} {rounds = rounds} is e a = record { gives = λ list. record { result = rw is (kept_result (number_of k) rounds list e a); valid = w.valid } }
 
   module _ {ss : List ℕ} {j : Judgement} {beside : Beside} (same : beside ≡ b) (e : Judges beside (feeder_at s p).charges ss j) where
     cause_is : judged (limits_of (view s) (p + 1)) s.clock (charges_on (view s) (p + 1)) ss ≡ cause_in j.taken

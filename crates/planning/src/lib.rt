@@ -24,9 +24,6 @@ impl Planned {
     pub fn cause_number(&self) -> u32
         ensures { result ≡ cause_number self.now.cause }
     {
-        match self.cause {
-            Some(cause) => cause.number(),
-            None => 0,
-        }
+        self.cause.map_or(0, u32::from)
     }
 }

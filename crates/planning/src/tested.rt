@@ -1,14 +1,13 @@
 // The test that an offer and both replans end with.
-ghost use Rattle.std.specs.Prelude.{◌≡◌, ◌+◌, ◌<◌, length};
+ghost use Rattle.std.specs.Prelude.{◌≡◌, ◌+◌, length};
 ghost use Rattle.rules.specs.Replan.{starts as starts_of};
 ghost use Rattle.planner.specs.Starts.{waiting_count};
-ghost use Rattle.planner.specs.Answers.{proposal_of};
-ghost use Rattle.station.specs.View.{Valid, feeder_at};
-ghost use Rattle.station.specs.Beside.{BesideOf};
+ghost use Rattle.planner.specs.Answers.{ForEach, proposal_of};
+ghost use Rattle.station.specs.View.{feeder_at};
 ghost use Rattle.planning.specs.Answers.{CanTest, Tests};
 
 use crate::Planned;
-use charges::PLACES;
+use charges::starts::Starts;
 use planner::Beside;
 use planner::cause::Cause;
 use plans::judged;
@@ -43,25 +42,20 @@ pub fn tested(
 }
 
 // What a replan proposes meets the test, or its cause keeps the held plan.
-pub fn replanned(
+pub(crate) fn replanned(
     station: &mut Station,
     place: usize,
     beside: Beside<'_>,
-    proposed: Result<[u32; PLACES], Cause>,
+    proposed: Result<Starts, Cause>,
     rounds: u32,
 ) -> Planned
-    requires { CanTest station.old place beside }
-    ensures { Tests station.old (place + 1) rounds (proposal_of (waiting_count station.old.clock (feeder_at station.old place).charges) proposed) result station.new }
+    requires { CanTest station.old place beside × ForEach (waiting_count station.old.clock (feeder_at station.old place).charges) proposed }
+    ensures { Tests station.old (place + 1) rounds (proposal_of proposed) result station.new }
 {
-    let clock = station.clock;
-    let charges = &station.feeders[place].charges;
     match proposed {
-        Ok(starts) => {
-            let count = charges.waiting_count(clock);
-            tested(station, place, beside, &starts[..count], rounds)
-        }
+        Ok(starts) => tested(station, place, beside, starts.as_slice(), rounds),
         Err(cause) => {
-            let before = charges.lateness();
+            let before = station.feeders[place].charges.lateness();
             Planned {
                 cause: Some(cause),
                 before,

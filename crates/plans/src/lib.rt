@@ -14,7 +14,8 @@ ghost use Rattle.planner.specs.Answers.{Proposes};
 ghost use Rattle.planner.specs.Judged.{Judges};
 ghost use Rattle.lines.specs.Rounds.{Replans};
 
-use charges::{Charges, PLACES};
+use charges::Charges;
+use charges::starts::Starts;
 use lines::rounds::Replanned;
 use planner::Beside;
 use planner::cause::Cause;
@@ -22,11 +23,11 @@ use planner::judge::Judgement;
 use profile::{FEEDER_STEPS, STEPS};
 
 // Replan by latest start.
-pub fn latest(beside: Beside<'_>, charges: &Charges) -> Result<[u32; PLACES], Cause>
+pub fn latest(beside: Beside<'_>, charges: &Charges) -> Result<Starts, Cause>
     requires { Ready beside charges.now }
     ensures { Proposes beside.entry.clock charges.now (latest_of (terms_of beside.entry) beside.entry.clock (charges_of charges.now)) result }
 {
-    if beside.others.held == 0 {
+    if beside.others.is_empty() {
         planner::latest::latest::<FEEDER_STEPS>(beside, charges)
     } else {
         planner::latest::latest::<STEPS>(beside, charges)
@@ -38,7 +39,7 @@ pub fn by_lines(beside: Beside<'_>, charges: &Charges, allowance: u32) -> Replan
     requires { Ready beside charges.now }
     ensures { Replans beside.entry.clock charges.now (by_lines (terms_of beside.entry) beside.entry.clock allowance (charges_of charges.now)) result }
 {
-    if beside.others.held == 0 {
+    if beside.others.is_empty() {
         lines::rounds::by_lines::<FEEDER_STEPS>(beside, charges, allowance)
     } else {
         lines::rounds::by_lines::<STEPS>(beside, charges, allowance)
@@ -50,7 +51,7 @@ pub fn judged(beside: Beside<'_>, charges: &Charges, starts: &[u32]) -> Judgemen
     requires { Columns charges.now × Listed charges.now × (length starts.now ≡ waiting_count beside.clock charges.now) }
     ensures { Judges beside.entry charges.now starts.now result }
 {
-    if beside.others.held == 0 {
+    if beside.others.is_empty() {
         planner::judge::judged::<FEEDER_STEPS>(beside, charges, starts)
     } else {
         planner::judge::judged::<STEPS>(beside, charges, starts)
@@ -62,7 +63,7 @@ pub fn plan_sound(beside: Beside<'_>, charges: &Charges) -> bool
     requires { Profiled charges.now }
     ensures { result ≡ sound (terms_of beside.entry) beside.entry.clock (seen (terms_of beside.entry) (charges_of charges.now)) }
 {
-    if beside.others.held == 0 {
+    if beside.others.is_empty() {
         planner::plan::plan_sound::<FEEDER_STEPS>(beside, charges)
     } else {
         planner::plan::plan_sound::<STEPS>(beside, charges)

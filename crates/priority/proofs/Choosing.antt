@@ -4,7 +4,7 @@ use mathlib.Core.Path.{◌≡◌, sym, ◌∙◌}
 use Prim.Native.Nat.{ℕ, ◌+◌, ◌-◌, ◌*◌, ◌≤◌, ◌<◌}
 use mathlib.Core.Bool.{true, true≢false}
 use mathlib.Core.List.{List}
-use lib.ListN.{length, get_or}
+use lib.ListN.{length}
 use native.Mathlib.Omega.{arith}
 use native.Mathlib.Nat.{mul-le-mul_left, mul-le-mul_right}
 use Rattle.rules.proofs.Ranges.{below_or_not}
@@ -12,7 +12,7 @@ use Rattle.rules.proofs.Foremost.{ratio_onwards}
 use Rattle.charges.specs.declared.Charges.{Charges}
 use Rattle.priority.specs.declared.crowd.Crowd.{Crowd}
 use Rattle.priority.specs.Numbers.{number_of}
-use Rattle.priority.specs.Chosen.{fits_run, weight_at, Ahead, NoneFits, FitsFirst, CanWeigh, CanChoose, Foremost}
+use Rattle.priority.specs.Chosen.{fits_run, weight_at, Ahead, FitsFirst, CanChoose, Foremost}
 use Rattle.priority.proofs.Weighing.{slack_falls}
 
 -- the best of those that fit among the first j
@@ -29,31 +29,6 @@ pub record BestSoFar (q : Charges) (left : List ℕ) (c : Crowd) (start one two 
       → (i ≡ best → ⊥)
       → Ahead (weight_at q left c start) (number_of q.times left) best i
 
-pub can_weigh : {q : Charges} {left : List ℕ} {c : Crowd} {j : ℕ} → CanChoose q left c → j < length left → CanWeigh q c (get_or left j 0)
-can_weigh {j = j} can h =
-    record {
-      inside = can.range.inside.below j h;
-      due_most = can.range.dues_most j h;
-      number_most = can.number_most;
-      total_low = can.total_low;
-    }
-
-pub best_first :
-    {q : Charges} {left : List ℕ} {c : Crowd} {start one two best time weight : ℕ}
-    → FitsFirst q left one two 0 best
-    → time ≡ number_of q.times left best
-    → weight ≡ weight_at q left c start best
-    → BestSoFar q left c start one two best time weight (best + 1)
-best_first {best = best} f t w =
-    record {
-      before = omega arith;
-      high = omega (arith, f.inside);
-      fits = f.here;
-      time_is = t;
-      weight_is = w;
-      ahead = λ i l e ne. absurd (true≢false (sym e ∙ f.passed i (omega arith) (omega (arith, ne))));
-    }
-
 module _ {q : Charges} {left : List ℕ} {c : Crowd} {start one two best time weight from : ℕ}
     (b : BestSoFar q left c start one two best time weight from) where
   abbrev W : ℕ → ℕ
@@ -61,16 +36,6 @@ module _ {q : Charges} {left : List ℕ} {c : Crowd} {start one two best time we
 
   abbrev T : ℕ → ℕ
   T = number_of q.times left
-
-  -- no other fits
-  pub best_done : NoneFits q left one two from (length left) → Foremost q left c start one two best
-  best_done none =
-      record {
-        inside = omega (arith, b.before, b.high);
-        fits = b.fits;
-        ahead = λ i k e ne.
-            ⊎_elim (λ l. b.ahead i l e ne) (λ l. absurd (true≢false (sym e ∙ none i l k))) (below_or_not i from);
-      }
 
   -- the j-th is the next that fits
   module _ {next heavy j : ℕ} (can : CanChoose q left c) (f : FitsFirst q left one two from j)

@@ -6,13 +6,15 @@ use mathlib.Core.List.{List}
 use lib.ListN.{length}
 use native.Mathlib.Omega.{arith}
 use native.Mathlib.Numerals.{add-one}
+use Rattle.std.specs.declared.option.Option.{Option}
+use Rattle.std.specs.declared.option.Option.TheVariants.{Some, None}
 use Rattle.rules.specs.Site.{places}
 use Rattle.rules.proofs.Ranges.{below_or_not}
 use Rattle.charges.specs.declared.Charges.{Charges}
 use Rattle.priority.specs.declared.crowd.Span.{Span}
 use Rattle.priority.specs.declared.crowd.Crowd.{Crowd}
 use Rattle.priority.specs.Numbers.{number_of, InRange}
-use Rattle.priority.specs.Crowds.{sum_of, Widened, Joined, Found, SpanOf, TimesOf, FirstCrowd}
+use Rattle.priority.specs.Crowds.{sum_of, widened, Joined, Found, FoundIf, SpanOf, TimesOf, FirstCrowd}
 
 -- The sum
 
@@ -26,99 +28,72 @@ sum_most f n (suc k) h l = omega (arith, sum_most f n k h (omega arith), h k (om
 -- The times of a rate
 
 module _ {q : Charges} {left : List ℕ} {rate : ℕ} where
-  pub span_none : SpanOf q left 0 rate (record { shortest = 0; longest = 0 })
+  pub span_none : SpanOf q left 0 rate None
   span_none =
       record {
         most = omega arith;
         in_order = omega arith;
         each = λ j h e. absurd (omega arith);
-        found = λ h. absurd (omega arith);
+        found = tt;
       }
 
-  module _ {k : ℕ} {s : Span} (w : SpanOf q left k rate s) where
+  module _ {k : ℕ} where
     found_still : {time : ℕ} → Found q left k rate time → Found q left (k + 1) rate time
     found_still f = record { who = f.who; inside = omega (arith, f.inside); rate_is = f.rate_is; time_is = f.time_is }
 
     -- a charge of another rate
-    pub span_other : (rate ≡ number_of q.rates left k → ⊥) → SpanOf q left (k + 1) rate s
-    span_other ne =
+    pub span_other : {s : Option Span} → SpanOf q left k rate s → (rate ≡ number_of q.rates left k → ⊥) → SpanOf q left (k + 1) rate s
+    span_other {s} w ne =
         record {
           most = w.most;
           in_order = w.in_order;
           each = λ j h e. ⊎_elim (λ l. w.each j l e) (λ l. let same : j ≡ k = omega arith in absurd (ne (rw same at e))) (below_or_not j k);
-          found = λ h. found_still (w.found h);
+          found = still s w.found;
         }
+      where
+        still : (s : Option Span) → FoundIf q left k rate s → FoundIf q left (k + 1) rate s
+        still (Some s) f = found_still f
+        still None f = tt
 
     -- a charge of the rate
-    module _ {r : Span} (x : Widened s (number_of q.active_times left k) r) (same : rate ≡ number_of q.rates left k)
-        (low : 1 ≤ number_of q.active_times left k) (high : number_of q.active_times left k ≤ 1445) where
-      abbrev time : ℕ
-      time = number_of q.active_times left k
-
-      this : {shortest : ℕ} → shortest ≡ time → Found q left (k + 1) rate shortest
-      this e = record { who = k; inside = omega arith; rate_is = same; time_is = e }
-
-      pub span_more : SpanOf q left (k + 1) rate r
-      span_more = ⊎_elim (λ h. some h) (λ h. none (omega arith)) (below_or_not 0 s.longest)
-        where
-          none : s.longest ≡ 0 → SpanOf q left (k + 1) rate r
-          none e =
-              let y = x.none e in
-              record {
-                most = omega (arith, y.1);
-                in_order = omega (arith, y.0, y.1);
-                each = λ j h f.
-                    ⊎_elim
-                    (λ l. let z = w.each j l f in absurd (omega (arith, z.0, z.1, z.2)))
-                    (λ l. let here : j ≡ k = omega arith in rw here (omega (arith, y.0), omega (arith, y.0), omega (arith, y.1)))
-                    (below_or_not j k);
-                found = λ h. this y.0;
-              }
-
-          some : 1 ≤ s.longest → SpanOf q left (k + 1) rate r
-          some h =
-              let y = x.some h w.in_order in
-              let f = w.found h in
-              record {
-                most = omega (arith, y.1, w.most);
-                in_order = omega (arith, y.0, y.1, w.in_order);
-                each = λ j b e.
-                    ⊎_elim
-                    (λ l. let z = w.each j l e in (omega (arith, y.0, z.0), omega (arith, y.0, z.1), omega (arith, y.1, z.2)))
-                    (λ l.
-                    let here : j ≡ k = omega arith in
-                    rw here (omega (arith, y.0, (w.each f.who f.inside f.rate_is).0), omega (arith, y.0), omega (arith, y.1)))
-                    (below_or_not j k);
-                found = λ b.
-                    ⊎_elim
-                    (λ l. this (omega (arith, y.0)))
-                    (λ l. rw (y.0 ∙ lesser l) (found_still f))
-                    (below_or_not time s.shortest);
-              }
-            where
-              lesser : s.shortest ≤ time → min s.shortest time ≡ s.shortest
-              lesser l = omega arith
+    pub span_more :
+        (s : Option Span) → SpanOf q left k rate s → rate ≡ number_of q.rates left k
+        → (1 ≤ number_of q.active_times left k) × (number_of q.active_times left k ≤ 1445)
+        → SpanOf q left (k + 1) rate (Some (widened s (number_of q.active_times left k)))
+    span_more None w same range =
+        record {
+          most = range.1;
+          in_order = omega arith;
+          each = λ j h f.
+              ⊎_elim
+              (λ l. absurd (omega (arith, (w.each j l f).0)))
+              (λ l. let here : j ≡ k = omega arith in rw here (range.0, omega arith, omega arith))
+              (below_or_not j k);
+          found = record { who = k; inside = omega arith; rate_is = same; time_is = refl };
+        }
+    span_more (Some s) w same range =
+        let f = w.found in
+        record {
+          most = omega (arith, w.most, range.1);
+          in_order = omega (arith, w.in_order);
+          each = λ j b e.
+              ⊎_elim
+              (λ l. let z = w.each j l e in (omega (arith, z.0, range.0), omega (arith, z.1), omega (arith, z.2)))
+              (λ l.
+              let here : j ≡ k = omega arith in
+              rw here (omega (arith, (w.each f.who f.inside f.rate_is).0, range.0), omega arith, omega arith))
+              (below_or_not j k);
+          found =
+              ⊎_elim
+              (λ l. record { who = k; inside = omega arith; rate_is = same; time_is = omega arith })
+              (λ l. rw (lesser l) (found_still f))
+              (below_or_not (number_of q.active_times left k) s.shortest);
+        }
+      where
+        lesser : s.shortest ≤ number_of q.active_times left k → min s.shortest (number_of q.active_times left k) ≡ s.shortest
+        lesser l = omega arith
 
 -- All of them
-
-pub crowd_none :
-    {q : Charges} {left : List ℕ} {k : ℕ}
-    → k ≡ 0
-    → FirstCrowd q left k
-    (record {
-      number = 0;
-      total = 0;
-      one = record { shortest = 0; longest = 0 };
-      two = record { shortest = 0; longest = 0 };
-      shortest = 4294967295;
-    })
-crowd_none e =
-    rw e
-    record {
-      number = refl;
-      total = refl;
-      times = record { one = span_none; two = span_none; shortest_low = λ j h. absurd (omega arith) };
-    }
 
 module _ {q : Charges} {left : List ℕ} {k : ℕ} {c : Crowd} (range : InRange q left) (w : FirstCrowd q left k c) (more : k < length left) where
   pub crowd_fits : (c.number < places) × (c.total ≤ 260100)
@@ -152,7 +127,7 @@ module _ {q : Charges} {left : List ℕ} {k : ℕ} {c : Crowd} (range : InRange 
           let is_one : 1 ≡ number_of q.rates left k = omega (arith, (range.rated k more).low) in
           let y = x.one (omega arith) in
           record {
-            one = span_more w.times.one y.0 is_one active.0 active.1;
+            one = rw y.0 (span_more c.one w.times.one is_one active);
             two = rw y.1 (span_other w.times.two (λ e. omega arith));
             shortest_low = low;
           }
@@ -162,7 +137,7 @@ module _ {q : Charges} {left : List ℕ} {k : ℕ} {c : Crowd} (range : InRange 
           let y = x.two (λ e. omega arith) in
           record {
             one = rw y.1 (span_other w.times.one (λ e. omega arith));
-            two = span_more w.times.two y.0 is-two active.0 active.1;
+            two = rw y.0 (span_more c.two w.times.two is-two active);
             shortest_low = low;
           }
 

@@ -6,29 +6,14 @@ use mathlib.Core.List.{List}
 use lib.ListN.{get_or}
 use Prim.Native.Nat.{ℕ, zero, suc, ◌+◌, ◌-◌, ◌*◌, ◌/◌, ◌^◌, ◌≤◌, ◌<◌}
 use native.Mathlib.Omega.{arith}
-use native.Mathlib.Nat.{le_of_lt, lt_of_le_of_lt, mul-le-mul, mul-le-mul_left, mul-le-mul_right, mul-lt-mul_of_pos_right, zero-div, zero-mul}
+use native.Mathlib.Nat.{le_of_lt, lt_of_le_of_lt, mul-le-mul_left, mul-le-mul_right, mul-lt-mul_of_pos_right}
 use lib.Ieee.Nearest.{div_mono}
 use lib.Pow.{pow_pos, pow-add}
 use lib.Seq.{ext_get_or}
 use Rattle.priority.specs.declared.table.TheConstants.{WEIGHTS}
-use Rattle.rules.specs.Site.{places}
 use Rattle.rules.specs.Priority.{fading, weights, weight_of, keeps_the_rule}
 use Rattle.rules.proofs.Ranges.{below_or_not}
 use Rattle.rules.proofs.Weights.{keeps_rule, weights_table, weight_within, weight_beyond, table_weight}
-
--- 256 × m × n
-pub scaled_fits : {m n : ℕ} → m ≤ 2000000 → n ≤ places → 256 * m * n < 2 ^ 64
-scaled_fits {m} {n} h j =
-    let more : 256 * m ≤ 512000000 = omega arith in
-    let most : 256 * m * n ≤ 512000000 * places = mul-le-mul more j in
-    omega (arith, most)
-
-pub no_slack : (m n p : ℕ) → m ≡ 0 → 256 * m * n / p ≡ 0
-no_slack m n p e = rw (e, zero-mul n) (zero-div p)
-
--- a weight, by what k comes to
-pub weighs : {r k l : ℕ} → r ≡ weight_of k → k ≡ l → r ≡ weight_of l
-weighs e f = rw f at e
 
 -- the product of two numbers of k bits has at most k + k
 pub product_fits : (k : ℕ) {a b : ℕ} → a < 2 ^ k → b < 2 ^ k → a * b < 2 ^ (k + k)

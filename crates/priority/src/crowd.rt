@@ -1,12 +1,12 @@
 // The charges left on a line, taken together.
-ghost use Rattle.std.specs.Prelude.{◌≤◌, ◌<◌};
+ghost use Rattle.std.specs.Prelude.{◌≡◌, ◌≤◌, ◌<◌};
 ghost use Rattle.rules.specs.Site.{places};
 ghost use Rattle.priority.specs.Numbers.{InRange};
-ghost use Rattle.priority.specs.Crowds.{Widened, Joined, CrowdOf, Narrowed};
+ghost use Rattle.priority.specs.Crowds.{widened, Joined, CrowdOf};
 
 use charges::Charges;
 
-// The shortest and the longest time of some charges; both 0 where there is none.
+// The shortest and the longest time of one or more charges.
 #[derive(Clone, Copy)]
 pub struct Span {
     pub shortest: u32,
@@ -14,31 +14,29 @@ pub struct Span {
 }
 
 // The number and the summed time of the charges of a line that wait when the round begins; and of those left the active times of
-// rate 1 and of rate 2, and a charging time that none of them is below.
+// rate 1 and of rate 2, if any has the rate, and a charging time that none of them is below.
 #[derive(Clone, Copy)]
 pub struct Crowd {
     pub number: u32,
     pub total: u32,
-    pub one: Span,
-    pub two: Span,
+    pub one: Option<Span>,
+    pub two: Option<Span>,
     pub shortest: u32,
 }
 
-impl Span {
-    // One more time.
-    fn widened(self, time: u32) -> Span
-        ensures { Widened self time result }
-    {
-        if self.longest == 0 {
-            return Span {
-                shortest: time,
-                longest: time,
-            };
-        }
-        Span {
-            shortest: self.shortest.min(time),
-            longest: self.longest.max(time),
-        }
+// The span with one more time.
+fn widened(span: Option<Span>, time: u32) -> Span
+    ensures { result ≡ widened span time }
+{
+    match span {
+        Some(span) => Span {
+            shortest: span.shortest.min(time),
+            longest: span.longest.max(time),
+        },
+        None => Span {
+            shortest: time,
+            longest: time,
+        },
     }
 }
 
@@ -53,24 +51,11 @@ impl Crowd {
         next.total += time;
         next.shortest = time.min(self.shortest);
         if rate == 1 {
-            next.one = self.one.widened(active_time);
+            next.one = Some(widened(self.one, active_time));
         } else {
-            next.two = self.two.widened(active_time);
+            next.two = Some(widened(self.two, active_time));
         }
         next
-    }
-
-    // When some are placed number and sum stay, and the times are those of the charges left.
-    pub fn narrowed(self, charges: &Charges, left: &[usize]) -> Crowd
-        requires { InRange charges.now left.now }
-        ensures { Narrowed charges.now left.now self result }
-    {
-        let now = crowd_of(charges, left);
-        Crowd {
-            number: self.number,
-            total: self.total,
-            ..now
-        }
     }
 }
 
@@ -79,15 +64,11 @@ pub fn crowd_of(charges: &Charges, left: &[usize]) -> Crowd
     requires { InRange charges.now left.now }
     ensures { CrowdOf charges.now left.now result }
 {
-    let none = Span {
-        shortest: 0,
-        longest: 0,
-    };
     let mut crowd = Crowd {
         number: 0,
         total: 0,
-        one: none,
-        two: none,
+        one: None,
+        two: None,
         shortest: u32::MAX,
     };
     for place in left {

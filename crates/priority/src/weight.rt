@@ -4,23 +4,20 @@ ghost use Rattle.rules.specs.Site.{places};
 ghost use Rattle.rules.specs.Priority.{weight_of};
 
 use crate::table::WEIGHTS;
+use charges::ends::end_of;
 
 // "and the weight is 0 beyond"
 pub fn weight(k: u64) -> u32
     ensures { (result ≡ weight_of k) × (result ≤ 1073741824) }
 {
-    if 511 < k {
-        return 0;
-    }
-    WEIGHTS[k as usize]
+    WEIGHTS.get(k as usize).copied().unwrap_or(0)
 }
 
 // "m = max(0, d − start − p)"
 pub fn slack(due: u32, start: u32, time: u32) -> u64
     ensures { (result ≡ due - (start + time)) × (result ≤ due) }
 {
-    let end = u64::from(start) + u64::from(time);
-    u64::from(due).saturating_sub(end)
+    u64::from(due).saturating_sub(end_of(start, time))
 }
 
 // What a charge weighs at a start, on a line that had `number` waiting charges of `total` minutes when the round began.

@@ -1,6 +1,6 @@
 -- A profile split, and one more load added: what becomes of the levels.
 use Prim.Native.Nat.{ℕ, ◌+◌, ◌≤◌, ◌<◌, max}
-use mathlib.Core.Path.{◌≡◌, sym, ◌∙◌, ap, subst}
+use mathlib.Core.Path.{◌≡◌, refl, sym, ◌∙◌, ap, subst}
 use mathlib.Core.Bool.{Bool, cond, ◌&&◌}
 use mathlib.Core.List.{List}
 use mathlib.Core.Logic.{⊎_elim}
@@ -12,10 +12,10 @@ use Rattle.rules.specs.Load.{load_from, IsColumn, share, draws}
 use Rattle.rules.proofs.Ranges.{below_or_not}
 use Rattle.profile.specs.Steps.{minutes_of, level_at, In, Rising}
 use Rattle.profile.specs.Shows.{Profile, draw_of, line_of, level_of, first_minute, Formed, most_drawn, Small, Split, CanAdd, LoadAdded}
-use Rattle.profile.specs.Loads.{CanRaise, Raised}
+use Rattle.profile.specs.Loads.{PutIn, CanRaise, Raised}
 use Rattle.profile.specs.declared.loads.Draw.{Draw}
 use Rattle.profile.proofs.Levels.{level_in, at_step, step_from}
-use Rattle.profile.proofs.Edited.{PutIn, put_minutes, put_lines}
+use Rattle.profile.proofs.Edited.{put_minutes, put_lines}
 use Rattle.profile.proofs.Splits.{split_level, split_rises, split_ends, raise_level}
 
 -- Split
@@ -39,6 +39,21 @@ module _ {p q : Profile} {i t : ℕ} (f : Formed p) (h : In (minutes_of p) (leng
         earlier = λ m a b.
             ⊎_elim (λ c. ia.before m c) (λ c. absurd (omega (arith, h.later m (omega arith) a))) (below_or_not m (i + 1));
       }
+
+-- a minute in which a step begins
+pub split_here : {p : Profile} {i t : ℕ} → Formed p → i < length p → get_or (minutes_of p) i 0 ≡ t → Split p p t i
+split_here f below begins =
+    record {
+      formed = f;
+      few = omega arith;
+      more = omega arith;
+      starts = refl;
+      ends = λ b h _. h;
+      same = λ l hl u a. refl;
+      below = below;
+      begins = begins;
+      earlier = λ m a b. refl;
+    }
 
 -- Add
 

@@ -5,7 +5,6 @@ use mathlib.Core.Bool.{Bool, true, false, not, ◌&&◌, true≢false}
 use mathlib.Core.List.{List, []}
 use mathlib.Core.Logic.{⊎_elim}
 use native.Mathlib.Omega.{arith}
-use borrow.Author.Count.{below_more}
 use borrow.Author.Tests.{leb-true, le-leb}
 use lib.Dec.{leb}
 use lib.ListN.{length, get_or}
@@ -140,10 +139,6 @@ pub record Compared (x : Step) (d line : ℕ) : Type 0 where
 
 module _ {x : Step} {d line a b r : ℕ} (w : Compared x d line) (low : 1 ≤ line) (high : line ≤ 3) (ea : a ≡ counts_of x line)
     (eb : b ≡ counts_of x (line % 3 + 1)) (er : r ≡ abs_diff a b) where
-  pub compared_more : r ≤ d → Compared x d (line + 1)
-  compared_more h =
-      record { near = below_more _ _ w.near (λ c. let n = near_by a b d (omega arith) in (omega arith, omega arith)) }
-
   pub compared_off : d < r → balanced d (counts_of x) ≡ false
   compared_off lt =
       fails (balanced d (counts_of x))

@@ -15,7 +15,7 @@ use Rattle.rules.specs.Load.{IsColumn}
 use Rattle.profile.specs.declared.steps.Step.{Step}
 use Rattle.profile.specs.Steps.{minutes_of, counts_of, empty_step, begun_at, Inserted, Doubled, RaisedOn}
 use Rattle.profile.specs.Shows.{Profile, line_of, first_minute}
-use Rattle.profile.specs.Loads.{Raised}
+use Rattle.profile.specs.Loads.{PutIn, Raised}
 use Rattle.profile.proofs.Levels.{same_or_not}
 use Rattle.rules.proofs.Ranges.{below_or_not}
 
@@ -33,12 +33,11 @@ first_taken xs n {p} e some =
     ∙ sym (minute_at (take n xs) 0)
     ∙ ap (λ (q : Profile). first_minute q) e
 
--- q is p with step i there twice, the second time from minute t on
-pub record PutIn (p q : Profile) (i t : ℕ) : Type 0 where
-  pub size : length q ≡ length p + 1
-  pub before : (m : ℕ) → m ≤ i → get_or q m (empty_step 0) ≡ get_or p m (empty_step 0)
-  pub here : get_or q (i + 1) (empty_step 0) ≡ begun_at t (get_or p i (empty_step 0))
-  pub after : (m : ℕ) → i < m → m < length p → get_or q (suc m) (empty_step 0) ≡ get_or p m (empty_step 0)
+-- a minute of the profile, read off that list
+pub minute_taken : (xs : List Step) (n i : ℕ) {p : Profile} → take n xs ≡ p → i < length p → get_or (minutes_of p) i 0 ≡ (get_or xs i (empty_step 0)).minute
+minute_taken xs n i {p} e h =
+    minute_at p i
+    ∙ ap (λ (s : Step). s.minute) (ap (λ (q : Profile). get_or q i (empty_step 0)) (sym e) ∙ get_or-take n xs i (empty_step 0) (omega (arith, length-take n xs, ap length e)))
 
 module _ {p q : Profile} {i t : ℕ} (h : PutIn p q i t) where
   pub put_minutes : Inserted (minutes_of p) (minutes_of q) (length p) (i + 1) t

@@ -3,6 +3,7 @@ pub mod Levels
 pub mod Edited
 pub mod Splits
 pub mod Adds
+pub mod Both
 pub mod Shown
 pub mod Balances
 pub mod Picks

@@ -39,7 +39,7 @@ module _ {ats ats' : List ℕ} {n n' i t : ℕ} (e : n' ≡ n + 1) (inn : In ats
         later = λ m x y. by_place (λ m x. j < m → u < x) (λ m a' b'. h.later m b' (omega (arith, inn.below))) (λ _. b) (λ m a' b' c'. h.later m (omega arith) b') m y x;
       }
 
-  here' : (u : ℕ) → In ats n i u → t ≤ u → In ats' n' (i + 1) u
+  pub here' : (u : ℕ) → In ats n i u → t ≤ u → In ats' n' (i + 1) u
   here' u h b =
       record {
         below = omega (arith, h.below);
@@ -47,7 +47,7 @@ module _ {ats ats' : List ℕ} {n n' i t : ℕ} (e : n' ≡ n + 1) (inn : In ats
         later = λ m x y. by_place (λ m x. i + 1 < m → u < x) (λ m a' b'. absurd (omega arith)) (λ b'. absurd (omega arith)) (λ m a' b' c'. h.later m a' b') m y x;
       }
 
-  after' : (j u : ℕ) → In ats n j u → i < j → In ats' n' (suc j) u
+  pub after' : (j u : ℕ) → In ats n j u → i < j → In ats' n' (suc j) u
   after' j u h a =
       record {
         below = omega (arith, h.below);

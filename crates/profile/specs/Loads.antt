@@ -1,8 +1,15 @@
--- Steps of a profile raised: one more load, between two of its steps.
-use Rattle.std.specs.Prelude.{ℕ, ◌+◌, ◌^◌, ◌≤◌, ◌<◌, ◌≡◌, length}
+-- Steps of a profile put in and raised: one more load, between two of its steps.
+use Rattle.std.specs.Prelude.{ℕ, suc, ◌+◌, ◌^◌, ◌≤◌, ◌<◌, ◌≡◌, length, get_or}
 use Rattle.rules.specs.Load.{IsColumn, share}
-use Rattle.profile.specs.Steps.{minutes_of, Raised as RaisedBetween}
+use Rattle.profile.specs.Steps.{minutes_of, empty_step, begun_at, Raised as RaisedBetween}
 use Rattle.profile.specs.Shows.{Profile, line_of}
+
+-- q is p with step i there twice, the second time from minute t on
+pub record PutIn (p q : Profile) (i t : ℕ) : Type 0 where
+  pub size : length q ≡ length p + 1
+  pub before : (m : ℕ) → m ≤ i → get_or q m (empty_step 0) ≡ get_or p m (empty_step 0)
+  pub here : get_or q (i + 1) (empty_step 0) ≡ begun_at t (get_or p i (empty_step 0))
+  pub after : (m : ℕ) → i < m → m < length p → get_or q (suc m) (empty_step 0) ≡ get_or p m (empty_step 0)
 
 -- what raising a line in the steps from i up to j asks
 pub record CanRaise (p : Profile) (line rate i j : ℕ) : Type 0 where

@@ -75,6 +75,12 @@ pub record Split (p q : Profile) (t k : ℕ) : Type 0 where
   pub begins : get_or (minutes_of q) k 0 ≡ t
   pub earlier : (m : ℕ) → m < length p → get_or (minutes_of p) m 0 < t → get_or (minutes_of q) m 0 ≡ get_or (minutes_of p) m 0
 
+-- q is p with two minutes the beginnings of steps, the first of them split off first
+pub record SplitBoth (p q : Profile) (from until i j : ℕ) : Type 0 where
+  pub between : Profile
+  pub first : Split p between from i
+  pub second : Split between q until j
+
 -- what splitting in minute t asks, in a list of so many places
 pub record CanSplit (p : Profile) (places t : ℕ) : Type 0 where
   pub formed : Formed p

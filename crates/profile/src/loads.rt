@@ -1,7 +1,7 @@
 // A profile, and one more load in it.
 ghost use Rattle.std.specs.Prelude.{◌≡◌, [], ◌+◌, ◌≤◌, ◌<◌, length};
-ghost use Rattle.profile.specs.Shows.{Shows, CanSplit, Split, CanAdd, LoadAdded};
-ghost use Rattle.profile.specs.Loads.{CanRaise, Raised};
+ghost use Rattle.profile.specs.Shows.{Shows, CanSplit, SplitBoth, CanAdd, LoadAdded};
+ghost use Rattle.profile.specs.Loads.{PutIn, CanRaise, Raised};
 
 use crate::steps::{Step, place};
 use std::marker::Model;
@@ -70,20 +70,41 @@ impl<const N: usize> Profile<N> {
         self.count = count;
     }
 
-    // The same levels, with t the beginning of a step: which one that is.
-    fn split(&mut self, t: u32) -> usize
-        requires { CanSplit self.old N t }
-        ensures { Split self.old self.new t result }
+    // Step i twice, the second time from minute t on.
+    fn put_in(&mut self, i: usize, t: u32)
+        requires { (i < length self.old) × (length self.old < N) }
+        ensures { PutIn self.old self.new i t }
     {
-        let i = place(self.steps(), t);
-        if self.list[i].minute == t {
-            return i;
-        }
         let next = i + 1;
         self.list.copy_within(i..self.count, next);
         self.list[next].minute = t;
         self.count += 1;
-        next
+    }
+
+    // The same levels, with both minutes the beginnings of steps: which ones these are. Where both are new, each step behind them moves once.
+    fn split(&mut self, from: u32, until: u32) -> (usize, usize)
+        requires { CanSplit self.old N from × (length self.old + 2 ≤ N) × (from < until) }
+        ensures { SplitBoth self.old self.new from until result.0 result.1 }
+    {
+        let i = place(self.steps(), from);
+        let j = place(self.steps(), until);
+        if self.list[j].minute == until {
+            if self.list[i].minute == from {
+                return (i, j);
+            }
+            self.put_in(i, from);
+            return (i + 1, j + 1);
+        }
+        if self.list[i].minute == from {
+            self.put_in(j, until);
+            return (i, j + 1);
+        }
+        self.list.copy_within(j..self.count, j + 2);
+        self.list.copy_within(i..j + 1, i + 1);
+        self.list[i + 1].minute = from;
+        self.list[j + 2].minute = until;
+        self.count += 2;
+        (i + 1, j + 2)
     }
 
     // The rate more on the line in the steps from i up to j.
@@ -111,8 +132,7 @@ impl<const N: usize> Profile<N> {
         if !(1..=4).contains(&draw.line) {
             return;
         }
-        let first = self.split(from);
-        let end = self.split(until);
+        let (first, end) = self.split(from, until);
         self.raise(draw.line, draw.rate, first, end);
     }
 }

@@ -79,6 +79,22 @@ two_get R (x ∷ xs) e zero (suc j) h l = each_get (R x) xs e.0 j (omega arith)
 two_get R (x ∷ xs) e (suc i) zero h l = absurd (omega arith)
 two_get R (x ∷ xs) e (suc i) (suc j) h l = two_get R xs e.1 i j (omega arith) (omega arith)
 
+-- of any list, from what holds at its places
+each_from_places :
+    {A : Type 0} (P : A → Type 0) (xs : List A) → ((j : ℕ) (d : A) → j < length xs → P (get_or xs j d)) → Each P xs
+each_from_places P [] h = tt
+each_from_places P (x ∷ xs) h = (h 0 x (omega arith), each_from_places P xs (λ j d l. h (suc j) d (omega arith)))
+
+pub two_from_places :
+    {A : Type 0} (R : A → A → Type 0) (xs : List A)
+    → ((i j : ℕ) (d : A) → i < j → j < length xs → R (get_or xs i d) (get_or xs j d))
+    → InOrder R xs
+two_from_places R [] h = tt
+two_from_places R (x ∷ xs) h = (
+  each_from_places (R x) xs (λ j d l. h 0 (suc j) d (omega arith) (omega arith)),
+  two_from_places R xs (λ i j d l m. h (suc i) (suc j) d (omega arith) (omega arith)),
+)
+
 each_both : {A : Type 0} (P Q : A → Type 0) (xs : List A) → Each P xs → Each Q xs → Each (λ x. P x × Q x) xs
 each_both P Q [] e d = tt
 each_both P Q (x ∷ xs) e d = ((e.0, d.0), each_both P Q xs e.1 d.1)

@@ -1,11 +1,12 @@
-pub mod Inserting
 pub mod SignedBits
 pub mod Comparing
 pub mod EveryTwo
 pub mod Merging
 pub mod AnyOrder
+pub mod SameSorted
 pub mod Together
 pub mod Ordering
+pub mod Keyed
 pub mod Pairs
 pub mod Reporting
 pub mod Feeders

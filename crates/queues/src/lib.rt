@@ -1,9 +1,9 @@
 // The held charges in the order in which they are taken: by start, then ticket, and by latest start, then ticket; and the reports.
 #![tactic(auto)]
 
-pub mod insertion;
 pub mod line;
 pub mod reports;
+pub mod sorting;
 
 ghost use Rattle.std.specs.Prelude.{◌≡◌};
 ghost use Rattle.std.proofs.Math.IntN.{sub_ℕ};
@@ -14,7 +14,7 @@ ghost use Rattle.charges.specs.Arrays.{charges_of};
 ghost use Rattle.charges.specs.Held.{Listed};
 ghost use Rattle.queues.specs.Queues.{Ordered};
 
-use crate::insertion::sorted_by_key;
+use crate::sorting::sorted_by_key;
 use charges::Charges;
 use charges::places::Places;
 

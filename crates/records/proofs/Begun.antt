@@ -82,3 +82,13 @@ module _ {f : ℕ → ℕ} {column : List ℕ} {j byte : ℕ} (w : RowOf f colum
       unused i l h =
           let p : record_place (i - record_place 0 j) j ≡ i = omega arith in
           ap f (sym p) ∙ w.none (i - record_place 0 j) (omega arith) (omega arith)
+
+-- one of the rows of a column
+pub row_among :
+    {f : ℕ → ℕ} {column : List ℕ} {width j b : ℕ} (from byte : ℕ)
+    → ((k : ℕ) → k < width → RowOf f column (from + k) k)
+    → byte < width
+    → j ≡ from + byte
+    → b ≡ byte
+    → RowOf f column j b
+row_among from byte rows h e same = rw (e, same) (rows byte h)

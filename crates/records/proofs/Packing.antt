@@ -13,7 +13,7 @@ use Rattle.validity.specs.declared.ranges.Header.{Header}
 use Rattle.validity.specs.Settled.{held_by, single}
 use Rattle.layout.specs.Bytes.{byte_of, packed_from, packed}
 use Rattle.layout.specs.Arrangement.{per_block, number_of}
-use Rattle.layout.specs.Image.{only, header_of, fields_of, record_byte, numbered}
+use Rattle.layout.specs.Image.{header_of, fields_of, record_byte, numbered}
 use Rattle.layout.proofs.Contents.{record_held, record_none, numbered_in, numbered_out, content_header, content_records}
 use Rattle.layout.proofs.Laying.{record_back, byte_back}
 use Rattle.validity.proofs.Settling.{held_count, held_at_lem}
@@ -49,10 +49,33 @@ module _ (s : State) where
       let e : per_block + (i - per_block) ≡ i = omega arith in
       rw e at (numbered_content (i - per_block) ∙ numbered_out s (i - per_block) (omega arith))
 
--- Block 0
+-- Fields
 
-abbrev numbers_in : Header → List ℕ
-numbers_in h = h.limit ∷ h.percent ∷ h.tail ∷ h.clock ∷ h.next ∷ h.held ∷ h.site ∷ []
+-- where field w begins, the first of them at place a
+abbrev pub begins : ℕ → List (ℕ × ℕ) → ℕ → ℕ
+begins a [] w = a
+begins a (x ∷ xs) zero = a
+begins a (x ∷ xs) (suc w) = begins (a + x.0) xs w
+
+-- its width and its number
+abbrev pub field : List (ℕ × ℕ) → ℕ → ℕ × ℕ
+field xs w = get_or xs w (0, 0)
+
+begins_past : (a : ℕ) (xs : List (ℕ × ℕ)) (w : ℕ) → a ≤ begins a xs w
+begins_past a [] w = omega arith
+begins_past a (x ∷ xs) zero = omega arith
+begins_past a (x ∷ xs) (suc w) = omega (arith, begins_past (a + x.0) xs w)
+
+field_bytes :
+    (a : ℕ) (xs : List (ℕ × ℕ)) (w j : ℕ) → j < (field xs w).0 → packed_from a xs (begins a xs w + j) ≡ byte_of j (field xs w).1
+field_bytes a [] w j h = absurd (omega arith)
+field_bytes a (x ∷ xs) zero j h =
+    let s : a + j - a ≡ j = omega arith in
+    rw (lt-ltb (a + j) (a + x.0) (omega arith), s)
+field_bytes a (x ∷ xs) (suc w) j h =
+    rw (le-ltb (begins (a + x.0) xs w + j) (a + x.0) (omega (arith, begins_past (a + x.0) xs w))) (field_bytes (a + x.0) xs w j h)
+
+-- Block 0
 
 -- what a feeder and its station have there, with so many charges
 abbrev pub header_with : One → ℕ → Header
@@ -67,29 +90,11 @@ header_with o n =
       site = o.site;
     }
 
-abbrev header_numbers : State → List ℕ
-header_numbers s =
-    (only s).limit ∷ (only s).percent ∷ (only s).tail ∷ s.clock ∷ s.next ∷ length (only s).charges ∷ s.site ∷ []
-
-abbrev fours : List ℕ → List (ℕ × ℕ)
-fours [] = []
-fours (x ∷ xs) = (4, x) ∷ fours xs
-
-fours_from :
-    (a : ℕ) (xs : List ℕ) (w j : ℕ) → w < length xs → j < 4 → packed_from a (fours xs) (a + 4 * w + j) ≡ byte_of j (get_or xs w 0)
-fours_from a [] w j h l = absurd (omega arith)
-fours_from a (x ∷ xs) zero j h l =
-    let s : a + 4 * 0 + j - a ≡ j = omega arith in
-    rw (lt-ltb (a + 4 * 0 + j) (a + 4) (omega arith), s)
-fours_from a (x ∷ xs) (suc w) j h l =
-    let e : a + 4 + 4 * w + j ≡ a + 4 * suc w + j = omega arith in
-    rw (le-ltb (a + 4 * suc w + j) (a + 4) (omega arith)) (rw e at (fours_from (a + 4) xs w j (omega arith) l))
-
 module _ (s : State) where
-  header_content : (w j : ℕ) → w < 7 → j < 4 → byte_of j (get_or (header_numbers s) w 0) ≡ content_byte s (4 * w + j)
-  header_content w j h l =
-      let z : 0 + 4 * w + j ≡ 4 * w + j = omega arith in
-      sym (rw z at (fours_from 0 (header_numbers s) w j h l)) ∙ sym (first_content s (4 * w + j) (omega arith))
+  header_content :
+      (w j : ℕ) → j < (field (header_of s) w).0 → begins 0 (header_of s) w + j < 508 →
+      byte_of j (field (header_of s) w).1 ≡ content_byte s (begins 0 (header_of s) w + j)
+  header_content w j h l = sym (field_bytes 0 (header_of s) w j h) ∙ sym (first_content s (begins 0 (header_of s) w + j) l)
 
   pub behind_header : (i : ℕ) → 28 ≤ i → i < 508 → ◌≡◌ {A = ℕ} (content_byte s i) 0
   behind_header i l h =
@@ -97,21 +102,17 @@ module _ (s : State) where
       ∙ rw (le-ltb i 4 (omega arith), le-ltb i 8 (omega arith), le-ltb i 12 (omega arith), le-ltb i 16 (omega arith), le-ltb i 20 (omega arith), le-ltb i 24 (omega arith), le-ltb i 28 l)
 
 module _ (o : One) where
-  number_of_lem : (w j : ℕ) → w < 7 → j < 4 → byte_of j (get_or (numbers_in (header_with o (held_by o).held)) w 0) ≡ content_byte (single o) (4 * w + j)
-  number_of_lem w j h l =
-      ap (λ n. byte_of j (get_or (numbers_in (header_with o n)) w 0)) (sym (held_count o)) ∙ header_content (single o) w j h l
-
   -- block 0 of a station has the numbers of its only feeder
   pub header_of_lem : HeaderOf (content_byte (single o)) (header_with o (held_by o).held)
   header_of_lem =
       record {
-        limit = λ j h. number_of_lem 0 j (omega arith) h;
-        percent = λ j h. number_of_lem 1 j (omega arith) h;
-        tail = λ j h. number_of_lem 2 j (omega arith) h;
-        clock = λ j h. number_of_lem 3 j (omega arith) h;
-        next = λ j h. number_of_lem 4 j (omega arith) h;
-        held = λ j h. number_of_lem 5 j (omega arith) h;
-        site = λ j h. number_of_lem 6 j (omega arith) h;
+        limit = λ j h. header_content (single o) 0 j h (omega arith);
+        percent = λ j h. header_content (single o) 1 j h (omega arith);
+        tail = λ j h. header_content (single o) 2 j h (omega arith);
+        clock = λ j h. header_content (single o) 3 j h (omega arith);
+        next = λ j h. header_content (single o) 4 j h (omega arith);
+        held = λ j h. ap (byte_of j) (sym (held_count o)) ∙ header_content (single o) 5 j h (omega arith);
+        site = λ j h. header_content (single o) 6 j h (omega arith);
       }
 
 -- Records
@@ -121,13 +122,13 @@ module _ (o : One) (k : Columns (held_by o)) where
   held column = take (held_by o).held column
 
   -- byte `byte` of a column's numbers as byte j of the records
-  abbrev pub SameByte : List ℕ → ℕ → ℕ → Type 0
+  abbrev SameByte : List ℕ → ℕ → ℕ → Type 0
   SameByte column j byte = (q : ℕ) → byte_of byte (get_or column q 0) ≡ packed (fields_of (charge_at (held_by o) q)) j
 
   pub held_long : (column : List ℕ) → Filled (held_by o).held column → length (held column) ≡ (held_by o).held
   held_long column f = length-take-le (held_by o).held column (omega (arith, (held_by o).few, f.full))
 
-  pub row_of_lem :
+  row_of_lem :
       (column : List ℕ) (j byte : ℕ) → Filled (held_by o).held column → j < 20 → SameByte column j byte → RowOf (content_byte (single o)) (held column) j byte
   row_of_lem column j byte f h e =
       record {
@@ -141,20 +142,22 @@ module _ (o : One) (k : Columns (held_by o)) where
         none = λ q l m. record_content (single o) q j m h ∙ record_none (single o) q j (omega (arith, held_count o, held_long column f));
       }
 
-  -- the four bytes of a field from byte `from` on
+  -- field w of a record has the number of a column
+  abbrev pub FieldOf : List ℕ → ℕ → ℕ → ℕ → Type 0
+  FieldOf column w from width = (q : ℕ) → (begins 0 (fields_of (charge_at (held_by o) q)) w ≡ from)
+      × (field (fields_of (charge_at (held_by o) q)) w ≡ (width, get_or column q 0))
+
   pub column_of_lem :
-      (column : List ℕ) (from : ℕ)
+      (column : List ℕ) (w from width : ℕ)
+      → FieldOf column w from width
       → Filled (held_by o).held column
-      → from + 4 ≤ 20
-      → SameByte column from 0
-      → SameByte column (from + 1) 1
-      → SameByte column (from + 2) 2
-      → SameByte column (from + 3) 3
+      → from + width ≤ 20
       → (byte : ℕ)
-      → byte < 4
+      → byte < width
       → RowOf (content_byte (single o)) (held column) (from + byte) byte
-  column_of_lem column from f h a b c d zero l = let z : from + 0 ≡ from = omega arith in rw z (row_of_lem column from 0 f (omega arith) a)
-  column_of_lem column from f h a b c d (suc zero) l = row_of_lem column (from + 1) 1 f (omega arith) b
-  column_of_lem column from f h a b c d (suc (suc zero)) l = row_of_lem column (from + 2) 2 f (omega arith) c
-  column_of_lem column from f h a b c d (suc (suc (suc zero))) l = row_of_lem column (from + 3) 3 f (omega arith) d
-  column_of_lem column from f h a b c d (suc (suc (suc (suc n)))) l = absurd (omega arith)
+  column_of_lem column w from width e f h byte l = row_of_lem column (from + byte) byte f (omega arith) same
+    where
+      same : SameByte column (from + byte) byte
+      same q =
+          let inside : byte < (field (fields_of (charge_at (held_by o) q)) w).0 = rw (e q).1 l in
+          sym (rw ((e q).0, (e q).1) at (field_bytes 0 (fields_of (charge_at (held_by o) q)) w byte inside))

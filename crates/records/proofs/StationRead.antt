@@ -1,5 +1,5 @@
 -- The only feeder of the station that is read from contents.
-use mathlib.Core.Path.{◌≡◌, refl, ap, sym, subst, ◌∙◌}
+use mathlib.Core.Path.{◌≡◌, ap, sym, subst, ◌∙◌}
 use Prim.Native.Nat.{ℕ, ◌+◌, ◌*◌, ◌≤◌}
 use mathlib.Core.Bool.{true}
 use mathlib.Core.List.{List, [], ◌∷◌}
@@ -63,11 +63,9 @@ module _ (xs : List ℕ) (right : header_right xs ≡ true) where
   abbrev only_with : Header → ℕ → Charges → One
   only_with h bound c =
       record {
-        count = 1;
         site = h.site;
         clock = h.clock;
         next = h.next;
-        place = 0;
         feeder = record { limit = h.limit; percent = h.percent; bound = bound; tail = h.tail; charges = c };
       }
 
@@ -87,8 +85,6 @@ module _ (xs : List ℕ) (right : header_right xs ≡ true) where
               bound_is = b;
               active = λ q l. active_in q (h.each q (omega (arith, h.held_is)));
             };
-        single = refl;
-        first = refl;
       }
     where
       state_with : List Charge → State

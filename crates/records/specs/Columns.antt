@@ -38,5 +38,3 @@ pub record HoldsFrom (contents : List ℕ) (held tail : ℕ) (c : Charges) : Typ
 pub record ReadFrom (contents : List ℕ) (o : One) : Type 0 where
   pub state : view (station_of o) ≡ state_from contents
   pub settled : Settled o
-  pub single : o.count ≡ 1
-  pub first : o.place ≡ 0

@@ -38,9 +38,9 @@ pub record RowPut (column : List ℕ) (j byte : ℕ) (before after : List ℕ) :
   pub put :
       (f : ℕ → ℕ) → RowOf f column j byte → Begun f (record_place 0 j) before → Begun f (record_place 0 (j + 1)) after
 
-pub record ColumnPut (column : List ℕ) (from : ℕ) (before after : List ℕ) : Type 0 where
+pub record ColumnPut (column : List ℕ) (from width : ℕ) (before after : List ℕ) : Type 0 where
   pub put :
       (f : ℕ → ℕ)
-      → ((byte : ℕ) → byte < 4 → RowOf f column (from + byte) byte)
+      → ((byte : ℕ) → byte < width → RowOf f column (from + byte) byte)
       → Begun f (record_place 0 from) before
-      → Begun f (record_place 0 (from + 4)) after
+      → Begun f (record_place 0 (from + width)) after

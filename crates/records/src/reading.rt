@@ -120,11 +120,9 @@ pub fn read(contents: &[u8; CONTENTS]) -> One
         charges,
     };
     One {
-        count: 1,
         site: header.site,
         clock: header.clock,
         next: header.next,
-        place: 0,
         feeder,
     }
 }

@@ -35,12 +35,12 @@ fn put_row(column: &[u32], j: usize, byte: usize, contents: &mut [u8; CONTENTS])
     }
 }
 
-// A column of 32-bit numbers, as four bytes of the records.
-fn put_column(column: &[u32], from: usize, contents: &mut [u8; CONTENTS])
-    requires { (length column.now ≤ places) × (from + 4 ≤ 20) }
-    ensures { ColumnPut column.now from contents.old contents.new }
+// The column of a field of `width` bytes.
+fn put_column(column: &[u32], from: usize, width: usize, contents: &mut [u8; CONTENTS])
+    requires { (length column.now ≤ places) × (from + width ≤ 20) × (width ≤ 4) }
+    ensures { ColumnPut column.now from width contents.old contents.new }
 {
-    for byte in 0..4 {
+    for byte in 0..width {
         put_row(column, from + byte, byte, contents);
     }
 }
@@ -63,13 +63,12 @@ pub fn contents_of(one: &One) -> [u8; CONTENTS]
     };
     let mut contents = [0; CONTENTS];
     put_header(&header, &mut contents);
-    put_column(&charges.tickets[..held], 0, &mut contents);
-    put_column(&charges.starts[..held], 4, &mut contents);
-    put_column(&charges.dues[..held], 8, &mut contents);
-    put_column(&charges.order_minutes[..held], 12, &mut contents);
-    put_row(&charges.times[..held], 16, 0, &mut contents);
-    put_row(&charges.times[..held], 17, 1, &mut contents);
-    put_row(&charges.lines[..held], 18, 0, &mut contents);
-    put_row(&charges.rates[..held], 19, 0, &mut contents);
+    put_column(&charges.tickets[..held], 0, 4, &mut contents);
+    put_column(&charges.starts[..held], 4, 4, &mut contents);
+    put_column(&charges.dues[..held], 8, 4, &mut contents);
+    put_column(&charges.order_minutes[..held], 12, 4, &mut contents);
+    put_column(&charges.times[..held], 16, 2, &mut contents);
+    put_column(&charges.lines[..held], 18, 1, &mut contents);
+    put_column(&charges.rates[..held], 19, 1, &mut contents);
     contents
 }

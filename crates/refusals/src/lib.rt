@@ -64,10 +64,10 @@ pub enum Refusal {
     NoSuchFeeder = 29,
 }
 
-impl Refusal {
-    pub fn number(self) -> u32
-        ensures { result ≡ number_of self }
-    {
-        self as u32
+impl From<Refusal> for u32 {
+    ghost from_gives = { λ refusal n. n ≡ number_of refusal };
+
+    fn from(refusal: Refusal) -> u32 {
+        refusal as u32
     }
 }

@@ -16,11 +16,12 @@ use station::Station;
 use station::open::{Asked, Opened};
 use text::Text;
 
-// The lists that are lent to a call: for the numbers of its request, and for what it writes.
+// The lists that are lent to a call: for the numbers of its request, and for what it writes. They are of any size that is enough.
 #[derive(Drop)]
-pub struct Lists {
-    pub numbers: [u32; 2048],
-    pub list: [u32; 4096],
+pub struct Lists<const NUMBERS: usize, const PLACES: usize> {
+    pub numbers: [u32; NUMBERS],
+    pub list: [u32; PLACES],
+    pub ghost room: { (2048 ≤ NUMBERS) × (4096 ≤ PLACES) },
 }
 
 // What is said to a request. With the answer of a call stand how many numbers it read, and how many places it was lent for writing.
@@ -48,7 +49,10 @@ fn places_asked(request: Request) -> u32
 
 // What a line of text asks for, its line feed left out. The lists are lent for its numbers and for what a call writes, and as many
 // places as it asks for are filled; every place that these do not take stays.
-pub fn read(text: &[u8], lists: &mut Lists) -> Result<Request, Reason>
+pub fn read<const NUMBERS: usize, const PLACES: usize>(
+    text: &[u8],
+    lists: &mut Lists<NUMBERS, PLACES>,
+) -> Result<Request, Reason>
     ensures asks { Asks (read_request text.now) (request_values text.now) lists.old.numbers lists.new.numbers result }
     ensures list_after { lists.new.list ≡ sets lists.old.list 0 (lent_to result) }
 {
@@ -72,10 +76,10 @@ fn reopen(station: &mut Station, asked: Asked) -> Result<Opened, Refusal>
 pub fn reply_request(
     station: &mut Station,
     request: Request,
-    numbers: &[u32; 2048],
-    list: &mut [u32; 4096],
+    numbers: &[u32],
+    list: &mut [u32],
 ) -> Said
-    requires { Valid station.old × (Fits 2048 request × (take (length (lent_by request)) list.old ≡ lent_by request)) }
+    requires { Valid station.old × (2048 ≤ length numbers.now) × (4096 ≤ length list.old) × Fits 2048 request × (take (length (lent_by request)) list.old ≡ lent_by request) }
     ensures says { Says (reply (view station.old) (meaning request numbers.now)) station.new result list.new }
     ensures list_after { list.new ≡ sets list.old 0 (request_written (view station.old) (meaning request numbers.now)) }
 {
@@ -106,8 +110,8 @@ pub fn reply_request(
 
 // Prints what is said, with the list that was lent for writing. At most 720 pairs are
 // reported, 180 of each feeder, and 180 tickets answered, so that 30,336 bytes are room enough: 96, and 21 for each number.
-pub fn print(said: Said, list: &[u32], out: &mut Text)
-    requires { SaidFits said (length list.now) × (length out.old + 30336 ≤ Text.CAPACITY) }
+pub fn print<const N: usize>(said: Said, list: &[u32], out: &mut Text<N>)
+    requires { SaidFits said (length list.now) × (length out.old + 30336 ≤ N) }
     ensures { out.new ≡ out.old ++ said_text said list.now }
 {
     match said {
@@ -122,8 +126,13 @@ pub fn print(said: Said, list: &[u32], out: &mut Text)
 }
 
 // Answers one request, its line feed left out: the station goes on, and the answer is printed.
-pub fn answer(station: &mut Station, text: &[u8], lists: &mut Lists, out: &mut Text)
-    requires { Valid station.old × (length out.old + 30336 ≤ Text.CAPACITY) }
+pub fn answer<const NUMBERS: usize, const PLACES: usize, const N: usize>(
+    station: &mut Station,
+    text: &[u8],
+    lists: &mut Lists<NUMBERS, PLACES>,
+    out: &mut Text<N>,
+)
+    requires { Valid station.old × (length out.old + 30336 ≤ N) }
     ensures { Replied (answered (view station.old) text.now) station.new out.old out.new }
 {
     match read(text, lists) {

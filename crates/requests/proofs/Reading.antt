@@ -24,6 +24,7 @@ use denote.Param.Members.{Mut}
 use denote.Ref.{Bor}
 use Rattle.text.proofs.Splitting.{split_slices}
 use Rattle.std.specs.Prelude.{Option, Some, None, Result, Ok, Err, IfOk}
+use Rattle.std.specs.Option.{ok_or}
 use Rattle.std.specs.Result.{IsErrAnd}
 use Rattle.text.specs.Numbers.{number_of}
 use Rattle.text.specs.Parts.{split}
@@ -85,22 +86,6 @@ pub record Reads (words : List (List ℕ)) (least most : ℕ) (lent list : List 
   pub values : values_read most words ≡ take count list ++ values_read (most - count) (drop count words)
   pub whole :
       read_numbers least most words ≡ after (take count list) (read_numbers (least - count) (most - count) (drop count words))
-
-pub reads_none : (words : List (List ℕ)) (least most : ℕ) (list : List ℕ) → Reads words least most list list 0
-reads_none words least most list =
-    let p : least - 0 ≡ least = omega arith in
-    let q : most - 0 ≡ most = omega arith in
-    record {
-      few = omega arith;
-      long = refl;
-      written = refl;
-      values = rw q refl;
-      whole = rw (p, q) (sym (nothing (read_numbers least most words)));
-    }
-  where
-    nothing : (r : Result (List ℕ) Reason) → after [] r ≡ r
-    nothing (Ok ns) = refl
-    nothing (Err reason) = refl
 
 module _ {words : List (List ℕ)} {takes : Takes} {lent list : List ℕ} {count : ℕ} (r : Reads words takes.least takes.most lent list count) where
   -- no more numbers are read
@@ -234,12 +219,20 @@ fits_more k (Ok (asked.Open x)) h f = tt
 fits_more k (Ok (asked.Call c from until places)) h f = (f.0, (omega (arith, f.1.0), f.1.1))
 fits_more k (Err reason) h f = tt
 
--- a name that is none, numbers that are wrong, a call
-module _ {name : Option CallName} (words : List (List ℕ)) (list : List ℕ) where
-  pub call_unknown : name ≡ None → Asks (read_call name words) (call_values name words) list list (Err UnknownCall)
-  unfolding read_call
-  call_unknown e = record { request_is = rw e; fits = tt; list_is = rw e }
+-- a name that is none
+unknown : (name : Option CallName) (reason : Reason) → ok_or name UnknownCall ≡ Err reason → (name ≡ None) × (reason ≡ UnknownCall)
+unknown None reason e = (refl, cc)
+unknown (Some name) reason e = cc
 
+pub call_unknown :
+    (name : Option CallName) (words : List (List ℕ)) (list : List ℕ) (reason : Reason) → ok_or name UnknownCall ≡ Err reason
+    → Asks (read_call name words) (call_values name words) list list (Err reason)
+unfolding read_call
+call_unknown name words list reason e =
+    let u = unknown name reason e in record { request_is = rw (u.0, u.1); fits = tt; list_is = rw u.0 }
+
+-- numbers that are wrong, a call
+module _ {name : Option CallName} (words : List (List ℕ)) (list : List ℕ) where
   module _ {known : CallName} {takes : Takes} {read : Result ℕ Reason} {after : List ℕ} (e : name ≡ Some known) (t : takes ≡ taken known)
       (r : TakesNumbers takes words list after read) where
     values_so : after ≡ sets list 0 (call_values name words)

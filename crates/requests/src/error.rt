@@ -5,8 +5,8 @@ ghost use Rattle.requests.specs.Errors.{error_text};
 use crate::request::Reason;
 use text::Text;
 
-pub fn print_error(reason: Reason, out: &mut Text)
-    requires { length out.old + 96 ≤ Text.CAPACITY }
+pub fn print_error<const N: usize>(reason: Reason, out: &mut Text<N>)
+    requires { length out.old + 96 ≤ N }
     ensures { out.new ≡ out.old ++ error_text reason }
 {
     match reason {

@@ -89,7 +89,8 @@ fn taken(name: CallName) -> Takes
     }
 }
 
-// Reads the numbers behind the first word into the lent list, and answers how many they are.
+// Reads the numbers behind the first word into the lent list, and answers how many they are. They are counted by hand, since the count
+// is what is answered.
 fn read_numbers(text: &[u8], takes: Takes, numbers: &mut [u32]) -> Result<usize, Reason>
     requires { takes.most ≤ length numbers.old }
     ensures { TakesNumbers takes (drop 1 (split 32 text.now)) numbers.old numbers.new result }
@@ -212,9 +213,7 @@ pub fn read_request(text: &[u8], numbers: &mut [u32]) -> Result<Request, Reason>
     if text[0] == COMMENT {
         return Ok(Request::Nothing);
     }
-    let Some(name) = call_named(first_word(text)) else {
-        return Err(Reason::UnknownCall);
-    };
+    let name = call_named(first_word(text)).ok_or(Reason::UnknownCall)?;
     let count = read_numbers(text, taken(name), numbers)?;
     call_of(name, &numbers[..count])
 }

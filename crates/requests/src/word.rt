@@ -20,27 +20,17 @@ pub enum CallName {
 pub fn call_named(word: &[u8]) -> Option<CallName>
     ensures { result ≡ named word.now }
 {
-    if word == b"open".as_slice() {
-        Some(CallName::Open)
-    } else if word == b"preview".as_slice() {
-        Some(CallName::Preview)
-    } else if word == b"commit".as_slice() {
-        Some(CallName::Commit)
-    } else if word == b"move".as_slice() {
-        Some(CallName::Move)
-    } else if word == b"offer".as_slice() {
-        Some(CallName::Offer)
-    } else if word == b"latest".as_slice() {
-        Some(CallName::Latest)
-    } else if word == b"lines".as_slice() {
-        Some(CallName::Lines)
-    } else if word == b"enquire".as_slice() {
-        Some(CallName::Enquire)
-    } else if word == b"board".as_slice() {
-        Some(CallName::Board)
-    } else if word == b"withdraw".as_slice() {
-        Some(CallName::Withdraw)
-    } else {
-        None
+    match word {
+        b"open" => Some(CallName::Open),
+        b"preview" => Some(CallName::Preview),
+        b"commit" => Some(CallName::Commit),
+        b"move" => Some(CallName::Move),
+        b"offer" => Some(CallName::Offer),
+        b"latest" => Some(CallName::Latest),
+        b"lines" => Some(CallName::Lines),
+        b"enquire" => Some(CallName::Enquire),
+        b"board" => Some(CallName::Board),
+        b"withdraw" => Some(CallName::Withdraw),
+        _ => None,
     }
 }

@@ -6,9 +6,10 @@ use mathlib.Core.List.{List, ◌++◌}
 use mathlib.Core.Logic.{◌⊎◌, inl, inr, ⊎_elim}
 use native.Mathlib.Omega.{arith}
 use borrow.Author.Tests.{lt-ltb, le-ltb, lt-leb, le-leb, eq-eqb, ne_eqb}
+use borrow.Rule.Slice.PartMut.{mid_of, put_mid}
 use lib.Dec.{ltb, leb, eqb}
 use lib.ListN.{length, get_or, take, drop, replicate, get_or-eq_default}
-use Rattle.std.proofs.lemmas.List.{get_or_append_left, get_or-append_right, get_or-drop, get_or-replicate, length-replicate, length-take}
+use Rattle.std.proofs.lemmas.List.{places, get_or_append_left, get_or-append_right, get_or-drop, get_or-replicate, length-replicate, length-take}
 use Rattle.rules.specs.Load.{IsLine}
 use Rattle.rules.specs.Search.{Caps}
 use Rattle.rules.specs.Replan.{lowered}
@@ -77,12 +78,16 @@ unlowered_shown a site n {m} w e =
 
 -- A list lowered
 
--- b is a with the places from v up to k at most t
-pub record Lowering (a b : List ℕ) (v t k : ℕ) : Type 0 where
-  pub size : length b ≡ length a
-  pub before : (m : ℕ) → m < v → get_or b m 0 ≡ get_or a m 0
-  pub between : (m : ℕ) → v ≤ m → m < k → get_or b m 0 ≡ min (get_or a m 0) t
+-- b is a with the first k places at most t
+pub record Lowering (a b : List ℕ) (t k : ℕ) : Type 0 where
+  pub before : (m : ℕ) → m < k → get_or b m 0 ≡ min (get_or a m 0) t
   pub after : (m : ℕ) → k ≤ m → get_or b m 0 ≡ get_or a m 0
+
+-- b is what the places from n on became
+pub lowering_done :
+    (n : ℕ) {a b : List ℕ} {t k m j : ℕ} → length a ≡ 61 → k ≡ min n 61 → m ≡ 61 - k → Lowering (mid_of k m a) b t j → length b ≡ m → m ≤ j
+    → Lowered a (put_mid k m a b) t n
+lowering_done n {k = k} full begins some w size all = record { before = λ i h. grind (arith, places); after = λ i h. grind (arith, places, w.before (i - k)) }
 
 -- The cap of a line lowered
 

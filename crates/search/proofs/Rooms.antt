@@ -1,4 +1,4 @@
--- Room in a minute, the walk up to the first minute without room, and the search over the answers of `first_failing`.
+-- Room in a minute and in a step, and the search over the answers of `first_failing`.
 use Prim.Native.Nat.{ℕ, ◌+◌, ◌-◌, ◌^◌, ◌≤◌, ◌<◌, max}
 use mathlib.Core.Path.{◌≡◌, refl, sym, ◌∙◌, ap, subst}
 use mathlib.Core.Bool.{Bool, true, false, cond, ◌||◌, or-true, true≢false}
@@ -8,13 +8,14 @@ use borrow.Author.Tests.{lt-ltb, le-ltb, le-leb, lt-leb}
 use lib.Dec.{ltb}
 use lib.ListN.{length, get_or}
 use Rattle.std.specs.Prelude.{Option, Some, None}
+use Rattle.std.specs.Bool.{then_some}
 use Rattle.rules.proofs.Ranges.{below_or_not}
 use Rattle.profile.specs.Steps.{minutes_of, In, Rising}
 use Rattle.profile.specs.Shows.{Profile, last_minute}
+use Rattle.profile.specs.declared.steps.Step.{Step}
 use Rattle.profile.proofs.Levels.{at_step, in_more, rising_le}
-use Rattle.search.specs.Rooms.{has_room, End, FailsAt, FirstFailing, Misses, Least}
+use Rattle.search.specs.Rooms.{has_room, End, Visit, FailsAt, FailsIn, FirstFailing, Misses, Least}
 use Rattle.search.specs.declared.walk.Failing.{Failing}
-use Rattle.search.proofs.Walks.{Walk, walk_inside, walk_passed, walk_on}
 
 -- Room
 
@@ -35,42 +36,39 @@ pub room_cond : (b : Bool) (t : ℕ) → has_room (cond b 4294967295 0) t ≡ b
 room_cond true t = room_always 4294967295 t (omega arith)
 room_cond false t = room_after 0 t (omega arith) (omega arith)
 
--- The walk
+-- One step
 
--- in step i, whose minutes are looked at from t on, there is room up to, and without, the minute `room`
-module _ {f : ℕ → Bool} {p : Profile} {from until step i end m : ℕ} (room : ℕ) (r : Rising (minutes_of p) (length p))
-    (same : (v : ℕ) → In (minutes_of p) (length p) i v → f v ≡ has_room room v) (w : Walk f p from until step i)
-    (t : ℕ) (begins : t ≡ max (get_or (minutes_of p) i 0) from) (below : i < length p) (more : t < until) (e : End p i until end)
-    (top : m ≡ max t room) where
-  -- it fails in this step
-  pub walk_fails : until < 2 ^ 32 → m < end → FailsAt f p from until m i
-  walk_fails small h =
-      record {
-        low = omega arith;
-        high = omega (arith, e.most);
-        passed = λ v a b.
-            ⊎_elim
-            (λ c. walk_passed r w t begins v a (omega (arith, e.most)) c)
-            (λ c. same v (inside v c (omega arith)) ∙ room_before room v (omega arith))
-            (below_or_not v t);
-        inside = inside m (omega arith) h;
-        fails = λ v a b. same v b ∙ room_after room v (omega (arith, e.most)) (omega arith);
-      }
-    where
-      inside : (v : ℕ) → t ≤ v → v < end → In (minutes_of p) (length p) i v
-      inside v a b = in_more v r (walk_inside r w t begins below) a (λ h. omega (arith, e.within h))
+-- in step i there is room up to, and without, the minute `room`
+pub room_told :
+    {f : ℕ → Bool} {p : Profile} {until i end m t : ℕ} {held : Step} {r : Option ℕ} (room : ℕ) → Visit p until i held t
+    → ((v : ℕ) → In (minutes_of p) (length p) i v → f v ≡ has_room room v) → End p i until end → m ≡ max t room → until < 2 ^ 32
+    → r ≡ then_some (ltb m end) m → FailsIn f p until i t r
+room_told {f} {p} {until} {i} {end} {m} {t} room u same e top small is = rw is (⊎_elim ends goes (below_or_not m end))
+  where
+    inside : (v : ℕ) → t ≤ v → v < end → In (minutes_of p) (length p) i v
+    inside v a b = in_more v u.rises u.inside a (λ h. omega (arith, e.within h))
 
-  -- it does not
-  pub walk_rooms : {k : ℕ} → end ≤ m → k ≡ i + 1 → Walk f p from until step k
-  walk_rooms h next =
-      walk_on r w t begins below next
-      (λ v a b c.
-      same v c
-      ∙ room_before room v
-      (⊎_elim
-      (λ d. let k = e.next d in omega (arith, c.later (i + 1) (omega arith) k.0, k.1))
-      (λ d. omega arith)
-      (below_or_not end until)))
+    ends : m < end → FailsIn f p until i t (then_some (ltb m end) m)
+    ends h =
+        rw (lt-ltb m end h)
+        (record {
+          low = omega arith;
+          high = omega (arith, e.most);
+          passed = λ v a b. same v (inside v a (omega arith)) ∙ room_before room v (omega arith);
+          inside = inside m (omega arith) h;
+          fails = λ v a b. same v b ∙ room_after room v (omega (arith, e.most)) (omega arith);
+        })
+
+    goes : end ≤ m → FailsIn f p until i t (then_some (ltb m end) m)
+    goes h =
+        rw (le-ltb m end h)
+        (λ v a b c.
+        same v c
+        ∙ room_before room v
+        (⊎_elim
+        (λ d. let k = e.next d in omega (arith, c.later (i + 1) (omega arith) k.0, k.1))
+        (λ d. omega arith)
+        (below_or_not end until)))
 
 -- what an answer says
 pub told_at :

@@ -1,16 +1,13 @@
 -- Counts within both limits and the bound, and what a load adds to them.
 use Prim.Native.Nat.{ℕ}
-use mathlib.Core.Path.{◌≡◌, sym, ◌∙◌, ap, subst}
-use mathlib.Core.Bool.{Bool, true, cond}
+use mathlib.Core.Path.{◌≡◌, ◌∙◌}
+use mathlib.Core.Bool.{Bool, true}
 use mathlib.Core.List.{List}
 use native.Mathlib.Omega.{arith}
-use borrow.Author.Tests.{ne_eqb}
 use Rattle.rules.specs.Load as rules
 use Rattle.rules.specs.Load.{Load, IsColumn, share, whole_of, sound_counts}
 use Rattle.rules.proofs.Counts.{share_most, whole_share, sound_all, sound_few}
-use Rattle.profile.specs.Steps.{counts_of}
 use Rattle.profile.specs.declared.loads.Draw.{Draw}
-use Rattle.profile.specs.declared.steps.Step.{Step}
 use Rattle.profile.proofs.Lines.{line_column, line_one, line_two, line_three, sound_tests}
 use Rattle.search.specs.Numbers.{limits_beside, with_draw, SoundAlone}
 use Rattle.search.specs.declared.limits.Limits.{Limits}
@@ -18,14 +15,6 @@ use Rattle.search.specs.declared.limits.Limits.{Limits}
 -- soundness goes by the counts of the lines and of the other feeders alone
 pub sound_as : (y : rules.Limits) (f g : ℕ → ℕ) {r : Bool} → r ≡ sound_counts y f → ((l : ℕ) → IsColumn l → f l ≡ g l) → r ≡ sound_counts y g
 sound_as y f g e same = e ∙ sound_tests y f g same
-
--- a step is no other for another name
-pub counts_as : {s x : Step} → s ≡ x → (l : ℕ) → counts_of s l ≡ counts_of x l
-counts_as e l = ap (λ (s : Step). counts_of s l) e
-
--- what is on no line adds nothing
-pub share_none : (line rate : ℕ) → (IsColumn line → ⊥) → (l : ℕ) → IsColumn l → share line rate l ≡ 0
-share_none line rate not l h = ap (λ (b : Bool). cond b rate 0) (ne_eqb line l (λ e. not (subst IsColumn (sym e) h)))
 
 -- all that is drawn goes by the lines and the other feeders alone
 pub whole_columns : (f g : ℕ → ℕ) → ((l : ℕ) → IsColumn l → f l ≡ g l) → whole_of f ≡ whole_of g

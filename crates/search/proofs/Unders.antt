@@ -1,12 +1,14 @@
 -- Where one more load fits under a cap and the site's limit: the smallest start, and the run of minutes with room.
-use Prim.Native.Nat.{ℕ, zero, suc, ◌+◌, ◌-◌, min, ◌≤◌, ◌<◌}
+use Prim.Native.Nat.{ℕ, zero, suc, ◌+◌, ◌-◌, ◌^◌, min, max, ◌≤◌, ◌<◌}
 use mathlib.Core.Path.{◌≡◌, refl, sym, ◌∙◌, ap}
 use mathlib.Core.Bool.{Bool, true, false, cond, ◌&&◌, and-true, and-false, true≢false}
 use mathlib.Core.List.{List}
 use native.Mathlib.Omega.{arith}
 use borrow.Author.Tests.{le-leb}
-use lib.Dec.{leb}
+use lib.Dec.{ltb, leb}
 use lib.ListN.{length, get_or}
+use Rattle.std.specs.Prelude.{Option}
+use Rattle.std.specs.Bool.{then_some}
 use Rattle.rules.specs.Basics.{run_of}
 use Rattle.rules.specs.Load.{draw, Load, IsLine, whole_of, counts}
 use Rattle.rules.specs.Search.{Caps, room_for, fits_under}
@@ -14,14 +16,15 @@ use Rattle.rules.proofs.Ranges.{fails, throughout_at}
 use Rattle.rules.proofs.Fitting.{run_is, fits_run_lem}
 use Rattle.profile.specs.Steps.{minutes_of, empty_step, In}
 use Rattle.profile.specs.Shows.{Profile, line_of, level_of, levels, last_minute, Shows}
+use Rattle.profile.specs.declared.steps.Step.{Step}
 use Rattle.profile.proofs.Lines.{line_column}
 use Rattle.profile.proofs.Levels.{level_in}
-use Rattle.search.specs.Rooms.{has_room, FailsAt, Misses, Least}
+use Rattle.search.specs.Rooms.{has_room, End, Visit, FailsAt, FailsIn, Misses, Least}
 use Rattle.search.specs.Starts.{CanStart}
 use Rattle.search.specs.Caps.{caps_of, CapsShown, under_in, room_under, CanCap, EarliestStartUnder}
 use Rattle.search.specs.declared.caps.LineCaps.{LineCaps}
 use Rattle.search.proofs.Sounds.{whole_none, whole_columns}
-use Rattle.search.proofs.Rooms.{room_after, room_always}
+use Rattle.search.proofs.Rooms.{room_after, room_always, room_told}
 
 -- The room of a step
 
@@ -40,6 +43,12 @@ step_room p c line rate i e v h =
     (whole_columns (levels p v) (λ l. line_of p l i) (λ l j. level_in (minutes_of p) (line_of p l) (length p) i v h))
     ∙ sym (room_and (leb (whole_of (λ l. line_of p l i) + rate) c.site) (caps_of c line (line_of p line i + rate)) v)
     ∙ ap (λ (x : ℕ). has_room x v) (sym e)
+
+-- an answer goes by the room that there is
+pub under_told :
+    {p : Profile} (c : LineCaps) (line rate : ℕ) {until i end m t x : ℕ} {held : Step} {r : Option ℕ} → Visit p until i held t → until < 2 ^ 32
+    → x ≡ under_in c line rate held → End p i until end → m ≡ max t x → r ≡ then_some (ltb m end) m → FailsIn (room_under p c line rate) p until i t r
+under_told {p} c line rate {i = i} {x = x} u small at e top is = room_told x u (step_room p c line rate i (rw u.item at at)) e top small is
 
 -- The smallest start
 

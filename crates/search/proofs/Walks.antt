@@ -6,50 +6,72 @@ use mathlib.Core.Logic.{⊎_elim}
 use native.Mathlib.Omega.{arith}
 use lib.ListN.{length, get_or}
 use Rattle.rules.proofs.Ranges.{below_or_not}
+use Rattle.std.specs.Prelude.{None}
 use Rattle.profile.specs.Steps.{minutes_of, In, Rising}
 use Rattle.profile.specs.Shows.{Profile}
+use Rattle.profile.specs.declared.steps.Step.{Step}
 use Rattle.profile.proofs.Levels.{at_step, in_more, same_or_not}
+use Rattle.search.specs.Rooms.{Visit, FailsAt, FailsIn}
+use Rattle.search.proofs.Skipping.{IsStep}
 
--- the walk began in the step of minute `from`; of the minutes from there on and below `until` those before step i pass the test
-pub record Walk (f : ℕ → Bool) (p : Profile) (from until step i : ℕ) : Type 0 where
-  pub inside : In (minutes_of p) (length p) step from
-  pub low : step ≤ i
+-- of the minutes from `from` on and below `until` those before step i pass the test
+pub record Walk (f : ℕ → Bool) (p : Profile) (from until i : ℕ) : Type 0 where
   pub passed : (v : ℕ) → from ≤ v → v < until → (i < length p → v < get_or (minutes_of p) i 0) → f v ≡ true
 
--- t is the first minute of step i that is looked at
-module _ {f : ℕ → Bool} {p : Profile} {from until step i : ℕ} (r : Rising (minutes_of p) (length p)) (w : Walk f p from until step i)
-    (t : ℕ) (begins : t ≡ max (get_or (minutes_of p) i 0) from) where
+-- the walk begins in the step of minute `from`
+pub walk_begin :
+    {f : ℕ → Bool} {p : Profile} {from until step i : ℕ} → i ≡ step → In (minutes_of p) (length p) step from → Walk f p from until i
+walk_begin e h = rw e (record { passed = λ v a b c. absurd (omega (arith, h.begun, c h.below)) })
+
+-- the walk looks at step k, from minute t on
+module _ {p : Profile} {from step k i : ℕ} {held : Step} (r : Rising (minutes_of p) (length p)) (start : In (minutes_of p) (length p) step from)
+    (turn : IsStep p k i held) (low : step ≤ k) (t : ℕ) (begins : t ≡ max held.minute from) where
   -- it lies in the step
-  pub walk_inside : i < length p → In (minutes_of p) (length p) i t
-  walk_inside below =
-      ⊎_elim
+  walk_inside : In (minutes_of p) (length p) i t
+  walk_inside =
+      rw turn.number
+      (⊎_elim
       (λ e.
-      let q : from ≡ t = omega (arith, w.inside.begun, ap (λ (x : ℕ). get_or (minutes_of p) x 0) e) in
-      subst (λ (x : ℕ). In (minutes_of p) (length p) x t) (sym e) (subst (λ (x : ℕ). In (minutes_of p) (length p) step x) q w.inside))
+      let q : from ≡ t = omega (arith, start.begun, turn.minute, ap (λ (x : ℕ). get_or (minutes_of p) x 0) e) in
+      subst (λ (x : ℕ). In (minutes_of p) (length p) x t) (sym e) (subst (λ (x : ℕ). In (minutes_of p) (length p) step x) q start))
       (λ ne.
-      let q : get_or (minutes_of p) i 0 ≡ t = omega (arith, w.inside.later i (omega (arith, w.low, ne)) below) in
-      subst (λ (x : ℕ). In (minutes_of p) (length p) i x) q (at_step (minutes_of p) (length p) i r below))
-      (same_or_not i step)
+      let q : get_or (minutes_of p) k 0 ≡ t = omega (arith, turn.minute, start.later k (omega (arith, ne, low)) turn.below) in
+      subst (λ (x : ℕ). In (minutes_of p) (length p) k x) q (at_step (minutes_of p) (length p) k r turn.below))
+      (same_or_not k step))
 
-  -- every minute before it passes
-  pub walk_passed : (v : ℕ) → from ≤ v → v < until → v < t → f v ≡ true
-  walk_passed v a b c = w.passed v a b (λ h. omega arith)
+  pub walk_visit : {until : ℕ} → t < until → Visit p until i held t
+  walk_visit more = record { rises = r; inside = walk_inside; high = more; item = rw turn.number turn.item }
 
-  -- from it on every minute of the step passes
-  pub walk_on : {k : ℕ} → i < length p → k ≡ i + 1 → ((v : ℕ) → t ≤ v → v < until → In (minutes_of p) (length p) i v → f v ≡ true) → Walk f p from until step k
-  walk_on below next all =
-      rw next
-      (record {
-        inside = w.inside;
-        low = omega (arith, w.low);
-        passed = λ v a b c.
-            ⊎_elim
-            (λ d. walk_passed v a b d)
-            (λ d. all v d b (in_more v r (walk_inside below) d c))
-            (below_or_not v t);
-      })
+  module _ {f : ℕ → Bool} {until : ℕ} (w : Walk f p from until k) where
+    -- every minute before it passes
+    pub walk_passed : (v : ℕ) → from ≤ v → v < until → v < t → f v ≡ true
+    walk_passed v a b c = w.passed v a b (λ h. omega (arith, turn.minute))
+
+    -- a minute of this step fails
+    pub walk_fails : {m n j : ℕ} → FailsAt f p t until m i → n ≡ m → j ≡ i → FailsAt f p from until n j
+    walk_fails x same here =
+        rw (same, here)
+        (record {
+          low = omega (arith, x.low);
+          high = x.high;
+          passed = λ v a b. ⊎_elim (λ c. walk_passed v a (omega (arith, x.high)) c) (λ c. x.passed v c b) (below_or_not v t);
+          inside = x.inside;
+          fails = x.fails;
+        })
+
+    -- none does
+    pub walk_on : {next : ℕ} → next ≡ k + 1 → FailsIn f p until i t None → Walk f p from until next
+    walk_on e all =
+        rw e
+        (record {
+          passed = λ v a b c.
+              ⊎_elim
+              (λ d. walk_passed v a b d)
+              (λ d. all v d b (in_more v r walk_inside d (rw turn.number c)))
+              (below_or_not v t);
+        })
 
 -- there is no step left
 pub walk_done :
-    {f : ℕ → Bool} {p : Profile} {from until step i : ℕ} → Walk f p from until step i → length p ≤ i → (v : ℕ) → from ≤ v → v < until → f v ≡ true
+    {f : ℕ → Bool} {p : Profile} {from until i : ℕ} → Walk f p from until i → length p ≤ i → (v : ℕ) → from ≤ v → v < until → f v ≡ true
 walk_done w h v a b = w.passed v a b (λ c. absurd (omega arith))

@@ -1,5 +1,5 @@
 -- The test of a candidate start and the first start that fits, by the levels of a profile.
-use Rattle.std.specs.Prelude.{ℕ, ◌+◌, ◌-◌, ◌^◌, ◌≤◌, ◌<◌, ◌≡◌, Bool, true, false, List, [], length, Result, Ok, Err}
+use Rattle.std.specs.Prelude.{ℕ, ◌+◌, ◌-◌, ◌^◌, ◌≤◌, ◌<◌, ◌≡◌, Bool, true, false, List, [], length, Option, Some, None}
 use Rattle.rules.specs.Load.{Load, IsRate, sound_counts}
 use Rattle.rules.specs.Candidate.{Tested, tested_by, candidate}
 use Rattle.profile.specs.Steps.{minutes_of, In}
@@ -8,12 +8,12 @@ use Rattle.profile.specs.declared.loads.Draw.{Draw}
 use Rattle.search.specs.Numbers.{limits_beside, with_draw, SoundAlone}
 use Rattle.search.specs.Starts.{CanStart}
 use Rattle.search.specs.declared.limits.Limits.{Limits}
-use Rattle.search.specs.declared.candidate.Miss.{Miss}
+use Rattle.search.specs.declared.walk.Failing.{Failing}
 
--- the code's answer as the rules have it: where no minute fails, all `time` of them were looked at
-abbrev pub tested_of : ℕ → Result (Unit {0}) Miss → Tested
-tested_of time (Ok x) = record { fits = true; looked = time }
-tested_of time (Err m) = record { fits = false; looked = m.looked }
+-- the code's answer as the rules have it: the failing minute is the last that was looked at; where none fails all `time` of them were
+abbrev pub tested_of : ℕ → ℕ → Option Failing → Tested
+tested_of time start None = record { fits = true; looked = time }
+tested_of time start (Some m) = record { fits = false; looked = m.minute - start + 1 }
 
 -- the levels in minute t and what a charge draws are within both limits and the bound
 abbrev pub fits_in : Profile → Limits → Draw → ℕ → Bool
@@ -27,23 +27,23 @@ pub record CanTest (p : Profile) (a : Draw) (start step : ℕ) : Type 0 where
   pub inside : In (minutes_of p) (length p) step start
   pub ends_fit : start + a.time < 2 ^ 32
 
--- the last minute that was looked at lies in the step that is told, where it fails
-abbrev pub MissIn : Profile → ℕ → Result (Unit {0}) Miss → Type 0
-MissIn p start (Ok x) = Unit {0}
-MissIn p start (Err m) = In (minutes_of p) (length p) m.step (start + m.looked - 1)
+-- the failing minute is none before the start, and lies in the step that is told
+abbrev pub FailingIn : Profile → ℕ → Option Failing → Type 0
+FailingIn p start None = Unit {0}
+FailingIn p start (Some m) = (start ≤ m.minute) × In (minutes_of p) (length p) m.step m.minute
 
 -- the answer has the verdict and the number of minutes of the rules' test, and the step of the minute that fails
-pub record TestedAs (p : Profile) (y : Limits) (a : Draw) (start : ℕ) (r : Result (Unit {0}) Miss) : Type 0 where
-  pub same : tested_of a.time r ≡ tested_by (fits_in p y a) a.time start
-  pub inside : MissIn p start r
+pub record TestedAs (p : Profile) (y : Limits) (a : Draw) (start : ℕ) (r : Option Failing) : Type 0 where
+  pub same : tested_of a.time start r ≡ tested_by (fits_in p y a) a.time start
+  pub inside : FailingIn p start r
 
 -- whatever loads p shows, the answer is that of the rules' test
-abbrev pub TestShows : Profile → Limits → Draw → ℕ → Result (Unit {0}) Miss → Type 0
+abbrev pub TestShows : Profile → Limits → Draw → ℕ → Option Failing → Type 0
 TestShows p y a start r =
     (clock : ℕ) (loads others : List Load)
     → Shows p clock loads
     → clock ≤ start
-    → tested_of a.time r ≡ candidate (limits_beside y others) loads (draw_of a) start
+    → tested_of a.time start r ≡ candidate (limits_beside y others) loads (draw_of a) start
 
 -- what a search over candidates asks: the last step has room
 pub record CanFit (p : Profile) (y : Limits) (a : Draw) (start : ℕ) : Type 0 where

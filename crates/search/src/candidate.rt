@@ -4,39 +4,26 @@ ghost use Rattle.profile.specs.Shows.{last_minute};
 ghost use Rattle.search.specs.Candidates.{CanTest, TestedAs, CanFit, FirstFitting};
 
 use crate::limits::Limits;
+use crate::walk::{Failing, first_failing_by};
 use profile::loads::Draw;
 use profile::steps::{Step, place};
 
-// A minute fails: how many were looked at with it, and its step. Where none fails, all of the load's minutes were looked at.
-#[derive(Clone, Copy)]
-pub struct Miss {
-    pub looked: u32,
-    pub step: usize,
-}
-
-// The test of a candidate start that lies in a step: step after step, up to the first failing minute.
+// The first failing minute of a candidate start that lies in a step: it is looked for step after step, and none is told where the start
+// fits. A step fails at once or nowhere, since its counts are the same in all its minutes.
 pub fn test_start(
     steps: &[Step],
     limits: Limits,
     draw: Draw,
     start: u32,
     step: usize,
-) -> Result<(), Miss>
+) -> Option<Failing>
     requires { CanTest steps.now draw start step }
     ensures { TestedAs steps.now limits draw start result }
 {
     let until = start + draw.time;
-    for (i, held) in steps.iter().enumerate().skip(step) {
-        let t = held.minute.max(start);
-        if until <= t {
-            break;
-        }
-        if !limits.allow_with(*held, draw) {
-            let looked = t - start + 1;
-            return Err(Miss { looked, step: i });
-        }
-    }
-    Ok(())
+    first_failing_by(steps, step, start, until, |_, held, t| {
+        (!limits.allow_with(held, draw)).then_some(t)
+    })
 }
 
 // The first start, not below the one given, that fits by the minutes below `until`: the answer fits, or it reaches `until` or
@@ -48,10 +35,10 @@ pub fn first_fitting(steps: &[Step], limits: Limits, draw: Draw, start: u32, unt
     let mut i = place(steps, start);
     let mut s = start;
     while s + draw.time <= until {
-        let Err(miss) = test_start(steps, limits, draw, s, i) else {
+        let Some(failing) = test_start(steps, limits, draw, s, i) else {
             return s;
         };
-        i = miss.step + 1;
+        i = failing.step + 1;
         s = steps[i].minute.min(until);
     }
     s

@@ -35,8 +35,8 @@ fn unlowered(n: usize) -> [u32; CAP_PLACES]
 fn lower_from(caps: &mut [u32; CAP_PLACES], n: usize, t: u32)
     ensures { Lowered caps.old caps.new t n }
 {
-    for k in n..CAP_PLACES {
-        caps[k] = caps[k].min(t);
+    for cap in &mut caps[n.min(CAP_PLACES)..] {
+        *cap = (*cap).min(t);
     }
 }
 
@@ -79,7 +79,7 @@ impl LineCaps {
             2 => &self.two,
             _ => &self.three,
         };
-        if count < CAP_PLACES { caps[count] } else { 0 }
+        caps.get(count).copied().unwrap_or(0)
     }
 
     // Up to which minute a step has room for one more load under its line's cap: not at all, where the site would pass its limit.

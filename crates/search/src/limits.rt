@@ -2,7 +2,7 @@
 ghost use Rattle.std.specs.Prelude.{◌≡◌, ◌≤◌, []};
 ghost use Rattle.rules.specs.Load.{IsRate, share, sound_counts};
 ghost use Rattle.profile.specs.Steps.{counts_of};
-ghost use Rattle.search.specs.Numbers.{limits_beside, with_draw};
+ghost use Rattle.search.specs.Numbers.{limits_beside, with_draw, rate_within};
 ghost use Rattle.search.specs.Rooms.{SmallStep};
 
 use profile::loads::Draw;
@@ -44,5 +44,12 @@ impl Limits {
             others: step.others + share(draw, 4),
             ..step
         })
+    }
+
+    // Whether a rate is within both limits and the bound.
+    pub fn allow_rate(self, rate: u32) -> bool
+        ensures { result ≡ rate_within self rate }
+    {
+        rate <= self.limit && rate <= self.bound && rate <= self.site
     }
 }

@@ -63,5 +63,5 @@ pub fn earliest(steps: &[Step], limits: Limits, draw: Draw) -> Option<u32>
     };
     let start = reaching(clock, unsound.end, draw.time);
     let s = fitting_from(steps, limits, draw, start);
-    if s <= unsound.first { Some(s) } else { None }
+    (s <= unsound.first).then_some(s)
 }

@@ -61,7 +61,6 @@ with_blocks blocks n =
       start = n.start;
       rate = n.rate;
       end = n.end;
-      charging = n.charging;
       cause = n.cause;
       before = n.before;
       after = n.after;

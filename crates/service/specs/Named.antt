@@ -1,10 +1,15 @@
 -- The numbers of an answer by their names, and what serving a call hands back.
-use Rattle.std.specs.Prelude.{ℕ, ◌≡◌, cond, List, [], ◌∷◌, eqb, Result, Ok, Err}
+use Rattle.std.specs.Prelude.{ℕ, ◌≡◌, List, [], ◌∷◌, Option, None, Some, Result, Ok, Err}
 use Rattle.rules.specs.Calls.{Answer, refused, opened, previewed, committed, moved, planned, waiting, charging, looked, withdrawn, Call, preview, commit, move, offer, replan_latest, replan_lines, enquire, board, withdraw, written}
 use Rattle.refusals.specs.declared.Refusal.{Refusal}
 use Rattle.refusals.specs.Refusals.{number_of, refusal_in}
 use Rattle.service.specs.Left.{Told, refusing, telling, told, counted, leaving, called}
 use Rattle.service.specs.declared.numbers.Numbers.{Numbers}
+
+-- what an enquiry tells, by the end: 1 where there is one, which stands last, and 0 where there is none
+abbrev pub enquired : Option ℕ → ℕ → ℕ → List ℕ
+enquired None start rate = 0 ∷ start ∷ rate ∷ []
+enquired (Some end) start rate = 1 ∷ start ∷ rate ∷ end ∷ []
 
 -- those that an answer has, in its own order; an opening is no call of a station that stands, and has none here
 abbrev pub numbers_in : Answer → Numbers → List ℕ
@@ -14,8 +19,8 @@ numbers_in (previewed start) n = n.start ∷ []
 numbers_in (committed ticket start) n = n.ticket ∷ n.start ∷ []
 numbers_in (moved reported dropped) n = n.reported ∷ n.dropped ∷ []
 numbers_in (planned cause before after rounds) n = n.cause ∷ n.before ∷ n.after ∷ n.rounds ∷ []
-numbers_in (waiting start rate) n = n.charging ∷ n.start ∷ n.rate ∷ []
-numbers_in (charging start end rate) n = n.charging ∷ n.start ∷ n.rate ∷ n.end ∷ []
+numbers_in (waiting start rate) n = enquired n.end n.start n.rate
+numbers_in (charging start end rate) n = enquired n.end n.start n.rate
 numbers_in (looked count) n = n.looked ∷ []
 numbers_in withdrawn n = []
 
@@ -31,7 +36,7 @@ numbers_of (move target list) n = n.reported ∷ n.dropped ∷ []
 numbers_of (offer f ss) n = n.cause ∷ n.before ∷ n.after ∷ n.rounds ∷ []
 numbers_of (replan_latest f) n = n.cause ∷ n.before ∷ n.after ∷ n.rounds ∷ []
 numbers_of (replan_lines f allowance) n = n.cause ∷ n.before ∷ n.after ∷ n.rounds ∷ []
-numbers_of (enquire ticket) n = n.charging ∷ n.start ∷ n.rate ∷ cond (eqb n.charging 0) [] (n.end ∷ [])
+numbers_of (enquire ticket) n = enquired n.end n.start n.rate
 numbers_of (board asked list) n = n.looked ∷ []
 numbers_of (withdraw ticket) n = []
 

@@ -5,16 +5,15 @@ ghost use Rattle.service.specs.Named.{Tells};
 use calls::Answer;
 use site::enquiry::Enquiry;
 
-// How many blocks of the image changed; then the numbers of an answer, each 0 where the answer has none of its name. Of an enquiry,
-// `charging` is 1 or 0.
+// How many blocks of the image changed; then the numbers of an answer, each 0 where the answer has none of its name. An end is told
+// of a charge that charges, and of no other.
 #[derive(Clone, Copy)]
 pub struct Numbers {
     pub blocks: u32,
     pub ticket: u32,
     pub start: u32,
     pub rate: u32,
-    pub end: u32,
-    pub charging: u32,
+    pub end: Option<u32>,
     pub cause: u32,
     pub before: u64,
     pub after: u64,
@@ -29,8 +28,7 @@ const NONE: Numbers = Numbers {
     ticket: 0,
     start: 0,
     rate: 0,
-    end: 0,
-    charging: 0,
+    end: None,
     cause: 0,
     before: 0,
     after: 0,
@@ -53,10 +51,9 @@ impl From<Enquiry> for Numbers {
                 ..NONE
             },
             Enquiry::Charging { start, end, rate } => Numbers {
-                charging: 1,
                 start,
                 rate,
-                end,
+                end: Some(end),
                 ..NONE
             },
         }

@@ -1,17 +1,17 @@
 -- The requests of a block that are answered, and the text that answers them.
 use mathlib.Core.Path.{◌≡◌, refl, sym, ap, ◌∙◌}
 use mathlib.Core.List.{List, [], ◌∷◌, ◌++◌}
-use Prim.Native.Nat.{ℕ, suc, ◌+◌, ◌-◌, ◌≤◌, ◌<◌}
+use Prim.Native.Nat.{ℕ, suc, ◌+◌, ◌-◌, ◌≤◌}
 use native.Mathlib.Omega.{arith}
 use lib.ListN.{length, take, drop, length-append}
 use lib.Seq.{take-length, drop-drop}
 use Rattle.rules.specs.Site.{State}
 use Rattle.text.specs.Parts.{split, FirstPart}
 use Rattle.station.specs.declared.Station.{Station}
-use Rattle.station.specs.View.{view, Valid}
+use Rattle.station.specs.View.{view}
 use Rattle.reply.specs.Reply.{Replied, answered}
 use Rattle.session.specs.Session.{first, served}
-use Rattle.session.specs.Turns.{full, after, requests_after, Answers, Stops}
+use Rattle.session.specs.Turns.{after, requests_after, Answers}
 use Rattle.session.proofs.Parting.{split_some}
 use Rattle.session.proofs.Sessions.{served_request, first-first}
 
@@ -55,15 +55,6 @@ module _ {block left request rest : List ℕ} (l : Left block left) (p : FirstPa
 
 -- Requests that are answered
 
-pub answers_none : (s : Station) (block : List ℕ) {out : List ℕ} → Valid s → out ≡ [] → Answers (view s) block s (length block - length block) out
-answers_none s block v e =
-    record {
-      replies_are = rw e (ap (λ (x : List ℕ). served (view s) (split 10 x)) (left_whole block).rest);
-      valid = v;
-      within = omega arith;
-      some_answered = λ h. absurd (omega (arith, ap length e));
-    }
-
 pub answers_more :
     {s : State} {block left request rest : List ℕ} {station next : Station} {out out' : List ℕ}
     → Answers s block station (length block - length left) out → Left block left → FirstPart 10 left request rest
@@ -84,11 +75,3 @@ answers_more {block = block} {request = request} {rest} {station} {next} {out} {
       within = omega arith;
       some_answered = λ _. omega (arith, longer l p, l.short);
     }
-
--- where no request is left that has ended, or there is no more room
-pub stops_done :
-    {block left : List ℕ} (out : List ℕ) → Left block left → split 10 left ≡ left ∷ [] → Stops block (length block - length left) out
-stops_done out l e = record { none_left = λ _. rw l.rest at e }
-
-pub stops_full : (block : List ℕ) (from : ℕ) (out : List ℕ) → full < length out → Stops block from out
-stops_full block from out h = record { none_left = λ k. absurd (omega arith) }

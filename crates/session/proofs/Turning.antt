@@ -1,5 +1,5 @@
 -- From the requests of a block to a turn: the input has ended, the buffer is full, or more input is wanted.
-use mathlib.Core.Path.{◌≡◌, refl, sym, ap, ◌∙◌}
+use mathlib.Core.Path.{◌≡◌, sym, ap, ◌∙◌}
 use mathlib.Core.Bool.{Bool, true, false}
 use mathlib.Core.List.{List, [], ◌∷◌, ◌++◌, append-nil}
 use mathlib.Core.Logic.{⊎_elim}
@@ -8,17 +8,15 @@ use native.Mathlib.Omega.{arith}
 use lib.ListN.{length, take, drop, length-append, length-take, take-append-drop}
 use lib.Seq.{slice, take_at, take_all, take-take, take-length, length-take-le, length-slice}
 use Rattle.std.proofs.lemmas.List.{drop-take}
-use Rattle.rules.specs.Site.{State}
 use Rattle.rules.proofs.Ranges.{below_or_not}
 use Rattle.text.specs.Parts.{split}
 use Rattle.station.specs.declared.Station.{Station}
 use Rattle.station.specs.View.{view}
-use Rattle.reply.specs.Reply.{Told, Replied, answered}
 use Rattle.session.specs.Session.{first, enough, served, feed}
 use Rattle.session.specs.declared.turn.Wants.{Wants}
-use Rattle.session.specs.declared.turn.Wants.TheVariants.{Bytes, Room as Space, Nothing}
+use Rattle.session.specs.declared.turn.Wants.TheVariants.{Bytes, Room as Space}
 use Rattle.session.specs.declared.turn.Session.{Session}
-use Rattle.session.specs.Turns.{full, after, Answers, Stops, KeptTo, held_of, read_of, ends, LastTurn, Turned}
+use Rattle.session.specs.Turns.{full, after, Answers, Stops, KeptTo, held_of, read_of, ends, Turned}
 use Rattle.session.proofs.Parting.{take_whole}
 
 pub not_both : {A : Type 0} {b : Bool} → b ≡ true → b ≡ false → A
@@ -27,35 +25,6 @@ not_both p q = let z : true ≡ false = sym p ∙ q in let n : ◌≡◌ {A = �
 -- a part of a part
 take_slice : (from k to : ℕ) (l : List ℕ) → from + k ≤ to → take k (slice from to l) ≡ slice from (from + k) l
 take_slice from k to l h = sym (drop-take from k (take to l)) ∙ ap (drop from) (take-take (from + k) to l h)
-
--- the last request
-pub last_request :
-    {s : Session} {block before : List ℕ} {q : Station} {out : List ℕ} → before ≡ []
-    → Replied (answered (view s.station) (held_of s block)) q before out
-    → LastTurn s block (record { station = q; held = 0; wants = Nothing }) out
-last_request {s} {block} {before} {q} {out} e r =
-    let t : Told = answered (view s.station) (held_of s block) in
-    record {
-      last_is =
-          ap (λ (x : State). record { state = x; text = t.text }) (sym r.state_is)
-          ∙ ap (λ (x : List ℕ). record { state = view q; text = x }) (sym (r.printed ∙ ap (λ (x : List ℕ). x ++ t.text) e));
-      none_held = refl;
-      is_over = refl;
-      valid = r.valid;
-    }
-
-pub turned_last :
-    {s : Session} {count : ℕ} {block next : List ℕ} {r : Session} {out : List ℕ} → ends s.wants count ≡ true → LastTurn s block r out
-    → Turned s count block r next out
-turned_last {s} {count} {block} {next} {r} {out} e l =
-    record {
-      goes_on = λ f. not_both e f;
-      has_ended = λ _. l.last_is;
-      over_so = rw l.is_over (sym e);
-      standing = rw l.is_over l.none_held;
-      valid = l.valid;
-      within = omega (arith, l.none_held);
-    }
 
 -- Up to where the bytes that are left stay, and what is wanted then: all of them stay where there is no more room, and else what
 -- is kept of the last request.

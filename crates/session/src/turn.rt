@@ -3,7 +3,7 @@
 // specs/Turns.antt says what chains of turns come to.
 ghost use Rattle.std.specs.Prelude.{◌≡◌, ◌+◌, ◌≤◌, length};
 ghost use Rattle.station.specs.View.{view, Valid};
-ghost use Rattle.session.specs.Turns.{ends, Answers, Stops, KeptTo, LastTurn, Turned};
+ghost use Rattle.session.specs.Turns.{full, ends, Answers, Stops, KeptTo, LastTurn, Turned};
 
 use reply::Lists;
 use station::Station;
@@ -11,7 +11,7 @@ use text::{Text, carry, split_once};
 
 // What a session needs before it can go on: more bytes of the input, room in the buffer for further answers, or nothing,
 // since the input has ended and all is answered.
-#[derive(Clone, Copy)]
+#[derive(Clone, Copy, PartialEq)]
 pub enum Wants {
     Bytes,
     Room,
@@ -31,17 +31,28 @@ pub struct Session {
 }
 
 // The block that is read into, which holds what is kept of a request, at most 4,097 bytes, and what is read after it; the lists that are
-// lent to calls; and the text that is to be written.
+// lent to calls; and the text that is to be written, which has room for any answer behind `FULL` bytes.
 #[derive(Drop)]
-pub struct Buffers {
-    pub block: [u8; 8192],
-    pub lists: Lists,
-    pub out: Text,
+pub struct Buffers<
+    const BLOCK: usize,
+    const NUMBERS: usize,
+    const PLACES: usize,
+    const TEXT: usize,
+> {
+    pub block: [u8; BLOCK],
+    pub lists: Lists<NUMBERS, PLACES>,
+    pub out: Text<TEXT>,
+    pub ghost room: { full + 30336 ≤ TEXT },
 }
 
 // Answers the requests of a block that have ended, one after another, as long as there is room for any answer. Answers the place after them.
-fn answer_requests(station: &mut Station, block: &[u8], lists: &mut Lists, out: &mut Text) -> usize
-    requires { Valid station.old }
+fn answer_requests<const NUMBERS: usize, const PLACES: usize, const TEXT: usize>(
+    station: &mut Station,
+    block: &[u8],
+    lists: &mut Lists<NUMBERS, PLACES>,
+    out: &mut Text<TEXT>,
+) -> usize
+    requires { Valid station.old × (full + 30336 ≤ TEXT) }
     ensures answers { Answers (view station.old) block.now station.new result out.new }
     ensures stops { Stops block.now result out.new }
 {
@@ -77,8 +88,13 @@ fn input_ends(wants: Wants, count: usize) -> bool
 
 impl Session {
     // The input has ended: what is held is its last request, which has no line feed.
-    fn last_turn(&mut self, block: &[u8], lists: &mut Lists, out: &mut Text)
-        requires { Valid self.old.station × (self.old.held ≤ length block.now) }
+    fn last_turn<const NUMBERS: usize, const PLACES: usize, const TEXT: usize>(
+        &mut self,
+        block: &[u8],
+        lists: &mut Lists<NUMBERS, PLACES>,
+        out: &mut Text<TEXT>,
+    )
+        requires { Valid self.old.station × (self.old.held ≤ length block.now) × (30336 ≤ TEXT) }
         ensures { LastTurn self.old block.now self.new out.new }
     {
         let request = &block[..self.held];
@@ -91,11 +107,17 @@ impl Session {
     // One turn. After the bytes that are held stand `count` bytes that were read; none, where some were wanted, are the end of
     // the input. The bytes that are not yet answered move to the front of the block: all of them where there is no more room for answers, and
     // of a request that goes on no more than is kept.
-    pub fn turn(&mut self, count: usize, buffers: &mut Buffers)
+    pub fn turn<const BLOCK: usize, const NUMBERS: usize, const PLACES: usize, const TEXT: usize>(
+        &mut self,
+        count: usize,
+        buffers: &mut Buffers<BLOCK, NUMBERS, PLACES, TEXT>,
+    )
         requires { Valid self.old.station × (self.old.held + count ≤ length buffers.old.block) }
         ensures { Turned self.old count buffers.old.block self.new buffers.new.block buffers.new.out }
     {
         let Buffers { block, lists, out } = buffers;
+        // A slice first: no part of an array of any length is lent.
+        let block = &mut block[..];
         if input_ends(self.wants, count) {
             self.last_turn(block, lists, out);
             return;

@@ -1,41 +1,24 @@
--- How many charges a clock move drops, counted feeder by feeder from the first one on.
-use mathlib.Core.Path.{◌≡◌, refl, sym, ap, ◌∙◌}
-use Prim.Native.Nat.{ℕ, suc, ◌+◌, ◌-◌, ◌*◌, ◌≤◌, ◌<◌}
+-- How many charges a clock move drops, counted feeder by feeder.
+use mathlib.Core.Path.{◌≡◌, refl}
+use Prim.Native.Nat.{ℕ, suc, ◌+◌, ◌-◌, ◌≤◌, ◌<◌}
 use mathlib.Core.Bool.{not}
-use mathlib.Core.List.{List, [], ◌++◌, map}
+use mathlib.Core.List.{List, [], ◌∷◌, map}
 use native.Mathlib.Omega.{arith}
-use native.Mathlib.Numerals.{add-one}
-use lib.ListN.{length, get_or, take, drop, length-append}
-use lib.Seq.{drop-cons, drop-length}
-use Rattle.rules.specs.Charge.{Charge, is_finished, unfinished_charges}
-use Rattle.rules.specs.Site as rules
-use Rattle.rules.specs.Site.{no_feeder, joined, site_charges}
+use lib.ListN.{length, get_or, take, length-append}
+use Rattle.std.specs.List.{sum_by}
+use Rattle.std.proofs.lemmas.List.Sums.{sum_by-cons}
+use Rattle.rules.specs.Basics.{tabulate}
+use Rattle.rules.specs.Charge.{is_finished, unfinished_charges}
+use Rattle.rules.specs.Site.{joined, site_charges}
 use Rattle.rules.specs.Calls.{moved_to}
 use Rattle.rules.proofs.Lists.{length_tabulate, length_keep}
 use Rattle.charges.specs.declared.Charges.{Charges}
 use Rattle.charges.specs.Arrays.{charge_at, charges_of}
 use Rattle.station.specs.declared.Feeder.{Feeder}
 use Rattle.station.specs.declared.Station.{Station}
-use Rattle.station.specs.View.{feeder_at, view, Formed}
-use Rattle.station.proofs.Views.{view_length, view_at, length_among, among_read}
+use Rattle.station.specs.View.{outside, feeder_view, feeder_at, view, Formed}
+use Rattle.station.proofs.Views.{length_among, among_at}
 use Rattle.station.proofs.Moves.{passed_feeder}
-use Rattle.site.proofs.FromTheLast.{held_from, from_none, from_on}
-
--- the charges of the feeders from place k on that are not finished
-abbrev pub left_from : Station → ℕ → ℕ → List Charge
-left_from s target k = joined (map (passed_feeder target) (drop k (view s).feeders))
-
-left_none : (s : Station) (target : ℕ) {k : ℕ} → k ≡ s.count → left_from s target k ≡ []
-left_none s target e = ap (left_from s target) (e ∙ sym (view_length s)) ∙ rw (drop-length (view s).feeders) refl
-
-left_on :
-    (s : Station) (target k : ℕ) → k < s.count →
-    left_from s target k ≡ unfinished_charges target (charges_of (feeder_at s k).charges) ++ left_from s target (k + 1)
-left_on s target k h =
-    ap (λ (gs : List rules.Feeder). joined (map (passed_feeder target) gs))
-    (drop-cons (view s).feeders k no_feeder (omega (arith, h, view_length s)))
-    ∙ ap (λ (g : rules.Feeder). unfinished_charges target g.charges ++ joined (map (passed_feeder target) (drop (suc k) (view s).feeders))) (view_at s k h)
-    ∙ ap (λ (j : ℕ). unfinished_charges target (charges_of (feeder_at s k).charges) ++ left_from s target j) (sym (add-one k))
 
 -- a feeder is left no more charges than it holds
 module _ (c : Charges) (target : ℕ) where
@@ -43,58 +26,35 @@ module _ (c : Charges) (target : ℕ) where
   unfinished_few e =
       omega (arith, e, length_keep (λ x. not (is_finished target x)) (charges_of c), length_tabulate (charge_at c) c.held 0)
 
--- n charges of the first k feeders are finished: what these hold is n more than what is left of it, said with the feeders behind
-pub record DroppedBefore (s : Station) (gs : List Feeder) (target n k : ℕ) : Type 0 where
-  pub all : gs ≡ take s.count s.feeders
-  pub few : n ≤ 180 * k
-  pub sum : n + length (left_from s target 0) + length (held_from s k) ≡ length (held_from s 0) + length (left_from s target k)
+-- so many of its charges are finished
+abbrev pub dropped_of : ℕ → Feeder → ℕ
+dropped_of target g = g.charges.held - length (unfinished_charges target (charges_of g.charges))
 
-pub dropped_none :
-    (s : Station) (target : ℕ) {gs : List Feeder} {n k : ℕ} → gs ≡ take s.count s.feeders → n ≡ 0 → k ≡ 0 → DroppedBefore s gs target n k
-dropped_none s target all e z = rw (e, z) (record { all = all; few = omega arith; sum = omega arith })
+-- these feeders, the first of which is f a, hold so many more than what is left of it
+dropped_from :
+    (target : ℕ) (f : ℕ → Feeder) (gs : List Feeder) (a : ℕ)
+    → ((i j : ℕ) → i < length gs → j ≡ a + i → get_or gs i outside ≡ f j)
+    → sum_by (dropped_of target) gs + length (joined (map (passed_feeder target) (tabulate (λ i. feeder_view (f i)) (length gs) a)))
+    ≡ length (joined (tabulate (λ i. feeder_view (f i)) (length gs) a))
+dropped_from target f [] a e = refl
+dropped_from target f (g ∷ gs) a e =
+    let is : g ≡ f a = e 0 a (omega arith) (omega arith) in
+    rw (
+      ← is,
+      sum_by-cons (dropped_of target) g gs,
+      length-append (unfinished_charges target (charges_of g.charges)) (joined (map (passed_feeder target) (tabulate (λ i. feeder_view (f i)) (length gs) (suc a)))),
+      length-append (charges_of g.charges) (joined (tabulate (λ i. feeder_view (f i)) (length gs) (suc a))),
+    )
+    (omega (
+      arith,
+      unfinished_few g.charges target refl,
+      length_tabulate (charge_at g.charges) g.charges.held 0,
+      dropped_from target f gs (suc a) (λ i j h z. e (suc i) j (omega (arith, h)) (omega (arith, z))),
+    ))
 
-module _ (s : Station) (w : Formed s) {gs : List Feeder} {target n k : ℕ} (d : DroppedBefore s gs target n k) where
-  many : length gs ≡ s.count
-  many = ap length d.all ∙ length_among s w
-
-  module _ (h : k < length gs) {g : Feeder} (is : g ≡ get_or gs k g) where
-    abbrev here : Charges
-    here = g.charges
-
-    inside : k < s.count
-    inside = omega (arith, h, many)
-
-    own : here ≡ (feeder_at s k).charges
-    own = ap (λ (x : Feeder). x.charges) (is ∙ ap (λ (hs : List Feeder). get_or hs k g) d.all ∙ among_read s (omega (arith, h, ap length d.all)) inside g)
-
-    pub dropped_on :
-        {m n' k' : ℕ}
-        → m ≡ length (unfinished_charges target (charges_of here))
-        → n' ≡ n + (here.held - m)
-        → k' ≡ k + 1
-        → DroppedBefore s gs target n' k'
-    dropped_on {m} e q z =
-        rw (q, z)
-        (record {
-          all = d.all;
-          few = omega (arith, d.few, here.few);
-          sum =
-              omega (
-                arith,
-                d.sum,
-                e,
-                unfinished_few here target e,
-                ap length (from_on s k inside ∙ ap (λ (c : Charges). charges_of c ++ held_from s (k + 1)) (sym own)),
-                ap length (left_on s target k inside ∙ ap (λ (c : Charges). unfinished_charges target (charges_of c) ++ left_from s target (k + 1)) (sym own)),
-                length-append (charges_of here) (held_from s (k + 1)),
-                length-append (unfinished_charges target (charges_of here)) (left_from s target (k + 1)),
-                length_tabulate (charge_at here) here.held 0,
-              );
-        })
-
-  pub dropped_all :
-      length gs ≤ k → k ≤ length gs →
-      n ≡ length (site_charges (view s)) - length (site_charges (moved_to (view s) target))
-  dropped_all h l =
-      let e : k ≡ s.count = omega (arith, h, l, many) in
-      omega (arith, d.sum, ap length (from_none s e), ap length (left_none s target e))
+pub dropped_all :
+    (s : Station) (target : ℕ) → Formed s
+    → sum_by (dropped_of target) (take s.count s.feeders) + length (site_charges (moved_to (view s) target)) ≡ length (site_charges (view s))
+dropped_all s target w =
+    rw (length_among s w) at (dropped_from target (feeder_at s) (take s.count s.feeders) 0
+    (λ i j h z. let here : j ≡ i = omega (arith, z) in rw here (among_at s i (omega (arith, h, length_among s w)))))

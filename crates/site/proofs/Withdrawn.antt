@@ -6,6 +6,7 @@ use mathlib.Core.List.{List, [], ◌∷◌}
 use native.Mathlib.Omega.{arith}
 use lib.Dec.{eqb}
 use borrow.Author.Tests.{lt-ltb, le-ltb}
+use Rattle.std.proofs.Common.{Option, Some, None}
 use Rattle.rules.specs.Basics.{Each, some}
 use Rattle.rules.specs.Load.{sound}
 use Rattle.rules.specs.Charge.{Charge, load_of, loads_of, seen, is_begun, is_waiting, has_ticket, without_ticket}
@@ -26,10 +27,11 @@ use Rattle.planner.specs.Ready.{terms_of, Profiled}
 use Rattle.planner.proofs.Showing.{listed_profiled}
 use Rattle.station.specs.declared.Feeder.{Feeder}
 use Rattle.station.specs.declared.Station.{Station}
+use Rattle.station.specs.declared.holder.Holder.{Holder}
 use Rattle.station.specs.declared.surroundings.Surroundings.{Surroundings}
 use Rattle.station.specs.View.{feeder_view, feeder_at, view, Valid}
 use Rattle.station.specs.Beside.{BesideOf, Surrounds, Lends}
-use Rattle.station.specs.Holders.{Lacks, HeldAt}
+use Rattle.station.specs.Holders.{Lacks, HeldAt, HolderOf}
 use Rattle.station.specs.Given.{Gives}
 use Rattle.station.proofs.Views.{view_number, read_at, feeder_read}
 use Rattle.station.proofs.Changed.{changed_at, changed_view, changed_formed}
@@ -59,6 +61,15 @@ left_profiled c ticket l r =
           (keep_each (λ c. Plannable (load_of c)) (λ c. not (has_ticket ticket c)) (charges_of c)
           (loads_each (charges_of c) (listed_profiled l).plannable)));
     }
+
+-- The feeder that holds the ticket, behind `ok_or`
+
+module _ (s : Station) (ticket : ℕ) {o : Option Holder} (r : HolderOf s ticket o) where
+  pub holder_none : o ≡ None → (i : ℕ) → i < s.count → Lacks s ticket i
+  holder_none e = rw e at r
+
+  pub holder_some : {h : Holder} → o ≡ Some h → HeldAt s ticket h.feeder h.place
+  holder_some e = rw e at r
 
 -- The station
 

@@ -60,11 +60,10 @@ fn dropped_at(station: &Station, target: u32) -> usize
     requires { Formed station.now }
     ensures { result ≡ length (site_charges (view station.now)) - length (site_charges (moved_to (view station.now) target)) }
 {
-    let mut dropped = 0;
-    for feeder in &station.feeders[..station.count] {
-        dropped += feeder.charges.held - feeder.charges.unfinished_count(target);
-    }
-    dropped
+    let feeders = station.feeders[..station.count].iter();
+    feeders
+        .map(|feeder| feeder.charges.held - feeder.charges.unfinished_count(target))
+        .sum()
 }
 
 // Writes a ticket and a start of each charge that the clock passes to the front of the report.

@@ -14,9 +14,7 @@ pub fn withdraw(station: &mut Station, ticket: u32) -> Result<(), Refusal>
     requires { Valid station.old }
     ensures { Gives (step (view station.old) (withdraw_call ticket)) (withdrawal_answer result) station.new [] }
 {
-    let Some(holder) = station.holder(ticket) else {
-        return Err(Refusal::NotHeld);
-    };
+    let holder = station.holder(ticket).ok_or(Refusal::NotHeld)?;
     let charges = &station.feeders[holder.feeder].charges;
     if charges.starts[holder.place] < station.clock {
         return Err(Refusal::AlreadyBegun);

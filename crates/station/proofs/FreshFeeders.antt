@@ -1,10 +1,10 @@
 -- The fresh station: its feeders, what it is in the words of the rules, and the bounds that are answered.
 use mathlib.Core.Path.{◌≡◌, refl, sym, ap, subst, ◌∙◌}
 use Prim.Native.Nat.{ℕ, zero, suc, ◌*◌, ◌≤◌, ◌<◌}
-use mathlib.Core.List.{[], ◌∷◌, map}
+use mathlib.Core.List.{List, [], ◌∷◌, map}
 use native.Mathlib.Omega.{arith}
 use native.Mathlib.Nat.{mul-le-mul}
-use lib.ListN.{get_or, take, get_or-map}
+use lib.ListN.{length, get_or, take, get_or-map}
 use borrow.Author.Tests.{lt-ltb, le-ltb}
 use Rattle.rules.specs.Basics.{tabulate, first_of}
 use Rattle.rules.specs.Calls as rules
@@ -19,7 +19,7 @@ use Rattle.charges.proofs.Holding.{charges_same}
 use Rattle.station.specs.declared.open.Settings.{Settings}
 use Rattle.station.specs.declared.open.Asked.{Asked}
 use Rattle.station.specs.View.{no_charges, unused, feeder_view, feeder_at, view, Formed}
-use Rattle.station.specs.Opened.{settings_of, asked_of, settings_at, fresh_feeder, fresh_at, fresh_of, bounds_of}
+use Rattle.station.specs.Opened.{settings_of, asked_of, settings_from, asked_from, settings_at, fresh_feeder, fresh_at, fresh_of, bounds_of}
 
 -- what is read past the last settings
 abbrev pub no_settings : Settings
@@ -27,6 +27,22 @@ no_settings = record { limit = 0; percent = 0; tail = 0 }
 
 settings_is : (a : Asked) (i : ℕ) → settings_at a i ≡ settings_of (get_or a.settings i no_settings)
 settings_is a i = get_or-map settings_of a.settings i no_settings
+
+-- the settings that are read, one after another
+pub settings_read :
+    {count site : ℕ} (xs : List Settings) (given : List ℕ)
+    → length xs ≡ 4
+    → settings_of (get_or xs 0 no_settings) ≡ settings_from given 0
+    → settings_of (get_or xs 1 no_settings) ≡ settings_from given 3
+    → settings_of (get_or xs 2 no_settings) ≡ settings_from given 6
+    → settings_of (get_or xs 3 no_settings) ≡ settings_from given 9
+    → asked_of (record { count = count; site = site; settings = xs }) ≡ asked_from count site given
+settings_read [] given l p q r s = absurd (omega (arith, l))
+settings_read (a ∷ []) given l p q r s = absurd (omega (arith, l))
+settings_read (a ∷ b ∷ []) given l p q r s = absurd (omega (arith, l))
+settings_read (a ∷ b ∷ c ∷ []) given l p q r s = absurd (omega (arith, l))
+settings_read (a ∷ b ∷ c ∷ d ∷ []) given l p q r s = cc
+settings_read (a ∷ b ∷ c ∷ d ∷ e ∷ xs) given l p q r s = absurd (omega (arith, l))
 
 -- what no refusal turns away
 pub opens : (a : Asked) → first_of (open_refusals (asked_of a)) ≡ 0 → OpenGranted (asked_of a)

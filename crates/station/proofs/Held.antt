@@ -12,14 +12,13 @@ use Rattle.rules.specs.Site.{charges_on, others_of}
 use Rattle.rules.specs.Load.{elsewhere}
 use Rattle.rules.specs.Valid.{ValidCharge, ValidPlan, ValidSettings, Rising}
 use Rattle.rules.proofs.Ranges.{below_or_not}
-use Rattle.rules.proofs.Lists.{tabulate_each, each_map}
+use Rattle.rules.proofs.Lists.{tabulate_each}
 use Rattle.rules.proofs.Tickets.{rising_from}
 use Rattle.rules.proofs.Ends.{each_until}
 use Rattle.charges.specs.Arrays.{charge_at, charges_of}
 use Rattle.charges.specs.Held.{Small, Listed}
 use Rattle.charges.specs.declared.loads.Loads.{Loads}
 use Rattle.charges.specs.Drawn.{loads_lent}
-use Rattle.charges.proofs.Drawing.{loads_length}
 use Rattle.planner.specs.Others.{Plannable, Others}
 use Rattle.station.specs.declared.Station.{Station}
 use Rattle.station.specs.View.{feeder_view, feeder_at, view, Valid}
@@ -93,18 +92,12 @@ module _ (s : Station) (v : Valid s) where
           rising = λ k l. rising_places (charge_at (feeder_at s i).charges) 1 (feeder_at s i).charges.held 0 held_plan.rising k (k + 1) (omega arith) (omega arith) (omega arith);
         }
 
-    -- nothing is finished
-    pub valid_unfinished : Each (λ c. s.clock < active_until c) (charges_of (feeder_at s i).charges)
-    valid_unfinished =
-        each_map (ValidCharge (feeder_view (feeder_at s i)) s.site s.clock s.next) (λ c. s.clock < active_until c) (λ c f. f.unfinished)
-        (charges_of (feeder_at s i).charges) held_plan.each
-
     -- what up to three others draw, lent
     pub valid_others :
         (l : Loads) → loads_lent l ≡ map elsewhere (loads_of (others_of (view s) (i + 1))) → length (loads_lent l) ≤ 540 → Others l
     valid_others l e n =
         record {
-          few = omega (arith, n, loads_length l.held l.lines.now l.active_times.now l.starts.now l.rates.now);
+          few = n;
           plannable = subst (Each Plannable) (sym e) (others_plannable (view s) v.state (i + 1) (is_feeder_lem s i h));
           end_most = rw e (omega (arith, elsewhere_end (view s) v.state (i + 1) (is_feeder_lem s i h)));
         }
@@ -113,7 +106,7 @@ module _ (s : Station) (v : Valid s) where
 pub none_others : (l : Loads) → loads_lent l ≡ [] → Others l
 none_others l e =
     record {
-      few = omega (arith, ap length e, loads_length l.held l.lines.now l.active_times.now l.starts.now l.rates.now);
+      few = omega (arith, ap length e);
       plannable = rw e tt;
       end_most = rw e (omega arith);
     }

@@ -3,8 +3,8 @@ use mathlib.Core.Path.{◌≡◌, sym, ◌∙◌, ap}
 use Prim.Native.Nat.{ℕ, ◌+◌, ◌-◌, ◌≤◌, ◌<◌}
 use mathlib.Core.List.{List, ◌++◌}
 use native.Mathlib.Omega.{arith}
-use lib.ListN.{get_or, take, drop, length, length-append}
-use Rattle.std.proofs.lemmas.List.{length-drop, get_or-drop, get_or_append_left, get_or-append-add}
+use lib.ListN.{get_or, take, drop, length}
+use Rattle.std.proofs.lemmas.List.{get_or-drop, get_or_append_left, get_or-append-add}
 use Rattle.rules.specs.Charge.{unfinished_charges}
 use Rattle.rules.specs.Site as rules
 use Rattle.rules.specs.Site.{with_charges}
@@ -51,16 +51,6 @@ module _ (s : Station) (w : Formed s) {hs : List Feeder} {target k : ℕ} (d : D
       ∙ get_or-append-add hs (drop s.count s.feeders) (i - s.count) outside
       ∙ get_or-drop s.count s.feeders (i - s.count) outside
       ∙ ap (λ j. get_or s.feeders j outside) (omega (arith, h))
-
-  pub dropped_formed : Formed moved
-  dropped_formed =
-      record {
-        four = omega (arith, length-append hs (drop s.count s.feeders), so_many, length-drop s.count s.feeders, w.four, w.few);
-        some = w.some;
-        few = w.few;
-        columns = λ i h. (used i h).columns;
-        rest = λ i past four. behind i past ∙ w.rest i past four;
-      }
 
   pub dropped_all : view moved ≡ moved_to (view s) target
   dropped_all =

@@ -1,5 +1,5 @@
 -- The only feeder of a station is the whole station.
-use mathlib.Core.Path.{◌≡◌, refl, sym, ◌∙◌, ap, subst}
+use mathlib.Core.Path.{◌≡◌, refl, sym, ◌∙◌, ap}
 use Prim.Native.Nat.{ℕ, zero, suc, ◌≤◌, ◌<◌}
 use mathlib.Core.List.{List, [], ◌∷◌}
 use native.Mathlib.Omega.{arith}
@@ -8,7 +8,7 @@ use Rattle.charges.specs.Arrays.{Columns}
 use Rattle.station.specs.declared.Feeder.{Feeder}
 use Rattle.station.specs.declared.Station.{Station}
 use Rattle.station.specs.declared.only.One.{One}
-use Rattle.station.specs.View.{outside, unused, feeder_at, Formed, Valid, one_at, station_of, Alone}
+use Rattle.station.specs.View.{outside, unused, feeder_at, Formed, Valid, one_at, station_of}
 
 four : (gs : List Feeder) → length gs ≡ 4 → gs ≡ get_or gs 0 outside ∷ get_or gs 1 outside ∷ get_or gs 2 outside ∷ get_or gs 3 outside ∷ []
 four [] e = absurd (omega (arith, e))
@@ -54,20 +54,5 @@ only_formed o c =
     first (suc i) h = absurd (omega (arith, h))
 
 -- taken out of it, it is the whole of it
-module _ {s : Station} {o : One} (v : Valid s) (n : s.count ≡ 1) (e : o ≡ one_at s 0) where
-  pub taken_whole : station_of o ≡ s
-  taken_whole = ap station_of e ∙ sym (single s v.formed n)
-
-  pub taken_alone : Alone o
-  taken_alone =
-      record {
-        valid = subst Valid (sym taken_whole) v;
-        single = ap (λ (x : One). x.count) e ∙ n;
-        first = ap (λ (x : One). x.place) e;
-      }
-
--- and it is the feeder at its first place
-pub alone_same : {o : One} → Alone o → o ≡ one_at (station_of o) 0
-alone_same {o} a =
-    ap (λ n. record { count = n; site = o.site; clock = o.clock; next = o.next; place = o.place; feeder = o.feeder }) a.single
-    ∙ ap (λ p. record { count = 1; site = o.site; clock = o.clock; next = o.next; place = p; feeder = o.feeder }) a.first
+pub taken_whole : {s : Station} {o : One} → Valid s → s.count ≡ 1 → o ≡ one_at s 0 → station_of o ≡ s
+taken_whole {s} v n e = ap station_of e ∙ sym (single s v.formed n)

@@ -1,5 +1,5 @@
 -- The result of an opening, refused or not.
-use mathlib.Core.Path.{◌≡◌, refl, sym, ap, subst, ◌∙◌}
+use mathlib.Core.Path.{◌≡◌, sym, ap, subst, ◌∙◌}
 use mathlib.Core.List.{[], ◌∷◌, map}
 use native.Mathlib.Omega.{arith}
 use lib.ListN.{take}
@@ -47,12 +47,12 @@ least_fresh {s} e =
     }
 
 -- its only feeder
-pub least_only : {g : Feeder} → g ≡ fresh_feeder (settings_of least_settings) → OnlyLeast (record { count = 1; site = 720; clock = 0; next = 1; place = 0; feeder = g })
-least_only {g} e = record { state_is = fresh_least.state_is; alone = record { valid = fresh_least.valid; single = refl; first = refl } }
+pub least_only : {g : Feeder} → g ≡ fresh_feeder (settings_of least_settings) → OnlyLeast (record { site = 720; clock = 0; next = 1; feeder = g })
+least_only {g} e = record { state_is = fresh_least.state_is; alone = record { valid = fresh_least.valid } }
   where
-    fresh_least : FreshLeast (station_of (record { count = 1; site = 720; clock = 0; next = 1; place = 0; feeder = g }))
+    fresh_least : FreshLeast (station_of (record { site = 720; clock = 0; next = 1; feeder = g }))
     fresh_least =
-        least_fresh (ap (λ (x : Feeder). station_of (record { count = 1; site = 720; clock = 0; next = 1; place = 0; feeder = x })) e)
+        least_fresh (ap (λ (x : Feeder). station_of (record { site = 720; clock = 0; next = 1; feeder = x })) e)
 
 -- Refused, and opened
 

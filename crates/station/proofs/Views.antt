@@ -7,12 +7,11 @@ use lib.ListN.{length, get_or, set, take, length-set}
 use lib.Seq.{get_or-set_same, get_or-set_other}
 use Rattle.std.proofs.lemmas.List.{get_or-take, get_or_default, length-take-le}
 use Rattle.rules.specs.Basics.{tabulate}
-use Rattle.rules.specs.Site as rules
-use Rattle.rules.specs.Site.{no_feeder, feeder_of, charges_on}
+use Rattle.rules.specs.Site.{no_feeder, feeder_of}
 use Rattle.rules.specs.Valid.{IsFeeder}
 use Rattle.rules.proofs.Lists.{tabulate_same, length_tabulate, get_d_tabulate}
 use Rattle.profile.proofs.Levels.{same_or_not}
-use Rattle.charges.specs.Arrays.{Columns, Holds}
+use Rattle.charges.specs.Arrays.{Columns}
 use Rattle.station.specs.declared.Feeder.{Feeder}
 use Rattle.station.specs.declared.Station.{Station}
 use Rattle.station.specs.View.{feeder_view, outside, feeder_at, view, Formed}
@@ -28,18 +27,12 @@ view_at s i h = get_d_tabulate (λ k. feeder_view (feeder_at s k)) s.count 0 i n
     from_none : (i : ℕ) → 0 + i ≡ i
     from_none i = omega arith
 
--- feeder number f stands at place f - 1
-pub view_feeder : (s : Station) (f : ℕ) → f - 1 < s.count → feeder_of (view s) f ≡ feeder_view (feeder_at s (f - 1))
-view_feeder s f h = view_at s (f - 1) h
-
+-- feeder number i + 1 stands at place i
 pub view_number : (s : Station) (i : ℕ) → i < s.count → feeder_of (view s) (i + 1) ≡ feeder_view (feeder_at s i)
 view_number s i h = let e : i + 1 - 1 ≡ i = omega arith in rw e (view_at s i h)
 
 pub is_feeder_lem : (s : Station) (i : ℕ) → i < s.count → IsFeeder (view s) (i + 1)
 is_feeder_lem s i h = record { low = omega arith; high = omega (arith, view_length s) }
-
-pub held_on : (s : Station) (i : ℕ) → Formed s → i < s.count → Holds (charges_on (view s) (i + 1)) (feeder_at s i).charges
-held_on s i f h = record { charges = ap (λ (g : rules.Feeder). g.charges) (sym (view_number s i h)); columns = f.columns i h }
 
 -- The feeders up to the count, as a loop goes through them
 

@@ -95,8 +95,7 @@ pub record Valid (s : Station) : Type 0 where
 
 -- the feeder at a place, with what it shares with the others
 abbrev pub one_at : Station → ℕ → One
-one_at s p =
-    record { count = s.count; site = s.site; clock = s.clock; next = s.next; place = p; feeder = feeder_at s p }
+one_at s p = record { site = s.site; clock = s.clock; next = s.next; feeder = feeder_at s p }
 
 -- what a plan of a feeder has to keep to, but for what the others draw, where this is the site's limit
 abbrev pub limits_for : Feeder → ℕ → Limits
@@ -121,5 +120,3 @@ station_of o =
 -- the only feeder of a valid station
 pub record Alone (o : One) : Type 0 where
   pub valid : Valid (station_of o)
-  pub single : o.count ≡ 1
-  pub first : o.place ≡ 0

@@ -6,15 +6,13 @@ ghost use Rattle.station.specs.Opened.{OnlyLeast};
 use crate::open::{LEAST, NONE};
 use crate::{Feeder, Station};
 
-// One feeder of a station at its place, with what it shares with the others: how many there are, the site's limit, the clock and the
-// next ticket. Images are of one feeder, and a copy of the places of four costs more than most of what is done with one.
+// One feeder of a station, with what it shares with the others: the site's limit, the clock and the next ticket. Images are of one
+// feeder, and a copy of the places of four costs more than most of what is done with one.
 #[derive(Clone, Copy)]
 pub struct One {
-    pub count: usize,
     pub site: u32,
     pub clock: u32,
     pub next: u32,
-    pub place: usize,
     pub feeder: Feeder,
 }
 
@@ -25,11 +23,9 @@ impl Station {
         ensures { result ≡ one_at self.now place }
     {
         One {
-            count: self.count,
             site: self.site,
             clock: self.clock,
             next: self.next,
-            place,
             feeder: self.feeders[place],
         }
     }
@@ -55,11 +51,9 @@ impl One {
         ensures { OnlyLeast result }
     {
         One {
-            count: 1,
             site: LEAST.site,
             clock: 0,
             next: 1,
-            place: 0,
             feeder: LEAST.settings[0].fresh(),
         }
     }

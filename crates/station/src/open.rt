@@ -101,12 +101,7 @@ impl Asked {
         Asked {
             count,
             site,
-            settings: [
-                Settings::from_numbers(numbers, 0),
-                Settings::from_numbers(numbers, 3),
-                Settings::from_numbers(numbers, 6),
-                Settings::from_numbers(numbers, 9),
-            ],
+            settings: std::array::from_fn(|place| Settings::from_numbers(numbers, 3 * place)),
         }
     }
 }
@@ -115,7 +110,7 @@ impl Asked {
 fn feeders_refusal(settings: &[Settings]) -> Result<(), Refusal>
     ensures { refusal_in result ≡ first_of (feeder_refusals (map settings_of settings.now)) }
 {
-    if settings.iter().any(|one| one.limit < 1 || 60 < one.limit) {
+    if settings.iter().any(|one| !(1..=60).contains(&one.limit)) {
         return Err(Refusal::LimitOutOfRange);
     }
     if settings.iter().any(|one| 100 < one.percent) {
@@ -135,11 +130,11 @@ fn feeders_refusal(settings: &[Settings]) -> Result<(), Refusal>
 fn open_refusal(asked: &Asked) -> Result<(), Refusal>
     ensures { refusal_in result ≡ first_of (open_refusals (asked_of asked.now)) }
 {
-    if asked.count < 1 || 4 < asked.count {
+    if !(1..=4).contains(&asked.count) {
         return Err(Refusal::FeederCountOutOfRange);
     }
     feeders_refusal(&asked.settings[..asked.count as usize])?;
-    if asked.site < 1 || 720 < asked.site {
+    if !(1..=720).contains(&asked.site) {
         return Err(Refusal::SiteLimitOutOfRange);
     }
     Ok(())
@@ -185,12 +180,7 @@ impl Station {
     {
         Opened {
             count: self.count,
-            bounds: [
-                self.feeders[0].bound,
-                self.feeders[1].bound,
-                self.feeders[2].bound,
-                self.feeders[3].bound,
-            ],
+            bounds: self.feeders.each_ref().map(|feeder| feeder.bound),
         }
     }
 

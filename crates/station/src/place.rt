@@ -12,7 +12,7 @@ impl Station {
         ensures { PlaceOf self.now.count number result }
     {
         let place = number as usize;
-        if place < 1 || self.count < place {
+        if !(1..=self.count).contains(&place) {
             return Err(Refusal::NoSuchFeeder);
         }
         Ok(place - 1)

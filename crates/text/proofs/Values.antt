@@ -12,6 +12,8 @@ use lib.Dec.{ltb, eqb}
 use lib.ListN.{length, drop, get_or, length-append, drop_of_length-le}
 use lib.Seq.{drop-cons}
 use Rattle.rules.proofs.Ranges.{below_or_not}
+use Rattle.std.specs.Fmt.{decimal as printed}
+use Rattle.std.proofs.lemmas.Fmt.{decimal_by_steps}
 use Rattle.text.specs.Numbers.{is_digit, value_from, number_of, digits_within, decimal}
 use Rattle.text.specs.declared.number.NumberError.TheVariants.{NotANumber, TooLarge}
 use Rattle.std.specs.Prelude.{Result, Ok, Err}
@@ -94,27 +96,21 @@ enough (suc k) n h =
     (λ large. rw (more_digits (suc k) n large, more_digits (suc (suc k)) n large, enough k (n / 10) (tenth_below (suc k) n h)))
     (below_or_not n 10)
 
-pub decimal_small : (n : ℕ) → n < 10 → decimal n ≡ (48 + n) ∷ []
+decimal_small : (n : ℕ) → n < 10 → decimal n ≡ (48 + n) ∷ []
 decimal_small n h = one_digit 19 n h
 
-pub decimal_more : (n : ℕ) → 10 ≤ n → n < 2 ^ 64 → decimal n ≡ decimal (n / 10) ++ ((48 + n % 10) ∷ [])
+decimal_more : (n : ℕ) → 10 ≤ n → n < 2 ^ 64 → decimal n ≡ decimal (n / 10) ++ ((48 + n % 10) ∷ [])
 decimal_more n h k =
     more_digits 19 n h ∙ rw (enough 18 (n / 10) (omega arith))
 
-pub decimal_longer : (n : ℕ) → 10 ≤ n → n < 2 ^ 64 → length (decimal n) ≡ length (decimal (n / 10)) + 1
-decimal_longer n h k = ap length (decimal_more n h k) ∙ length-append (decimal (n / 10)) ((48 + n % 10) ∷ [])
-
--- the last digit, behind those before it
-pub digit_alone :
-    {n digit : ℕ} (old : List ℕ) {mid new : List ℕ} → new ≡ mid ++ ((48 + digit) ∷ []) → digit ≡ n % 10
-    → n < 10 → mid ≡ old → new ≡ old ++ decimal n
-digit_alone {n} {digit} old put last h p = let e : digit ≡ n = omega arith in put ∙ rw (p, e, decimal_small n h)
-
-pub digit_behind :
-    {n digit : ℕ} (old : List ℕ) {mid new : List ℕ} → new ≡ mid ++ ((48 + digit) ∷ []) → digit ≡ n % 10
-    → 10 ≤ n → n < 2 ^ 64 → mid ≡ old ++ decimal (n / 10) → new ≡ old ++ decimal n
-digit_behind {n} {digit} old put last h k p =
-    put ∙ rw (p, last, append_assoc old (decimal (n / 10)) ((48 + n % 10) ∷ []), decimal_more n h k)
+-- they are what the library prints
+pub same_digits : (n : ℕ) → n < 2 ^ 64 → printed n ≡ decimal n
+same_digits n h =
+    decimal_by_steps
+    (λ m ds. m < 2 ^ 64 → ds ≡ decimal m)
+    (λ m small k. sym (decimal_small m small))
+    (λ m ds large e k. rw (e (omega arith)) (sym (decimal_more m large k)))
+    n h h
 
 length_digits : (k n : ℕ) → length (digits_within k n) ≤ k
 unfolding digits_within

@@ -1,4 +1,4 @@
-// A decimal number of 32 bits, read from a word.
+// Decimal numbers of 32 bits, read from a word.
 ghost use Rattle.std.specs.Prelude.{◌≡◌};
 ghost use Rattle.text.specs.Numbers.{number_of};
 

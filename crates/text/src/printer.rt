@@ -3,37 +3,35 @@ ghost use Rattle.std.specs.Prelude.{◌≡◌, ◌+◌, ◌*◌, ◌≤◌, ◌�
 ghost use Rattle.text.specs.Numbers.{decimal};
 ghost use Rattle.text.specs.Printed.{field, listed, fields_text, fields_of, room_of};
 
+use itoa::Buffer;
 use std::marker::Model;
 
-// Printed bytes, in a fixed place.
+// Printed bytes, in a fixed place of N bytes.
 //
-// A number is printed by hand, and not by `write!`: what the library promises of `write!` holds only where it answers `Ok`, and that it
-// does is promised nowhere, so that printing, which cannot fail, could.
+// A number is printed by `itoa`, and not by `write!`: what the library promises of `write!` holds only where it answers `Ok`, and that
+// it does is promised nowhere, so that printing, which cannot fail, could.
 #[derive(Drop)]
-pub struct Text {
-    bytes: [u8; Text::CAPACITY],
+pub struct Text<const N: usize> {
+    bytes: [u8; N],
     length: usize,
 }
 
-impl Model for Text {
+impl<const N: usize> Model for Text<N> {
     ghost use Rattle.std.specs.Prelude.{ℕ, ◌≤◌, List, take};
 
     ghost Value = { List ℕ };
 
     ghost view = { λ t. take t.length t.bytes };
 
-    ghost invariant = { λ t. t.length ≤ 36864 };
+    ghost invariant = { λ t. t.length ≤ N };
 }
 
-impl Text {
-    // The longest answer takes 30,336 bytes, behind up to 6,000 of those before it.
-    pub const CAPACITY: usize = 36864;
-
+impl<const N: usize> Text<N> {
     pub fn new() -> Self
         ensures { result ≡ [] }
     {
         Text {
-            bytes: [0; Text::CAPACITY],
+            bytes: [0; N],
             length: 0,
         }
     }
@@ -51,7 +49,7 @@ impl Text {
     }
 
     pub fn push(&mut self, byte: u8)
-        requires { length self.old + 1 ≤ Text.CAPACITY }
+        requires { length self.old + 1 ≤ N }
         ensures { self.new ≡ self.old ++ byte ∷ [] }
     {
         self.bytes[self.length] = byte;
@@ -59,28 +57,29 @@ impl Text {
     }
 
     pub fn print(&mut self, text: &[u8])
-        requires { length self.old + length text.now ≤ Text.CAPACITY }
+        requires { length self.old + length text.now ≤ N }
         ensures { self.new ≡ self.old ++ text.now }
     {
         let end = self.length + text.len();
-        self.bytes[self.length..end].copy_from_slice(text);
+        // A slice first: no part of an array of N places is lent to be written to.
+        let bytes = &mut self.bytes[..];
+        bytes[self.length..end].copy_from_slice(text);
         self.length = end;
     }
 
     // The digits of n, the most significant first.
     fn print_number(&mut self, n: u64)
-        requires { length self.old + length (decimal n) ≤ Text.CAPACITY }
+        requires { length self.old + length (decimal n) ≤ N }
         ensures { self.new ≡ self.old ++ decimal n }
     {
-        if n >= 10 {
-            self.print_number(n / 10);
-        }
-        self.push(b'0' + (n % 10) as u8);
+        let mut buffer = Buffer::new();
+        let digits = buffer.format(n).as_bytes();
+        self.print(digits);
     }
 
     // A text and a number after it. A number has at most 20 digits.
     pub fn print_field(&mut self, text: &[u8], n: u64)
-        requires { length self.old + length text.now + 20 ≤ Text.CAPACITY }
+        requires { length self.old + length text.now + 20 ≤ N }
         ensures printed { self.new ≡ self.old ++ field text.now n }
         ensures upper_bound { length self.new ≤ length self.old + length text.now + 20 }
     {
@@ -90,7 +89,7 @@ impl Text {
 
     // Numbers, each after a text, and a line feed.
     pub fn print_fields(&mut self, fields: &[(&[u8], u64)])
-        requires { length self.old + room_of (fields_of fields.now) ≤ Text.CAPACITY }
+        requires { length self.old + room_of (fields_of fields.now) ≤ N }
         ensures { self.new ≡ self.old ++ fields_text (fields_of fields.now) }
     {
         for (text, n) in fields {
@@ -101,7 +100,7 @@ impl Text {
 
     // The numbers of a list, each after a space.
     pub fn print_list(&mut self, list: &[u32])
-        requires { length self.old + 21 * length list.now ≤ Text.CAPACITY }
+        requires { length self.old + 21 * length list.now ≤ N }
         ensures printed { self.new ≡ self.old ++ listed list.now }
         ensures upper_bound { length self.new ≤ length self.old + 21 * length list.now }
     {

@@ -4,12 +4,8 @@ use mathlib.Core.List.{[]}
 use native.Mathlib.Omega.{arith}
 use lib.ListN.{length}
 use Rattle.charges.specs.Drawn.{loads_lent}
-use Rattle.charges.proofs.Drawing.{loads_length}
 use Rattle.planner.specs.declared.Beside.{Beside}
 use Rattle.planner.specs.Ready.{Spacious}
 
 pub alone_spacious : (b : Beside) → loads_lent b.others ≡ [] → Spacious b 361
-alone_spacious b e =
-    let l = b.others in
-    let held = loads_length l.held l.lines.now l.active_times.now l.starts.now l.rates.now in
-    record { enough = omega (arith, ap length e, held); most = omega arith }
+alone_spacious b e = record { enough = omega (arith, ap length e); most = omega arith }

@@ -20,7 +20,8 @@ use Rattle.rules.specs.Calls.{bound_of}
 use Rattle.rules.proofs.Ranges.{below_or_not}
 use Rattle.rules.proofs.Lists.{length_tabulate, get_d_tabulate, each_map}
 use Rattle.charges.specs.declared.Charges.{Charges}
-use Rattle.charges.specs.Arrays.{charge_at, charges_of, tickets}
+use Rattle.charges.specs.declared.Charge as declared
+use Rattle.charges.specs.Arrays.{charge_of, charge_at, charges_of, tickets}
 use Rattle.station.specs.declared.only.One.{One}
 use Rattle.station.specs.View.{view, station_of}
 use Rattle.layout.specs.Lists.{every}
@@ -30,8 +31,7 @@ use Rattle.layout.proofs.Judging.{RightCharge}
 use Rattle.layout.proofs.Testing.{each_right}
 use Rattle.planner.specs.Ready.{Profiled}
 use Rattle.planner.proofs.Showing.{plannable}
-use Rattle.validity.specs.declared.ranges.Record.{Record}
-use Rattle.validity.specs.Settled.{ticket_or_next, ticket_rises, charge_of, held_by, single, Settled}
+use Rattle.validity.specs.Settled.{ticket_or_next, ticket_rises, held_by, single, Settled}
 use Rattle.validity.proofs.Ranging.{Ranged, ranged, valid_ranged, valid_bound}
 
 -- a test at each number of a range
@@ -139,7 +139,7 @@ module _ (o : One) where
 
     -- what the test of its times needs
     pub times_testable :
-        (q : ℕ) (r : Record) → q < held → charge_of r ≡ charge_at charges q → (1 ≤ o.next) × (r.active_time ≡ r.time + o.feeder.tail)
+        (q : ℕ) (r : declared.Charge) → q < held → charge_of r ≡ charge_at charges q → (1 ≤ o.next) × (r.active_time ≡ r.time + o.feeder.tail)
     times_testable q r l e =
         (settled_ranged.next_low, ap (λ (c : Charge). c.active_time) e ∙ h.active q l ∙ sym (ap (λ (c : Charge). c.time + o.feeder.tail) e))
 

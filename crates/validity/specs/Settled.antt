@@ -1,13 +1,11 @@
 -- What is known of the only feeder of a station before its charges are tested, and the tests of plain numbers.
 use Rattle.std.specs.Prelude.{ℕ, ◌+◌, ◌<◌, ◌≡◌, Bool, true, cond, ◌&&◌, List, [], ◌∷◌, leb, ltb, length, get_or}
-use Rattle.rules.specs.Charge.{Charge}
 use Rattle.rules.specs.Site.{State}
 use Rattle.rules.specs.Calls.{bound_of}
 use Rattle.charges.specs.declared.Charges.{Charges}
-use Rattle.charges.specs.Arrays.{charge, charge_at, Columns}
+use Rattle.charges.specs.Arrays.{charge_at, Columns}
 use Rattle.station.specs.declared.only.One.{One}
 use Rattle.station.specs.View.{feeder_view}
-use Rattle.validity.specs.declared.ranges.Record.{Record}
 use Rattle.layout.specs.Validity.{settings_ranged}
 
 -- "fields are in range and meet neither refusal 3"
@@ -22,10 +20,6 @@ ticket_or_next tickets next q = cond (ltb q (length tickets)) (get_or tickets q 
 unfoldable pub ticket_rises : List ℕ → ℕ → ℕ → Bool
 ticket_rises tickets next q =
     leb 1 (ticket_or_next tickets next q) && ltb (ticket_or_next tickets next q) (ticket_or_next tickets next (q + 1))
-
--- the charge of a record
-abbrev pub charge_of : Record → Charge
-charge_of r = charge r.ticket r.line r.order_minute r.time r.active_time r.due r.start r.rate
 
 -- One feeder, which is the only one of its station
 

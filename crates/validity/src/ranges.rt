@@ -1,11 +1,11 @@
 // Tests of plain numbers: the settings of a station, the fields, the rate and the times of a charge.
 ghost use Rattle.std.specs.Prelude.{◌≡◌, ◌+◌, ◌<◌, ◌≤◌};
-ghost use Rattle.rules.specs.Site.{places};
-ghost use Rattle.charges.specs.Arrays.{charge_at};
+ghost use Rattle.charges.specs.Arrays.{charge_of};
 ghost use Rattle.layout.specs.Validity.{settings_ranged, fields_ranged, rate_right, times_right, charge_right};
-ghost use Rattle.validity.specs.Settled.{settings_valid, single, charge_of};
+ghost use Rattle.validity.specs.Settled.{settings_valid, single};
 
-use charges::Charges;
+use charges::Charge;
+use charges::ends::end_of;
 use profile::balance::nearest_hundreds;
 use station::only::One;
 
@@ -19,19 +19,6 @@ pub struct Header {
     pub next: u32,
     pub held: u32,
     pub site: u32,
-}
-
-// A charge as its record holds it, and p + r.
-#[derive(Clone, Copy)]
-pub struct Record {
-    pub ticket: u32,
-    pub line: u32,
-    pub order_minute: u32,
-    pub time: u32,
-    pub active_time: u32,
-    pub due: u32,
-    pub start: u32,
-    pub rate: u32,
 }
 
 impl Header {
@@ -57,63 +44,43 @@ impl Header {
     }
 }
 
-impl Record {
-    // Record q of the charges held.
-    pub(crate) fn of(charges: &Charges, q: usize) -> Record
-        requires { q < places }
-        ensures { charge_of result ≡ charge_at charges.now q }
-    {
-        Record {
-            ticket: charges.tickets[q],
-            line: charges.lines[q],
-            order_minute: charges.order_minutes[q],
-            time: charges.times[q],
-            active_time: charges.active_times[q],
-            due: charges.dues[q],
-            start: charges.starts[q],
-            rate: charges.rates[q],
-        }
-    }
+// Line, p, d and rate in range.
+#[tactic(auto, unfolding(layout::specs::Validity::fields_ranged, layout::specs::Validity::between))]
+fn fields_ranged(charge: &Charge) -> bool
+    ensures { result ≡ fields_ranged charge.now.line charge.now.time charge.now.due charge.now.rate }
+{
+    (1..=3).contains(&charge.line)
+        && (1..=1440).contains(&charge.time)
+        && charge.due <= 2000000
+        && (1..=2).contains(&charge.rate)
+}
 
-    // Line, p, d and rate in range.
-    #[tactic(auto, unfolding(layout::specs::Validity::fields_ranged, layout::specs::Validity::between))]
-    fn fields_ranged(&self) -> bool
-        ensures { result ≡ fields_ranged self.now.line self.now.time self.now.due self.now.rate }
-    {
-        (1..=3).contains(&self.line)
-            && (1..=1440).contains(&self.time)
-            && self.due <= 2000000
-            && (1..=2).contains(&self.rate)
-    }
+// "Nor 18": the rate is within N, D and W.
+#[tactic(auto, unfolding(layout::specs::Validity::rate_right))]
+fn rate_right(charge: &Charge, one: &One) -> bool
+    ensures { result ≡ rate_right one.now.feeder.limit one.now.feeder.bound one.now.site charge.now.rate }
+{
+    one.feeder.limits(one.site).allow_rate(charge.rate)
+}
 
-    // "Nor 18": the rate is within N, D and W.
-    #[tactic(auto, unfolding(layout::specs::Validity::rate_right))]
-    fn rate_right(&self, one: &One) -> bool
-        ensures { result ≡ rate_right one.now.feeder.limit one.now.feeder.bound one.now.site self.now.rate }
-    {
-        self.rate <= one.feeder.limit && self.rate <= one.feeder.bound && self.rate <= one.site
-    }
+// Order minute, start and end beside the clock and the next ticket.
+#[tactic(auto, unfolding(layout::specs::Validity::times_right))]
+fn times_right(charge: &Charge, one: &One) -> bool
+    requires { (1 ≤ one.now.next) × (charge.now.active_time ≡ charge.now.time + one.now.feeder.tail) }
+    ensures { result ≡ times_right one.now.feeder.tail one.now.clock one.now.next charge.now.order_minute charge.now.start charge.now.time charge.now.active_time }
+{
+    let clock = u64::from(one.clock);
+    charge.order_minute <= one.clock
+        && charge.order_minute <= charge.start
+        && clock < end_of(charge.start, charge.active_time)
+        && end_of(charge.start, charge.time) <= clock + 1445 * (u64::from(one.next) - 1)
+}
 
-    // Starts are any 32-bit numbers, so ends have 64 bits.
-    #[tactic(auto, unfolding(layout::specs::Validity::times_right))]
-    fn times_right(&self, one: &One) -> bool
-        requires { (1 ≤ one.now.next) × (self.now.active_time ≡ self.now.time + one.now.feeder.tail) }
-        ensures { result ≡ times_right one.now.feeder.tail one.now.clock one.now.next self.now.order_minute self.now.start self.now.time self.now.active_time }
-    {
-        let clock = u64::from(one.clock);
-        let start = u64::from(self.start);
-        self.order_minute <= one.clock
-            && self.order_minute <= self.start
-            && clock < start + u64::from(self.active_time)
-            && start + u64::from(self.time) <= clock + 1445 * (u64::from(one.next) - 1)
-    }
-
-    // One charge, but for its ticket.
-    #[tactic(auto, unfolding(layout::specs::Validity::charge_right))]
-    pub fn charge_right(&self, one: &One) -> bool
-        requires { (1 ≤ one.now.next) × (self.now.active_time ≡ self.now.time + one.now.feeder.tail) }
-        ensures { result ≡ charge_right (single one.now) (charge_of self.now) }
-    {
-        self.fields_ranged() && self.rate_right(one) && self.times_right(one)
-    }
+// One charge, but for its ticket.
+#[tactic(auto, unfolding(layout::specs::Validity::charge_right))]
+pub fn charge_right(charge: &Charge, one: &One) -> bool
+    requires { (1 ≤ one.now.next) × (charge.now.active_time ≡ charge.now.time + one.now.feeder.tail) }
+    ensures { result ≡ charge_right (single one.now) (charge_of charge.now) }
+{
+    fields_ranged(charge) && rate_right(charge, one) && times_right(charge, one)
 }

@@ -4,7 +4,7 @@ ghost use Rattle.layout.specs.Lists.{every};
 ghost use Rattle.layout.specs.Validity.{record_right};
 ghost use Rattle.validity.specs.Settled.{held_by, single, Settled, ticket_rises};
 
-use crate::ranges::Record;
+use crate::ranges::charge_right;
 use station::only::One;
 
 // "Tickets, the next one last, are 1 or more and rise."
@@ -26,7 +26,7 @@ fn record_right(one: &One, q: usize) -> bool
 {
     let charges = &one.feeder.charges;
     let tickets = &charges.tickets[..charges.held];
-    ticket_rises(tickets, one.next, q) && Record::of(charges, q).charge_right(one)
+    ticket_rises(tickets, one.next, q) && charge_right(&charges.at(q), one)
 }
 
 // Whether each record is right.

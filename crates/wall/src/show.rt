@@ -3,22 +3,26 @@ ghost use Rattle.std.specs.Prelude.{◌≡◌, ◌+◌, ◌≤◌, ◌++◌, len
 ghost use Rattle.page.specs.Pages.{wall};
 
 use image::restoring::restore;
-use page::{print_no_station, print_pages};
+use page::{Listing, MOST_BYTES, NO_STATION};
 use std::io::{Read, Write};
 use std::rt::{Stdin, Stdout};
 use text::Text;
 
 // All that is to be written, from all that was read.
-fn print_wall(image: &[u8], out: &mut Text)
-    requires { length out.old + 7600 ≤ Text.CAPACITY }
+fn print_wall<const N: usize>(image: &[u8], out: &mut Text<N>)
+    requires { length out.old + MOST_BYTES ≤ N }
     ensures { out.new ≡ out.old ++ wall image.now }
 {
     let restored = restore(image);
     if restored.answer.is_err() {
-        print_no_station(out);
+        out.print(NO_STATION);
     } else {
         let one = &restored.station;
-        print_pages(one.clock, &one.feeder.charges, out);
+        let listing = Listing {
+            clock: one.clock,
+            charges: &one.feeder.charges,
+        };
+        listing.print_pages(out);
     }
 }
 
@@ -50,8 +54,13 @@ fn read_on(input: &mut Stdin) {
 
 // Where the input fills the buffer, which is longer than an image, it is refused whatever follows. A write that fails is passed over,
 // since nothing follows it.
-pub fn show(mut input: Stdin, mut output: Stdout, image: &mut [u8], out: &mut Text)
-    requires { length out.old + 7600 ≤ Text.CAPACITY }
+pub fn show<const N: usize>(
+    mut input: Stdin,
+    mut output: Stdout,
+    image: &mut [u8],
+    out: &mut Text<N>,
+)
+    requires { length out.old + MOST_BYTES ≤ N }
 {
     let count = read_full(&mut input, image);
     if count == image.len() {

@@ -2,7 +2,7 @@
 use mathlib.Core.Path.{◌≡◌, refl, sym, ◌∙◌}
 use Prim.Native.Nat.{ℕ, zero, suc, ◌+◌, ◌-◌, ◌^◌, ◌≤◌, ◌<◌}
 use mathlib.Core.Bool.{Bool, true, false, ◌&&◌}
-use mathlib.Core.List.{List, [], ◌∷◌, ◌++◌, append-nil, append_assoc}
+use mathlib.Core.List.{List, [], ◌∷◌, ◌++◌, append_assoc}
 use native.Mathlib.Omega.{arith}
 use lib.Dec.{leb, ltb}
 use lib.ListN.{length, length-append}
@@ -56,9 +56,6 @@ module _ (f : ℕ → Load) (low high : ℕ) where
 -- q shows what p shows, and those of the first i loads that begin in the window
 pub record Extended (p q : Profile) (f : ℕ → Load) (low high i : ℕ) : Type 0 where
   pub shown : (clock : ℕ) (loads : List Load) → Shows p clock loads → Shows q clock (loads ++ started_below f low high i)
-
-pub extended_none : (p : Profile) (f : ℕ → Load) (low high : ℕ) → Extended p p f low high 0
-extended_none p f low high = record { shown = λ clock loads s. rw (append-nil loads) s }
 
 -- the next load, which the window contains or not
 module _ {p q : Profile} {places held : ℕ} {f : ℕ → Load} {low high i : ℕ} (can : CanAddStarted p places (tabulate f held 0) low high)

@@ -13,15 +13,14 @@ pub fn add_started<const N: usize>(profile: &mut Profile<N>, loads: Loads<'_>, w
     requires { CanAddStarted profile.old N (loads_lent loads) window.start window.end }
     ensures { StartedAdded profile.old profile.new (loads_lent loads.entry) window.start window.end }
 {
-    for i in 0..loads.held {
-        let start = loads.starts[i];
-        if window.contains(&start) {
+    for (i, start) in loads.starts.iter().enumerate() {
+        if window.contains(start) {
             let draw = Draw {
                 line: loads.lines[i],
                 time: loads.active_times[i],
                 rate: loads.rates[i],
             };
-            profile.add(draw, start);
+            profile.add(draw, *start);
         }
     }
 }

@@ -6,10 +6,12 @@ use Rattle.station.specs.View.{view}
 use Rattle.reply.proofs.answer.Goals as goal
 
 pub reply_request-said-requires : goal.reply_request-said-requires
-reply_request-said-requires c = (c.requires.0, can_reply c.in-Ok.request c.args.lists.now.list (omega arith) c.in-Ok.is c.read.ensures.asks c.read.ensures.list_after)
+reply_request-said-requires g c =
+    let can = can_reply c.in-Ok.request c.args.lists.now.list (omega arith) c.in-Ok.is c.read.ensures.asks c.read.ensures.list_after in
+    (c.requires.0, omega arith, omega arith, can.0, can.1)
 
 pub returns-in-Ok : goal.returns-in-Ok
-returns-in-Ok c = replied (view c.args.station.now) c.args.text.now c.in-Ok.request c.args.out.now c.in-Ok.is c.read.ensures.asks c.reply_request-said.ensures.says (search rules)
+returns-in-Ok g c = replied (view c.args.station.now) c.args.text.now c.in-Ok.request c.args.out.now c.in-Ok.is c.read.ensures.asks c.reply_request-said.ensures.says (search rules)
 
 pub returns-in-Err : goal.returns-in-Err
-returns-in-Err c = refused c.args.text.now c.in-Err.reason c.args.out.now c.requires.0 c.in-Err.is c.read.ensures.asks (search rules)
+returns-in-Err g c = refused c.args.text.now c.in-Err.reason c.args.out.now c.requires.0 c.in-Err.is c.read.ensures.asks (search rules)

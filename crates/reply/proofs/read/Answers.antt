@@ -8,6 +8,6 @@ use Rattle.reply.proofs.Replies.{filled_lent}
 use Rattle.reply.proofs.read.Goals as goal
 
 pub returns-clause-list_after : goal.returns-clause-list_after
-returns-clause-list_after c =
+returns-clause-list_after g c =
     filled_lent c.places_lent-lent.result c.places_asked.result c.args.lists.now.list c.fill_lent.new.list c.places_lent-lent.ensures.0 (omega (arith, c.places_lent-lent.ensures.1)) c.fill_lent.ensures
     ∙ ap (λ (n : ℕ). sets c.args.lists.now.list 0 (lent_list n)) c.places_asked.ensures

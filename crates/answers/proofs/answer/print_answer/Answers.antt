@@ -2,4 +2,4 @@
 use Rattle.answers.proofs.answer.print_answer.Goals as goal
 
 pub returns-in-Err : goal.returns-in-Err
-returns-in-Err c = rw c.in-Err.is (c.print_refused.ensures c.args.asked c.args.list.now)
+returns-in-Err g c = rw c.in-Err.is (c.print_refused.ensures c.args.asked c.args.list.now)

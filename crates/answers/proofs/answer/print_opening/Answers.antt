@@ -3,7 +3,7 @@ use mathlib.Core.List.{[]}
 use Rattle.answers.proofs.answer.print_opening.Goals as goal
 
 pub returns-in-Ok : goal.returns-in-Ok
-returns-in-Ok c = rw c.in-Ok.is (c.print_opened.ensures 0 [])
+returns-in-Ok g c = rw c.in-Ok.is (c.print_opened.ensures 0 [])
 
 pub returns-in-Err : goal.returns-in-Err
-returns-in-Err c = rw c.in-Err.is (c.print_refused.ensures 0 [])
+returns-in-Err g c = rw c.in-Err.is (c.print_refused.ensures 0 [])

@@ -1,5 +1,5 @@
 -- All eight columns are gathered at the same places, so that each charge goes over whole.
-use mathlib.Core.Path.{◌≡◌, refl}
+use mathlib.Core.Path.{◌≡◌, ap}
 use Prim.Native.Nat.{ℕ, ◌≤◌}
 use mathlib.Core.List.{List, map}
 use lib.ListN.{length}
@@ -37,7 +37,7 @@ gathered_all c next is held few e1 e2 e3 e4 e5 e6 e7 e8 = holds_at c is next hel
 
 pub returns : goal.returns
 returns c =
-    gathered_all c.args.self.now _ c.args.places.now refl c.requires.few
+    gathered_all c.args.self.now _ c.args.places.now (ap length c.as_slice.ensures.0) (rw (← c.as_slice.ensures.0) c.as_slice.ensures.1.few)
     c.gathered.ensures
     c.gathered-2.ensures
     c.gathered-3.ensures

@@ -1,9 +1,15 @@
--- By the limits of the feeder.
-use mathlib.Core.Path.{refl}
-use Rattle.std.proofs.lemmas.List.{get_or_default}
-use Rattle.station.specs.View.{outside}
+-- By the limits and the tail of the feeder, which is there since nothing refuses the order.
+use mathlib.Core.Path.{refl, ap}
+use native.Mathlib.Omega.{arith}
+use Rattle.station.proofs.Views.{feeder_read}
+use Rattle.ordering.proofs.Seeking.{inside, active_most}
 use Rattle.ordering.proofs.start.sought.Goals as goal
+
+pub overflow_add-result : goal.overflow_add-result
+overflow_add-result c =
+    let e = feeder_read c.args.station.now c.requires.0.valid.formed (inside c.requires.0 c.args.place c.requires.1) c.index-station-place.result in
+    omega (arith, active_most c.requires.0 c.args.place c.requires.1, ap (λ g. g.tail) e)
 
 pub returns : goal.returns
 returns c =
-    rw (c.limits.ensures, get_or_default c.args.station.now.feeders c.args.place c.index-station-place.result outside c.requires) refl
+    rw (c.limits.ensures, feeder_read c.args.station.now c.requires.0.valid.formed (inside c.requires.0 c.args.place c.requires.1) c.index-station-place.result) refl

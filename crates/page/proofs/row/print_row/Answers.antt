@@ -1,30 +1,32 @@
--- `page::print_row` meets its contract: its columns are printed one after another.
+-- `page::print_row` meets its contract: its columns are printed one after another. What a column asks begins with the size of the text, that
+-- memory can have one of it.
 use mathlib.Core.List.{append_assoc}
+use borrow.Author.Rules.{rules}
 use native.Mathlib.Omega.{arith}
 use Rattle.page.specs.Lines.{row_of}
 use Rattle.page.proofs.Aligning.{ticket_digits, line_digits, start_digits, end_digits}
 use Rattle.page.proofs.row.print_row.Goals as goal
 
 pub print_column-requires : goal.print_column-requires
-print_column-requires c = (ticket_digits c.requires.0, omega arith)
+print_column-requires g c = (search rules, (rw c.from.ensures (ticket_digits c.requires.0), omega arith, omega arith))
 
 pub print_column-requires-2 : goal.print_column-requires-2
-print_column-requires-2 c = (line_digits c.requires.0, omega arith)
+print_column-requires-2 g c = (search rules, (rw c.from-2.ensures (line_digits c.requires.0), omega arith, omega arith))
 
 pub print_column-requires-3 : goal.print_column-requires-3
-print_column-requires-3 c = (start_digits c.requires.0, omega arith)
+print_column-requires-3 g c = (search rules, (rw c.from-3.ensures (start_digits c.requires.0), omega arith, omega arith))
 
 pub print_column-requires-4 : goal.print_column-requires-4
-print_column-requires-4 c = (end_digits c.requires.0, omega arith)
+print_column-requires-4 g c = (search rules, (end_digits c.requires.0, omega arith, omega arith))
 
 pub returns-then-begun-clause-printed : goal.returns-then-begun-clause-printed
 unfolding row_of
-returns-then-begun-clause-printed c =
-    rw (c.if-begun.true, c.print.ensures, c.print_column-4.ensures.printed, c.print_column-3.ensures.printed, c.print_column-2.ensures.printed, c.print_column.ensures.printed)
+returns-then-begun-clause-printed g c =
+    rw (c.if-begun.true, c.print.ensures, c.print_column-4.ensures.printed, c.print_column-3.ensures.printed, c.print_column-2.ensures.printed, c.print_column.ensures.printed, c.from.ensures, c.from-2.ensures, c.from-3.ensures)
     (simp append_assoc)
 
 pub returns-else-begun-clause-printed : goal.returns-else-begun-clause-printed
 unfolding row_of
-returns-else-begun-clause-printed c =
-    rw (c.if-begun.false, c.print-else-begun.ensures, c.print_column-4.ensures.printed, c.print_column-3.ensures.printed, c.print_column-2.ensures.printed, c.print_column.ensures.printed)
+returns-else-begun-clause-printed g c =
+    rw (c.if-begun.false, c.print-else-begun.ensures, c.print_column-4.ensures.printed, c.print_column-3.ensures.printed, c.print_column-2.ensures.printed, c.print_column.ensures.printed, c.from.ensures, c.from-2.ensures, c.from-3.ensures)
     (simp append_assoc)

@@ -1,4 +1,5 @@
 -- Above a limit, out of balance, or neither.
+use mathlib.Core.Path.{sym, ◌∙◌}
 use Rattle.rules.specs.Charge.{seen}
 use Rattle.charges.specs.Arrays.{charges_of}
 use Rattle.profile.proofs.Balances.{limit_shows, unbalanced_shows}
@@ -13,14 +14,14 @@ returns-then-not-within_limits g c =
     loads_above (terms_of b) b.clock (seen (terms_of b) (charges_of c.args.charges.now)) (all_shown b c.requires.1 c.add_standing.ensures)
     (limit_shows (rw c.steps.ensures at c.within_limits.ensures)) c.if-not-within_limits.true
 
-pub returns-in-Some : goal.returns-in-Some
-returns-in-Some g c =
+pub returns-then-is_some : goal.returns-then-is_some
+returns-then-is_some g c =
     let b = c.args.beside in
     loads_unbalanced (terms_of b) b.clock (seen (terms_of b) (charges_of c.args.charges.now)) (all_shown b c.requires.1 c.add_standing.ensures)
-    (limit_shows (rw c.steps.ensures at c.within_limits.ensures)) _ (unbalanced_shows (rw c.steps-2.ensures at c.first_unbalanced.ensures)) c.if-not-within_limits.false c.in-Some.is
+    (limit_shows (rw c.steps.ensures at c.within_limits.ensures)) _ (unbalanced_shows (rw c.steps-2.ensures at c.first_unbalanced.ensures)) c.if-not-within_limits.false (sym c.is_some.ensures ∙ c.if-is_some.true)
 
-pub returns-in-None : goal.returns-in-None
-returns-in-None g c =
+pub returns : goal.returns
+returns g c =
     let b = c.args.beside in
     loads_kept (terms_of b) b.clock (seen (terms_of b) (charges_of c.args.charges.now)) (all_shown b c.requires.1 c.add_standing.ensures)
-    (limit_shows (rw c.steps.ensures at c.within_limits.ensures)) _ (unbalanced_shows (rw c.steps-2.ensures at c.first_unbalanced.ensures)) c.if-not-within_limits.false c.in-None.is
+    (limit_shows (rw c.steps.ensures at c.within_limits.ensures)) _ (unbalanced_shows (rw c.steps-2.ensures at c.first_unbalanced.ensures)) c.if-not-within_limits.false (sym c.is_some.ensures ∙ c.if-is_some.false)

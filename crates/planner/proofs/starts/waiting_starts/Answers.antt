@@ -1,17 +1,12 @@
+-- In the end the starts at all the waiting places are listed.
+use mathlib.Core.Path.{ap, ◌∙◌}
 use native.Mathlib.Omega.{arith}
-use Rattle.planner.proofs.Collecting.{collecting_start, collecting_begun, collecting_waiting, collecting_end}
-use Rattle.planner.proofs.starts.waiting_starts.Goals.{then-clock-charges, else-clock-charges}
+use Rattle.std.proofs.lemmas.List.{take_all}
+use Rattle.planner.proofs.Collecting.{starts_at, starts_listed}
 use Rattle.planner.proofs.starts.waiting_starts.Goals as goal
 
-pub loop-i-init : goal.loop-i-init
-loop-i-init c = (omega arith, omega arith, collecting_start c.args.clock c.args.charges.now c.args.by_place.now)
-
-pub loop-i-preserved : goal.loop-i-preserved
-loop-i-preserved c =
-    elim c.if-clock-charges.branch [
-      | then-clock-charges w ↦ (omega arith, omega (arith, w.k-is), collecting_waiting c.loop-i.invariant.2 (omega arith) (omega (arith, w.if-clock-charges.true)) w.listed-is w.k-is)
-      | else-clock-charges w ↦ (omega arith, omega (arith, w.k-is), collecting_begun c.loop-i.invariant.2 (omega arith) (omega (arith, w.if-clock-charges.false)) w.listed-is w.k-is)
-    ]
-
 pub returns : goal.returns
-returns c = collecting_end c.loop-i.invariant.2 (omega arith)
+returns c =
+    let is = c.as_slice-place-items.result.now in
+    starts_listed c.as_slice-place-items.ensures.0 (search)
+    (c.loop-place.invariant ∙ ap (starts_at c.args.by_place.now) (take_all c.loop-place.place-index is (omega arith)))

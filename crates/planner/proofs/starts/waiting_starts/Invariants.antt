@@ -1,7 +1,8 @@
--- The invariant: the starts of those of the first i charges that wait are listed, k of them.
-use Prim.Native.Nat.{◌≤◌}
-use Rattle.planner.proofs.Collecting.{Collecting}
+-- The invariant: the starts at the first of the waiting places are listed.
+use mathlib.Core.Path.{◌≡◌}
+use lib.ListN.{take}
+use Rattle.planner.proofs.Collecting.{starts_at}
 use Rattle.planner.proofs.starts.waiting_starts.Given as goal
 
-abbrev pub invariant-loop-i : goal.invariant-loop-i
-invariant-loop-i l = (l.i ≤ l.charges.held) × (l.k ≤ l.i) × Collecting l.clock l.charges l.by_place l.i l.listed l.k
+abbrev pub invariant-loop-place : goal.invariant-loop-place
+invariant-loop-place l = l.starts ≡ starts_at l.by_place (take l.place-index l.place-items)

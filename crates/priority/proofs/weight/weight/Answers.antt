@@ -1,10 +1,10 @@
+use mathlib.Core.Path.{◌∙◌}
 use native.Mathlib.Omega.{arith}
-use Rattle.rules.proofs.Weights.{weight_beyond, weight_most}
+use Rattle.rules.proofs.Weights.{weight_most}
 use Rattle.priority.proofs.Weighing.{table_at}
 use Rattle.priority.proofs.weight.weight.Goals as goal
 
-pub returns-then-k-gt511 : goal.returns-then-k-gt511
-returns-then-k-gt511 c = (omega (arith, weight_beyond c.args.k (omega (arith, c.if-k-gt511.true))), omega arith)
-
 pub returns : goal.returns
-returns c = (table_at c.args.k, omega (arith, table_at c.args.k, weight_most c.args.k))
+returns c =
+    let e = rw c.copied.ensures at c.unwrap_or.ensures ∙ c.get.ensures.lookup.4 (omega arith) _ ∙ table_at c.args.k in
+    (e, omega (arith, e, weight_most c.args.k))

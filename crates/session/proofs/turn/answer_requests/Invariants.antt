@@ -6,11 +6,11 @@ use Rattle.session.proofs.Serving.{Left}
 use Rattle.session.proofs.turn.answer_requests.Given as goal
 
 abbrev pub invariant-loop-left : goal.invariant-loop-left
-invariant-loop-left l =
+invariant-loop-left g l =
     record {
       answers : Answers (view l.initial.station) l.block l.station (length l.block - length l.left) l.out;
       left : Left l.block l.left;
     }
 
 abbrev pub decreases-loop-left : goal.decreases-loop-left
-decreases-loop-left l = length l.left
+decreases-loop-left g l = length l.left

@@ -9,7 +9,7 @@ use Rattle.session.proofs.turn.Session.turn.Goals.{then-as_bytes-gt-FULL, else-a
 use Rattle.session.proofs.turn.Session.turn.Goals as goal
 
 pub returns : goal.returns
-returns c =
+returns g c =
     turned_on c.args.self.now c.args.count c.args.buffers.now.block (sym c.input_ends.ensures ∙ c.if-input_ends.false) (omega (arith, c.requires.1)) c.answer_requests-from.ensures.answers c.answer_requests-from.ensures.stops
     (elim c.if-as_bytes-gt-FULL.branch [
       | then-as_bytes-gt-FULL w ↦

@@ -6,8 +6,8 @@ use Rattle.text.proofs.Values.{length_decimal}
 use Rattle.text.proofs.printer.Text.print_field.Goals as goal
 
 pub print_number-requires : goal.print_number-requires
-print_number-requires c = rw c.print.ensures (omega (arith, length-append c.args.self.now c.args.text.now, length_decimal))
+print_number-requires g c = rw c.print.ensures (omega (arith, length-append c.args.self.now c.args.text.now, length_decimal))
 
 pub returns-clause-upper_bound : goal.returns-clause-upper_bound
-returns-clause-upper_bound c =
+returns-clause-upper_bound g c =
     omega (arith, ap length c.print_number.ensures, length-append c.print.new.self, ap length c.print.ensures, length-append c.args.self.now c.args.text.now, length_decimal)

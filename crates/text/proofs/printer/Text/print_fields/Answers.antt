@@ -11,10 +11,10 @@ abbrev none : Bor (List ℕ) × ℕ
 none = (record { ref_ptr = (0, 0); now = [] }, 0)
 
 pub print_field-requires : goal.print_field-requires
-print_field-requires c = omega (arith, room_left c.args.fields.now c.loop-text.text-index none c.loop-text-test.true)
+print_field-requires g c = omega (arith, room_left c.args.fields.now c.loop-text.text-index none c.loop-text-test.true)
 
 pub loop-text-preserved : goal.loop-text-preserved
-loop-text-preserved c = (
+loop-text-preserved g c = (
   fields_more c.args.fields.now c.loop-text.text-index none c.loop-text-test.true c.loop-text.self (c.args.self.now ++ fields_text (fields_of c.args.fields.now)) c.loop-text.invariant.0 (search),
   omega (arith, room_left c.args.fields.now c.loop-text.text-index none c.loop-text-test.true),
 )

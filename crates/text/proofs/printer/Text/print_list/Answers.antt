@@ -7,7 +7,7 @@ use Rattle.text.proofs.Printing.{listed_more}
 use Rattle.text.proofs.printer.Text.print_list.Goals as goal
 
 pub loop-n-preserved : goal.loop-n-preserved
-loop-n-preserved c =
+loop-n-preserved g c =
     let n = get_or c.args.list.now c.loop-n.n-index 0 in
     let put : c.print_field.new.self ≡ c.loop-n.self ++ spaced n = rw (← c.from.ensures) (search) in (
       listed_more c.args.list.now c.loop-n.n-index c.loop-n-test.true c.loop-n.self (c.args.self.now ++ listed c.args.list.now) c.loop-n.invariant.0 put,
