@@ -7,9 +7,9 @@ use Rattle.rules.specs.CasesAToL.{orders_e, orders_h}
 use Rattle.rules.specs.Site.{State}
 use Rattle.rules.specs.Entry.{lent_list, one_feeder, commit}
 use Rattle.rules.specs.Calls as calls
-use Rattle.rules.specs.Calls.{Asked, Call, move, opening, committing, moving}
+use Rattle.rules.specs.Calls.{Asked, Call, move, withdraw, opening, committing, moving, withdrawing}
 use Rattle.guarantee.specs.Demands.{reached}
-use Rattle.excluded.specs.Stations.{station, station_five, station_three, station_four, station_two, station_h, station_h_two, station_f, station_short, station_tailed, station_rated, waiting_since, begun_and_waiting, pair_of, pair_fresh, station_pair, station_pair_wide, station_site, station_beside, station_pair_h}
+use Rattle.excluded.specs.Stations.{station, station_five, station_three, station_four, station_two, station_h, station_h_two, station_f, station_short, station_tailed, station_rated, waiting_since, begun_and_waiting, pair_of, pair_fresh, station_pair, station_pair_wide, station_site, station_beside, station_gap, station_pair_h}
 use Rattle.excluded.proofs.Same.{same_state_lem}
 
 abbrev Reached : Asked → List Call → State → Type 0
@@ -109,6 +109,14 @@ beside_reached : Reached (pair_of 1 1 100) (calls.commit 2 1 10 60 1 0 ∷ commi
 unfolding limited within_site balanced sound earliest opening committing
 beside_reached =
     (same_state_lem (reached (pair_of 1 1 100) (calls.commit 2 1 10 60 1 0 ∷ commit 1 10 15 1 10 ∷ [])) station_beside).0 refl
+
+gap_reached : Reached (pair_of 1 1 100) (commit 1 5 60 1 0 ∷ calls.commit 2 1 5 60 1 5 ∷ withdraw 1 ∷ []) station_gap
+unfolding limited within_site balanced sound earliest opening committing withdrawing
+gap_reached =
+    (same_state_lem
+    (reached (pair_of 1 1 100) (commit 1 5 60 1 0 ∷ calls.commit 2 1 5 60 1 5 ∷ withdraw 1 ∷ []))
+    station_gap).0
+    refl
 
 pair_h_reached : Reached (pair_of 720 1 100) orders_h station_pair_h
 unfolding limited within_site balanced sound earliest opening committing

@@ -6,7 +6,7 @@ use Rattle.rules.specs.Calls as calls
 use Rattle.rules.specs.Calls.{settings, Asked, Call, move, board, withdraw, opening, step}
 use Rattle.guarantee.specs.Past.{Gives}
 use Rattle.excluded.specs.Same.{same_state}
-use Rattle.excluded.specs.WrongOrders.{own_line_only, neighbours_only, limit_ignored, charges_counted, rates_in_limit_only, tails_left_out, tails_in_limit_only, fixed_start, preview_takes_ticket, shown_before_taken, ticket_skipped, site_ignored, own_feeder_only, first_feeder, zero_for_one}
+use Rattle.excluded.specs.WrongOrders.{own_line_only, neighbours_only, limit_ignored, charges_counted, rates_in_limit_only, tails_left_out, tails_in_limit_only, fixed_start, preview_takes_ticket, shown_before_taken, ticket_skipped, site_ignored, own_feeder_only, begun_others_only, site_only_at_its_start, first_feeder, zero_for_one}
 use Rattle.excluded.specs.WrongMoves.{start_at_clock_left_out, first_report_only, reported_twice, start_at_target_reported, nobody_reported, slow_clock, dropped_early, dropped_late, dropped_at_its_end, never_dropped, shown_late, shown_begun, shown_early, end_with_tail}
 use Rattle.excluded.specs.WrongBoards.{board_takes_ticket}
 use Rattle.excluded.specs.WrongWithdrawals.{balance_untested, begun_withdrawn, ticket_given_again, withdrawn_held}
@@ -137,6 +137,11 @@ wrong_entries =
     -- a charge on line 1 of either feeder in minute 0, and W is 1
     ∷ only own_feeder_only pair (from_on 1 1 0 ∷ from_on 2 1 0 ∷ []) (site ∷ [])
     ∷ only site_ignored pair (from_on 1 1 0 ∷ from_on 2 1 0 ∷ []) (site ∷ [])
+    ∷ only begun_others_only pair (from_on 1 1 0 ∷ from_on 2 1 0 ∷ []) (site ∷ [])
+    -- with ticket 1 gone, feeder 2 draws from 5 to 10, and an order of 10 minutes is started in minute 0
+    ∷ only site_only_at_its_start pair
+    (calls.commit 1 1 5 60 1 0 ∷ calls.commit 2 1 5 60 1 5 ∷ withdraw 1 ∷ from_on 1 1 0 ∷ [])
+    (site ∷ [])
     -- four orders of the second feeder, put on the first
     ∷ only first_feeder pair_wide (from_on 2 1 0 ∷ from_on 2 2 0 ∷ from_on 2 3 0 ∷ from_on 2 1 0 ∷ []) (limit ∷ [])
     ∷ only zero_for_one one (from_on 0 1 0 ∷ []) (feeders ∷ [])

@@ -3,9 +3,9 @@ use Rattle.std.specs.Prelude.{ℕ, Bool, List, [], ◌∷◌, ◌++◌, map}
 use Rattle.rules.specs.Site.{State}
 use Rattle.rules.specs.Calls.{step}
 use Rattle.guarantee.specs.Past.{Gives}
-use Rattle.excluded.specs.WrongOrders.{own_line_only, limit_ignored, queued, last_end_shown, shown_as_waiting, preview_takes_ticket, preview_writes, site_ignored, own_feeder_only, others_on_its_lines}
+use Rattle.excluded.specs.WrongOrders.{own_line_only, limit_ignored, queued, last_end_shown, shown_as_waiting, preview_takes_ticket, preview_writes, site_ignored, own_feeder_only, begun_others_only, site_only_at_its_start, others_on_its_lines}
 use Rattle.excluded.specs.WrongMoves.{slow_clock}
-use Rattle.excluded.specs.Stations.{station, station_five, station_three, station_two, station_h, station_pair, station_pair_wide}
+use Rattle.excluded.specs.Stations.{station, station_five, station_three, station_two, station_h, station_pair, station_pair_wide, station_gap}
 use Rattle.excluded.specs.Breaks.{Entry, agrees_by, only_of}
 use Rattle.excluded.specs.FieldsTwoPreviews.{Field, answer, not_early, limit, balance, site, earliest, same_station, same_list_lem, fields, place, Trial, tested}
 
@@ -36,6 +36,9 @@ wrong_entries =
     -- W is 1, and the first feeder draws from 0 to 10
     ∷ only_on own_feeder_only station_pair 2 1 (site ∷ [])
     ∷ only_on site_ignored station_pair 2 1 (site ∷ [])
+    ∷ only_on begun_others_only station_pair 2 1 (site ∷ [])
+    -- and where the second one draws from 5 to 10
+    ∷ only_on site_only_at_its_start station_gap 1 1 (site ∷ [])
     -- W is 720, and line 1 of the first feeder is not line 1 of the second
     ∷ only_on others_on_its_lines station_pair_wide 2 1 (earliest ∷ [])
     ∷ []

@@ -118,6 +118,10 @@ station_site = holding_both (fresh (pair_of 1 2 100)) 3 held_h []
 abbrev pub station_beside : State
 station_beside = holding_both (fresh (pair_of 1 1 100)) 3 (held 2 1 10 15 10 ∷ []) (held 1 1 10 60 0 ∷ [])
 
+-- N = 1, W = 1: a charge on line 1 of the second feeder from 5 to 10, and nothing before it
+abbrev pub station_gap : State
+station_gap = holding_both (fresh (pair_of 1 1 100)) 3 [] (held 2 1 5 60 5 ∷ [])
+
 -- N = 1, W = 720: both on the first feeder, nothing on the second
 abbrev pub station_pair_h : State
 station_pair_h = holding_both (fresh (pair_of 720 1 100)) 3 held_h []

@@ -1,8 +1,8 @@
 -- Wrong stations: previews and commits that differ from the rules in one thing.
 use Rattle.std.specs.Prelude.{ℕ, suc, ◌+◌, ◌-◌, max, Bool, ◌&&◌, ◌||◌, List, [], ◌∷◌, ◌++◌, map, leb, length, drop}
 use Rattle.rules.specs.Basics.{at, first}
-use Rattle.rules.specs.Load.{Load, Draw, draw, Limits, limits, count, last_until, limit_at, balance_at, from_on, sound}
-use Rattle.rules.specs.Charge.{Charge, loads_of, seen, last_end}
+use Rattle.rules.specs.Load.{Load, Draw, draw, elsewhere, Limits, limits, count, counts, limited, within_site, last_until, limit_at, balance_at, from_on, sound}
+use Rattle.rules.specs.Charge.{Charge, loads_of, seen, begun_charges, last_end}
 use Rattle.rules.specs.Search.{added, earliest, fits_under}
 use Rattle.rules.specs.Site.{State, feeder_of, charges_on, others_of, limits_of, holding}
 use Rattle.rules.specs.Calls.{waiting, Result, preview, commit, move, offer, replan_latest, replan_lines, enquire, board, withdraw, draw_for, start_for, is_start, previewed_at, previewing, committing, step}
@@ -51,6 +51,29 @@ site_ignored = searching_with (λ y. limits y.limit y.bound 720 y.others)
 -- a search that counts the feeder's own charges alone
 abbrev pub own_feeder_only : Gives
 own_feeder_only = searching_with (λ y. limits y.limit y.bound y.site [])
+
+-- a search that counts, of the other feeders' charges, those alone that have begun
+abbrev pub begun_others_only : Gives
+begun_others_only =
+    with_search
+    (λ s f a.
+    earliest (limits_of s f) s.clock
+    (map elsewhere (loads_of (begun_charges s.clock (others_of s f))) ++ loads_of (charges_on s f))
+    a)
+
+-- a search that tests W only in the minute in which the charge starts
+abbrev pub site_only_at_its_start : Gives
+site_only_at_its_start =
+    with_search
+    (λ s f a.
+    let y : Limits = limits_of s f in
+    let xs : List Load = seen_on s f in
+    first
+    (λ u.
+    let zs : List Load = added xs a u in
+    within_site y.site (counts zs u) && from_on s.clock zs (λ t. limited y.limit (counts zs t) && balance_at y zs t))
+    (suc (last_until xs - s.clock))
+    s.clock)
 
 -- a search that counts the other feeders' charges on its own lines
 abbrev pub others_on_its_lines : Gives

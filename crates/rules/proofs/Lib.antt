@@ -27,6 +27,7 @@ pub mod Holding
 pub mod Changes
 pub mod Restarts
 pub mod Validity
+pub mod Openings
 pub mod Standing
 pub mod Shown
 pub mod OnTheBoard

@@ -1,14 +1,14 @@
--- The rounds of replan by lines: caps, largest and smallest line.
+-- The rounds of replan by lines: caps, largest and smallest line, and which caps are played with.
 use mathlib.Core.Logic.{◌⊎◌, inl, inr}
-use mathlib.Core.Path.{◌≡◌, refl, sym, ◌∙◌}
-use Prim.Native.Nat.{ℕ, min, ◌≤◌, ◌<◌}
+use mathlib.Core.Path.{◌≡◌, refl, sym, ◌∙◌, ap}
+use Prim.Native.Nat.{ℕ, zero, suc, min, ◌≤◌, ◌<◌}
 use mathlib.Core.Bool.{Bool, true, false, cond, ◌&&◌, true≢false}
 use native.Mathlib.Omega.{arith}
 use lib.Dec.{leb, eqb}
 use borrow.Author.Tests.{leb-true, leb-false, le-leb}
 use Rattle.rules.specs.Load.{IsLine, on_lines}
 use Rattle.rules.specs.Search.{Caps}
-use Rattle.rules.specs.Replan.{lowest_line, largest_line, smallest_line, lowered}
+use Rattle.rules.specs.Replan.{lowest_line, largest_line, smallest_line, lowered, Outcome, ends, lowers, go_on, rounds_from}
 use Rattle.rules.proofs.Ranges.{fails, below_or_not}
 use Rattle.rules.proofs.Counts.{on_lines_at, on_lines_all}
 
@@ -134,3 +134,33 @@ largest_line_lem f = top_line (λ a b. leb (f a) (f b)) (up f)
 
 pub smallest_line_lem : (f : ℕ → ℕ) → Top (λ a b. leb (f b) (f a)) (smallest_line f)
 smallest_line_lem f = top_line (λ a b. leb (f b) (f a)) (down f)
+
+-- The rounds that are played
+
+-- an outcome ends the replan, or P holds of the caps that it leaves
+abbrev pub LeavesIn : (Caps → Type 0) → Caps → Outcome → Type 0
+LeavesIn P cap (ends p) = Unit {0}
+LeavesIn P cap (lowers i t v) = P (lowered cap i t v)
+
+-- Where P holds of the first caps and of those that each round leaves, no round is played with other caps: whatever such a round
+-- came to, the replan would be the same.
+pub rounds_played :
+    (P : Caps → Type 0) (play other : Caps → Outcome)
+    → ((cap : Caps) → P cap → LeavesIn P cap (play cap))
+    → ((cap : Caps) → P cap → play cap ≡ other cap)
+    → (left made : ℕ) (cap : Caps)
+    → P cap
+    → rounds_from play left made cap ≡ rounds_from other left made cap
+unfolding rounds_from
+rounds_played P play other leaves same zero made cap p = rw (same cap p) refl
+rounds_played P play other leaves same (suc left) made cap p =
+    go (play cap) (leaves cap p) (λ c q. rounds_played P play other leaves same left (suc made) c q)
+    ∙ ap (go_on made (rounds_from other left (suc made)) cap) (same cap p)
+  where
+    go :
+        (o : Outcome)
+        → LeavesIn P cap o
+        → ((c : Caps) → P c → rounds_from play left (suc made) c ≡ rounds_from other left (suc made) c)
+        → go_on made (rounds_from play left (suc made)) cap o ≡ go_on made (rounds_from other left (suc made)) cap o
+    go (ends _) q again = refl
+    go (lowers i t v) q again = again (lowered cap i t v) q

@@ -1,22 +1,22 @@
 -- What stands while a plan of a feeder is made, and that a start is left for each of its waiting charges: "Begun charges and the other
 -- feeders' charges alone keep within W, so every waiting charge still finds a start under the caps."
-use mathlib.Core.Path.{◌≡◌}
-use Prim.Native.Nat.{ℕ, ◌+◌, min, ◌≤◌}
+use mathlib.Core.Path.{◌≡◌, refl}
+use Prim.Native.Nat.{ℕ, ◌+◌, ◌-◌, min, ◌≤◌}
 use mathlib.Core.Bool.{Bool, true, false, cond}
-use mathlib.Core.List.{List, [], ◌∷◌}
+use mathlib.Core.List.{List, [], ◌∷◌, ◌++◌}
 use native.Mathlib.Omega.{arith}
-use Rattle.rules.specs.Basics.{Each, keep}
+use Rattle.rules.specs.Basics.{Each, Found, at, nothing, keep}
 use Rattle.rules.specs.Load.{Load, Limits, drawn, counts, whole_of, IsLine}
 use Rattle.rules.specs.Charge.{Charge, loads_of, seen, is_begun, is_waiting, begun_charges, waiting_charges}
-use Rattle.rules.specs.Search.{Caps}
+use Rattle.rules.specs.Search.{Caps, first_unbalanced}
 use Rattle.rules.specs.Priority.{fits_at}
-use Rattle.rules.specs.Replan.{standing, lowered}
+use Rattle.rules.specs.Replan.{none, Placed, all, stuck, standing, place_lines, lowered, placed_active, Outcome, ends, lowers, after_round, round, rounds_from, by_lines}
 use Rattle.rules.specs.Site.{State, feeder_of, charges_on, others_of, limits_of}
 use Rattle.rules.specs.Valid.{ValidCharge, IsFeeder, ValidState}
 use Rattle.rules.proofs.Lists.{each_map, keep_each}
 use Rattle.rules.proofs.Sorting.{Rearranged}
 use Rattle.rules.proofs.Rounding.{bound_at_most}
-use Rattle.rules.proofs.Rounds.{AtLeast, lowered_at_least}
+use Rattle.rules.proofs.Rounds.{AtLeast, lowered_at_least, LeavesIn, rounds_played}
 use Rattle.rules.proofs.Counts.{sound_from_lem}
 use Rattle.rules.proofs.Sites.{whole_beside, lines_own}
 use Rattle.rules.proofs.Holding.{lines_valid}
@@ -43,6 +43,29 @@ pub caps_at_least : (y : Limits) → y.bound ≤ y.limit → (cap : Caps) → Ca
 caps_at_least y n top whole = λ l t. n
 caps_at_least y n top (after {cap = lower} c i u count) =
     lowered_at_least y.bound lower i u (count + y.bound) (omega arith) (caps_at_least y n lower c)
+
+-- a round with such caps ends the replan, or leaves such caps
+round_leaves :
+    (y : Limits) (clock : ℕ) (held : List Charge) (cap : Caps) → CapsOf y cap → LeavesIn (CapsOf y) cap (round y clock held cap)
+unfolding round
+round_leaves y clock held cap c =
+    after (place_lines (fits_at y.site cap) clock (standing y clock held) (waiting_charges clock held) 3)
+  where
+    lowering : (b : Bool) (i t count : ℕ) → LeavesIn (CapsOf y) cap (cond b (lowers i t (count + y.bound)) (ends (none 1)))
+    lowering true i t count = CapsOf.after c i t count
+    lowering false i t count = tt
+
+    searched :
+        (placed : List Charge)
+        → (o : Found)
+        → first_unbalanced y clock (standing y clock held ++ loads_of placed) ≡ o
+        → LeavesIn (CapsOf y) cap (after_round y clock held (all placed))
+    searched placed nothing e = rw (e, after_round) tt
+    searched placed (at t) e = rw (e, after_round) (lowering (placed_active placed _ t) _ t _)
+
+    after : (p : Placed) → LeavesIn (CapsOf y) cap (after_round y clock held p)
+    after stuck = tt
+    after (all placed) = searched placed (first_unbalanced y clock (standing y clock held ++ loads_of placed)) refl
 
 -- A feeder of a valid site, by its number
 module _ (s : State) (v : ValidState s) (f : ℕ) (h : IsFeeder s f) where
@@ -80,11 +103,12 @@ module _ (s : State) (v : ValidState s) (f : ℕ) (h : IsFeeder s f) where
       let g = v.settings f h in
       rw g.bound_is (bound_at_most (feeder_of s f).limit (feeder_of s f).percent g.percent_high)
 
-  -- "so every waiting charge still finds a start under the caps": a round places the charges of all lines, which are all that wait
-  pub round_complete :
-      (cap : Caps)
-      → CapsOf (limits_of s f) cap
-      → LinesPlaced (fits_at s.site cap) s.clock base waiting 3 × Rearranged (tickets waiting) (tickets (up_to_line 3 waiting))
+  -- "every waiting charge still finds a start under the caps": a round places the charges of all lines, which are all that wait
+  abbrev pub Complete : Caps → Type 0
+  Complete cap =
+      LinesPlaced (fits_at s.site cap) s.clock base waiting 3 × Rearranged (tickets waiting) (tickets (up_to_line 3 waiting))
+
+  pub round_complete : (cap : Caps) → CapsOf (limits_of s f) cap → Complete cap
   round_complete cap c =
       let least : ℕ = min (feeder_of s f).bound s.site in (
         round_places least s.site cap s.clock base (charges_on s f)
@@ -97,3 +121,21 @@ module _ (s : State) (v : ValidState s) (f : ℕ) (h : IsFeeder s f) where
             (v.plan f h).rising,
         lines-whole waiting (keep_each (λ c. IsLine c.line) (is_waiting s.clock) (charges_on s f) lines),
       )
+
+  -- and in every round that a replan by lines plays: a play that does as `round` wherever every waiting charge has a start gives the
+  -- same replan, so no other round is played
+  pub rounds_complete :
+      (play : Caps → Outcome)
+      → ((cap : Caps) → Complete cap → round (limits_of s f) s.clock (charges_on s f) cap ≡ play cap)
+      → (allowance : ℕ)
+      → by_lines (limits_of s f) s.clock allowance (charges_on s f)
+      ≡ rounds_from play (allowance - 1) 1 (λ l t. (feeder_of s f).limit)
+  unfolding by_lines
+  rounds_complete play same allowance =
+      rounds_played (CapsOf (limits_of s f)) (round (limits_of s f) s.clock (charges_on s f)) play
+      (round_leaves (limits_of s f) s.clock (charges_on s f))
+      (λ cap c. same cap (round_complete cap c))
+      (allowance - 1)
+      1
+      (λ l t. (feeder_of s f).limit)
+      whole

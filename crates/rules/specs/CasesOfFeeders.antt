@@ -1,5 +1,5 @@
 -- Entries of several feeders (docs/RULES.md, section 7; N14): openings, W between two feeders, refusals of a feeder's number, the
--- site's last end, and calls that name no feeder.
+-- site's last end, calls that name no feeder, and replans that are taken under W.
 use Rattle.std.specs.Prelude.{ℕ, List, [], ◌∷◌, ◌++◌, map, replicate}
 use Rattle.rules.specs.Calls.{Settings, settings, Asked, Answer, refused, opened, previewed, committed, moved, planned, waiting, charging, looked, withdrawn, not_held, Call, preview, commit, move, offer, replan_latest, replan_lines, enquire, board, withdraw}
 use Rattle.rules.specs.Entry.{Given, gives, gives_with, Case}
@@ -36,6 +36,49 @@ four_orders =
 abbrev four_given : List Given
 four_given =
     map gives (committed 1 0 ∷ committed 2 0 ∷ committed 3 0 ∷ previewed 10 ∷ refused 16 ∷ committed 4 10 ∷ [])
+
+-- A taken replan beside a charge of feeder 2 that waits: ticket 1, which draws from 0 to 10 and leaves one of W 2. Ticket 2 of feeder 1 gets 0
+-- and ticket 3 then 10, though N and D let both start at 0; ticket 3 ends in 20, 5 minutes late. By latest start ticket 3 goes first, for
+-- 15 − 10 is below 60 − 10, and by lines too, for its line 1 comes before line 2: it gets 0. Ticket 2 would be the third in minute 0,
+-- and in each up to 9: it gets 10. The last end is 20 as before, and nobody is late
+abbrev beside_waiting : Call → Answer → Case
+beside_waiting replan answer =
+    two_under 2
+    (commit 2 1 10 60 1 0
+    ∷ commit 1 2 10 60 1 0
+    ∷ commit 1 1 10 15 1 10
+    ∷ replan
+    ∷ enquire 1
+    ∷ enquire 2
+    ∷ enquire 3
+    ∷ [])
+    (map gives (committed 1 0 ∷ committed 2 0 ∷ committed 3 10 ∷ answer ∷ waiting 0 1 ∷ waiting 10 1 ∷ waiting 0 1 ∷ []))
+
+-- A feeder's own begun charge counts for W: ticket 1 of feeder 1 draws from 0 to 10 and ticket 2 of feeder 2 from 0 to 5, which is all that
+-- W 2 leaves up to 5. Ticket 3 gets 5, ticket 4 gets 10 and is 3 minutes late. In minute 1 the first two have begun. Offered 10 and 1,
+-- ticket 4 would be the third in minutes 1 to 4 beside tickets 1 and 2; offered 6 and 5, ticket 3 would be in minutes 6 to 9 beside
+-- tickets 1 and 4, all of feeder 1: cause 5, though N and D allow both. Either replan takes ticket 4 first (12 − 5 below 30 − 5; line 2
+-- before line 3): for ticket 1 it gets 5 and not 1, and for both ticket 3 gets 10. The last end is 15 as before, and nobody is late
+abbrev beside_own_begun : Call → Answer → Case
+beside_own_begun replan answer =
+    two_under 2
+    (commit 1 1 10 60 1 0
+    ∷ commit 2 1 5 60 1 0
+    ∷ commit 1 3 5 30 1 5
+    ∷ commit 1 2 5 12 1 10
+    ∷ move 1 (replicate 720 7)
+    ∷ offer 1 (10 ∷ 1 ∷ [])
+    ∷ offer 1 (6 ∷ 5 ∷ [])
+    ∷ replan
+    ∷ enquire 1
+    ∷ enquire 3
+    ∷ enquire 4
+    ∷ [])
+    (map gives (committed 1 0 ∷ committed 2 0 ∷ committed 3 5 ∷ committed 4 10 ∷ [])
+    ++ (gives_with (moved 2 0) (1 ∷ 0 ∷ 2 ∷ 0 ∷ replicate 716 7)
+    ∷ gives_with (planned 5 3 3 0) (10 ∷ 1 ∷ [])
+    ∷ gives_with (planned 5 3 3 0) (6 ∷ 5 ∷ [])
+    ∷ map gives (answer ∷ charging 0 10 1 ∷ waiting 10 1 ∷ waiting 5 1 ∷ [])))
 
 abbrev pub cases_of_feeders : List Case
 cases_of_feeders =
@@ -155,4 +198,9 @@ cases_of_feeders =
     ∷ gives withdrawn
     ∷ gives withdrawn
     ∷ []))
+    -- plans that W holds back and that are taken all the same
+    ∷ beside_waiting (replan_latest 1) (planned 0 5 0 0)
+    ∷ beside_waiting (replan_lines 1 1) (planned 0 5 0 1)
+    ∷ beside_own_begun (replan_latest 1) (planned 0 3 0 0)
+    ∷ beside_own_begun (replan_lines 1 1) (planned 0 3 0 1)
     ∷ []
