@@ -16,7 +16,7 @@ use planning::Planned;
 use refusals::Refusal;
 use site::clock::Moved;
 use site::enquiry::Enquiry;
-use station::open::Opened;
+use station::bounds::Opened;
 use text::Text;
 
 fn print_refused<const N: usize>(refusal: Refusal, out: &mut Text<N>)

@@ -1,6 +1,6 @@
 // The answers of a station as lines of text.
 //
-// No contract speaks of input or output: everything here is a function on slices.
+// No contract speaks of input or output: what is here takes and gives values.
 #![tactic(auto)]
 
 mod answer;

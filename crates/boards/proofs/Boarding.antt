@@ -19,7 +19,8 @@ use Rattle.charges.proofs.TicketOrder.{rising_all}
 use Rattle.boards.specs.Board.{answered_by, CanBoard, Boarded}
 use Rattle.boards.proofs.Ascending.{rises_apart}
 use Rattle.boards.proofs.Showing.{answered_none, answered_before, answered_more}
-use Rattle.boards.proofs.Looking.{some_at, some_not, tabulate_parts, keep_first}
+use Rattle.boards.proofs.Looking.{some_at, some_not, keep_first}
+use Rattle.charges.proofs.Members.{tabulate_parts}
 
 -- i charges are passed, which have given their answers, and j tickets are done: no charge that is left has one of them
 pub record Walked (c : Charges) (asked entry : List ℕ) (list : List ℕ) (i j : ℕ) : Type 0 where

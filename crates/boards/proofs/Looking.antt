@@ -2,11 +2,12 @@
 use mathlib.Core.Path.{◌≡◌, refl, sym, ap, ◌∙◌}
 use Prim.Native.Nat.{ℕ, zero, suc, ◌+◌, ◌-◌, ◌≤◌, ◌<◌}
 use mathlib.Core.Bool.{Bool, true, false, ◌||◌}
-use mathlib.Core.List.{List, [], ◌∷◌, ◌++◌, append-nil}
+use mathlib.Core.List.{List, [], ◌∷◌, append-nil}
 use native.Mathlib.Omega.{arith}
 use lib.ListN.{length, get_or}
 use Rattle.rules.specs.Basics.{Each, tabulate, keep, some}
 use Rattle.rules.proofs.Lists.{length_tabulate, keep_append, keep_all, each_tabulate}
+use Rattle.charges.proofs.Members.{tabulate_parts}
 
 -- a test that one of the numbers passes, or none
 
@@ -22,17 +23,6 @@ some_at f (x ∷ xs) (suc i) h e = rw (some_at f xs i (omega arith) e) (either (
 pub some_not : (f : ℕ → Bool) (xs : List ℕ) → ((i : ℕ) → i < length xs → f (get_or xs i 0) ≡ false) → some f xs ≡ false
 some_not f [] h = refl
 some_not f (x ∷ xs) h = rw (h 0 (omega arith)) (some_not f xs (λ i l. h (suc i) (omega arith)))
-
--- a list made by place, in two parts
-pub tabulate_parts : {A : Type 0} (g : ℕ → A) (i k : ℕ) → tabulate g (i + k) 0 ≡ tabulate g i 0 ++ tabulate g k i
-tabulate_parts g i k = let z : 0 + i ≡ i = omega arith in rw z at (from i 0)
-  where
-    from : (i a : ℕ) → tabulate g (i + k) a ≡ tabulate g i a ++ tabulate g k (a + i)
-    from zero a = let z : a + 0 ≡ a = omega arith in let y : 0 + k ≡ k = omega arith in rw (z, y) refl
-    from (suc i) a =
-        let z : a + suc i ≡ suc a + i = omega arith in
-        let y : suc i + k ≡ suc (i + k) = omega arith in
-        rw (z, y) (ap (λ l. g a ∷ l) (from i (suc a)))
 
 keep_no : {A : Type 0} (f : A → Bool) (xs : List A) → Each (λ x. f x ≡ false) xs → keep f xs ≡ []
 keep_no f [] e = refl

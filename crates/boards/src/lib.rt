@@ -42,7 +42,8 @@ fn is_looked_at(charges: &Charges, place: usize, ticket: u32) -> bool
     place < charges.held && charges.tickets[place] <= ticket
 }
 
-// The first `count` answers, while no charge was looked at.
+// Writes to the first `count` places that no ticket is held: the answers while no charge was looked at, and what a list holds when it is
+// lent.
 pub fn none_held(answers: &mut [u32], count: usize)
     requires { count ≤ length answers.old }
     ensures { answers.new ≡ written (replicate count not_held) answers.old }

@@ -20,7 +20,7 @@ use Rattle.layout.specs.Saving.{SaveResult, has_one, saving}
 use Rattle.layout.proofs.Refusing.{saving_written, saving_several, saving_refused}
 use Rattle.station.specs.declared.Station.{Station}
 use Rattle.station.specs.View.{view}
-use Rattle.station.specs.declared.open.Opened.{Opened}
+use Rattle.station.specs.declared.bounds.Opened.{Opened}
 use Rattle.station.specs.Opened.{open_answer, Opens as OpensStation}
 use Rattle.station.proofs.Refusing.{number_some}
 use Rattle.image.specs.Answers.{Saves}

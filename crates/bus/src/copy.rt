@@ -11,10 +11,7 @@ use refusals::Refusal;
 pub extern "C" fn togbeyis_restore(image: &[u8]) -> u32
     ensures { result ≡ (restoring image.now).refusal }
 {
-    match restore(image).answer {
-        Ok(()) => 0,
-        Err(refusal) => u32::from(refusal),
-    }
+    restore(image).answer.err().map_or(0, u32::from)
 }
 
 // How many blocks of the copy differ from what it was.

@@ -21,7 +21,7 @@ use site::enquiry::{Enquiry, enquire};
 use site::withdraw::withdraw;
 use station::{Done, Station};
 
-// Methods can be given only to a type of the same crate, so the station is wrapped.
+// A crate gives methods of its own only to its own types, so the station is wrapped.
 #[derive(Clone, Copy)]
 pub struct Yard {
     pub station: Station,

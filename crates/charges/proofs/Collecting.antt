@@ -1,10 +1,10 @@
 -- The places of the charges that pass a test.
-use mathlib.Core.Path.{◌≡◌, ap, ◌∙◌}
+use mathlib.Core.Path.{◌≡◌, ap, sym, ◌∙◌}
 use Prim.Native.Nat.{ℕ, ◌≤◌, ◌<◌}
 use mathlib.Core.Bool.{Bool}
 use mathlib.Core.List.{map}
 use native.Mathlib.Omega.{arith}
-use lib.ListN.{length}
+use lib.ListN.{length, length-map}
 use Rattle.rules.specs.Basics.{Each, tabulate, keep}
 use Rattle.rules.specs.Charge.{Charge}
 use Rattle.rules.proofs.Lists.{length_tabulate, length_keep, map_tabulate, keep_each, each_tabulate}
@@ -27,3 +27,6 @@ module _ (f : Charge → Bool) (c : Charges) where
   where_charges =
       map_keep (charge_at c) f (tabulate (λ i. i) c.held 0)
       ∙ ap (keep f) (map_tabulate (charge_at c) (λ i. i) c.held 0)
+
+  pub where_many : length (places_where f c) ≡ length (keep f (charges_of c))
+  where_many = sym (length-map (places_where f c) (charge_at c)) ∙ ap length where_charges

@@ -1,21 +1,23 @@
 -- What charges draw, column by column, and with one load more.
 use mathlib.Core.Path.{◌≡◌, refl, ap, sym, ◌∙◌}
-use Prim.Native.Nat.{ℕ, ◌+◌, ◌≤◌, ◌<◌}
+use Prim.Native.Nat.{ℕ, zero, suc, ◌+◌, ◌-◌, ◌≤◌, ◌<◌}
 use mathlib.Core.Bool.{Bool, true, false, cond}
-use mathlib.Core.List.{List, [], ◌∷◌, ◌++◌, append_assoc, map}
+use mathlib.Core.List.{List, ◌++◌, map}
 use native.Mathlib.Omega.{arith}
 use lib.Dec.{ltb}
-use lib.ListN.{length, get_or, set, take}
-use lib.Seq.{get_or-set_same, get_or-set_other, length-take-le}
+use lib.ListN.{length, get_or, take, replicate, get_or-append, get_or-replicate, length-replicate}
+use lib.Seq.{get_or-append-add, length-take-le}
+use borrow.Rule.Slice.PartMut.{put_mid, post_of}
 use Rattle.std.proofs.lemmas.List.{get_or-take}
 use Rattle.rules.specs.Basics.{keep, tabulate}
 use Rattle.rules.specs.Load.{Load, draw, load_from, elsewhere}
 use Rattle.rules.specs.Charge.{Charge, load_of, loads_of, begun_charges}
-use Rattle.rules.proofs.Lists.{length_tabulate, tabulate_same, tabulate_next, map_tabulate}
+use Rattle.rules.proofs.Ranges.{along}
+use Rattle.rules.proofs.Lists.{length_tabulate, tabulate_same, map_tabulate}
 use Rattle.charges.specs.declared.Charges.{Charges}
 use Rattle.charges.specs.Arrays.{charge_at, charges_of}
 use Rattle.charges.specs.Drawn.{load_in, loads_in, seen_from}
-use Rattle.charges.proofs.Members.{map_keep}
+use Rattle.charges.proofs.Members.{map_keep, tabulate_parts}
 
 -- One feeder
 
@@ -29,7 +31,7 @@ loads_begun before cs = map_keep load_of (λ x. ltb x.from before) cs
 -- Several feeders
 
 -- what the charge at a place draws, on its own line or as another feeder's
-abbrev pub seen_at : Bool → Charges → ℕ → Load
+abbrev seen_at : Bool → Charges → ℕ → Load
 seen_at own c i =
     load_from (draw (cond own (get_or c.lines i 0) 4) (get_or c.active_times i 0) (get_or c.rates i 0)) (get_or c.starts i 0)
 
@@ -54,54 +56,65 @@ loads_cut n lines active_times starts rates h =
 pub loads_length : (n : ℕ) (lines active_times starts rates : List ℕ) → length (loads_in n lines active_times starts rates) ≡ n
 loads_length n lines active_times starts rates = length_tabulate (load_in lines active_times starts rates) n 0
 
--- one load more, behind the first k
-module _ (lines active_times starts rates : List ℕ) (k line active_time start rate : ℕ) where
-  abbrev at : ℕ → Load
-  at = load_in (set lines k line) (set active_times k active_time) (set starts k start) (set rates k rate)
+-- What one feeder more draws, behind the first k loads
 
-  put_loads :
-      k < length lines
-      → k < length active_times
-      → k < length starts
-      → k < length rates
-      → loads_in (k + 1) (set lines k line) (set active_times k active_time) (set starts k start) (set rates k rate)
-      ≡ loads_in k lines active_times starts rates ++ (load_from (draw line active_time rate) start ∷ [])
-  put_loads a b c d =
-      rw (
-        tabulate_next at k,
-        get_or-set_same lines k line 0 a,
-        get_or-set_same active_times k active_time 0 b,
-        get_or-set_same starts k start 0 c,
-        get_or-set_same rates k rate 0 d,
-        tabulate_same at (load_in lines active_times starts rates) k 0 (λ j a b. before j (λ e. omega arith)),
-      )
-    where
-      before : (j : ℕ) → (j ≡ k → ⊥) → at j ≡ load_in lines active_times starts rates j
-      before j ne =
-          rw (
-            get_or-set_other lines k j line 0 ne,
-            get_or-set_other active_times k j active_time 0 ne,
-            get_or-set_other starts k j start 0 ne,
-            get_or-set_other rates k j rate 0 ne,
-          )
+-- a column has these n numbers behind its first k
+pub record Behind (k n : ℕ) (xs next : List ℕ) (number : ℕ → ℕ) : Type 0 where
+  pub before : (j : ℕ) → j < k → get_or next j 0 ≡ get_or xs j 0
+  pub behind : (i : ℕ) → i < n → get_or next (k + i) 0 ≡ number i
 
--- the first i charges of a feeder stand behind what was drawn before
-module _ (own : Bool) (c : Charges) (i : ℕ) (xs : List Load) where
-  pub joined_next :
-      (lines active_times starts rates : List ℕ) (k : ℕ) {lines' active_times' starts' rates' : List ℕ}
-      → k < length lines
-      → k < length active_times
-      → k < length starts
-      → k < length rates
-      → loads_in k lines active_times starts rates ≡ xs ++ tabulate (seen_at own c) i 0
-      → lines' ≡ set lines k (cond own (get_or c.lines i 0) 4)
-      → active_times' ≡ set active_times k (get_or c.active_times i 0)
-      → starts' ≡ set starts k (get_or c.starts i 0)
-      → rates' ≡ set rates k (get_or c.rates i 0)
-      → loads_in (k + 1) lines' active_times' starts' rates' ≡ xs ++ tabulate (seen_at own c) (i + 1) 0
-  joined_next lines active_times starts rates k l1 l2 l3 l4 h e1 e2 e3 e4 =
-      rw (e1, e2, e3, e4, put_loads lines active_times starts rates k _ _ _ _ l1 l2 l3 l4, h, tabulate_next (seen_at own c) i)
-      (append_assoc xs (tabulate (seen_at own c) i 0) (seen_at own c i ∷ []))
+module _ (k n : ℕ) (xs : List ℕ) (inside : k ≤ length xs) where
+  long : length (take k xs) ≡ k
+  long = length-take-le k xs inside
 
-  pub joined_all : {ys : List Load} → ys ≡ xs ++ tabulate (seen_at own c) i 0 → i ≡ c.held → ys ≡ xs ++ seen_from own (loads_of (charges_of c))
-  joined_all h e = h ∙ rw (e, all_seen own c)
+  written : (ys : List ℕ) {next : List ℕ} → n ≤ length ys → next ≡ put_mid k (k + n - k) xs ys → Behind k n xs next (λ i. get_or ys i 0)
+  written ys l e =
+      let rest = post_of k (k + n - k) xs in
+      record {
+        before = λ j h. rw e (get_or-append (take k xs) (ys ++ rest) 0 j (omega (arith, long)) ∙ get_or-take k xs j 0 h);
+        behind = λ i h.
+            rw e
+            (ap (λ (q : ℕ). get_or (take k xs ++ (ys ++ rest)) (q + i) 0) (sym long)
+            ∙ get_or-append-add (take k xs) (ys ++ rest) i 0
+            ∙ get_or-append ys rest 0 i (omega (arith, l)));
+      }
+
+  pub copied : (zs : List ℕ) {next : List ℕ} → n ≤ length zs → next ≡ put_mid k (k + n - k) xs (take n zs) → Behind k n xs next (λ i. get_or zs i 0)
+  copied zs l e =
+      let w = written (take n zs) (omega (arith, length-take-le n zs l)) e in
+      record { before = w.before; behind = λ i h. w.behind i h ∙ get_or-take n zs i 0 h }
+
+  pub filled : (v : ℕ) {next : List ℕ} → next ≡ put_mid k (k + n - k) xs (replicate n v) → Behind k n xs next (λ i. v)
+  filled v e =
+      let w = written (replicate n v) (omega (arith, length-replicate {A = ℕ} n v)) e in
+      record { before = w.before; behind = λ i h. w.behind i h ∙ get_or-replicate n i v 0 h }
+
+-- the same list made from other places
+tabulate_moved :
+    {A : Type 0} (f g : ℕ → A) (n a b : ℕ) → ((i : ℕ) → i < n → f (a + i) ≡ g (b + i)) → tabulate f n a ≡ tabulate g n b
+tabulate_moved f g zero a b h = refl
+tabulate_moved f g (suc n) a b h =
+    let x : a + 0 ≡ a = omega arith in
+    let y : b + 0 ≡ b = omega arith in
+    rw ((rw (x, y) at (h 0 (omega arith))), tabulate_moved f g n (suc a) (suc b) (λ i l. rw (← (along a i), ← (along b i)) (h (suc i) (omega arith))))
+
+pub joined :
+    (own : Bool) (c : Charges) (k : ℕ) (lines active_times starts rates : List ℕ) {lines' active_times' starts' rates' : List ℕ}
+    → Behind k c.held lines lines' (λ i. cond own (get_or c.lines i 0) 4)
+    → Behind k c.held active_times active_times' (λ i. get_or c.active_times i 0)
+    → Behind k c.held starts starts' (λ i. get_or c.starts i 0)
+    → Behind k c.held rates rates' (λ i. get_or c.rates i 0)
+    → loads_in (k + c.held) lines' active_times' starts' rates'
+    ≡ loads_in k lines active_times starts rates ++ seen_from own (loads_of (charges_of c))
+joined own c k lines active_times starts rates {lines'} {active_times'} {starts'} {rates'} l a s r =
+    tabulate_parts next k c.held
+    ∙ rw (
+      ← (all_seen own c),
+      tabulate_same next (load_in lines active_times starts rates) k 0
+          (λ j p q. let h : j < k = omega arith in rw (l.before j h, a.before j h, s.before j h, r.before j h) refl),
+      tabulate_moved next (seen_at own c) c.held k 0
+          (λ i h. let z : 0 + i ≡ i = omega arith in rw (z, l.behind i h, a.behind i h, s.behind i h, r.behind i h) refl),
+    )
+  where
+    next : ℕ → Load
+    next = load_in lines' active_times' starts' rates'

@@ -1,8 +1,8 @@
 -- Members of a list: what each has by its place, and those that pass a test.
 use mathlib.Core.Path.{◌≡◌, refl, ap}
-use Prim.Native.Nat.{ℕ, suc, ◌≤◌, ◌<◌}
+use Prim.Native.Nat.{ℕ, zero, suc, ◌+◌, ◌≤◌, ◌<◌}
 use mathlib.Core.Bool.{Bool, true, false, cond}
-use mathlib.Core.List.{List, [], ◌∷◌, map}
+use mathlib.Core.List.{List, [], ◌∷◌, ◌++◌, map}
 use native.Mathlib.Omega.{arith}
 use lib.ListN.{length}
 use Rattle.rules.specs.Basics.{Each, tabulate, keep}
@@ -11,6 +11,17 @@ use Rattle.rules.proofs.Lists.{tabulate_each, length_keep}
 pub each_place :
     {A : Type 0} (P : A → Type 0) (g : ℕ → A) (k : ℕ) → Each P (tabulate g k 0) → (i : ℕ) → i < k → P (g i)
 each_place P g k e i h = tabulate_each P g k 0 e i (omega arith) (omega arith)
+
+-- a list made by place, in two parts
+pub tabulate_parts : {A : Type 0} (g : ℕ → A) (i k : ℕ) → tabulate g (i + k) 0 ≡ tabulate g i 0 ++ tabulate g k i
+tabulate_parts g i k = let z : 0 + i ≡ i = omega arith in rw z at (from i 0)
+  where
+    from : (i a : ℕ) → tabulate g (i + k) a ≡ tabulate g i a ++ tabulate g k (a + i)
+    from zero a = let z : a + 0 ≡ a = omega arith in let y : 0 + k ≡ k = omega arith in rw (z, y) refl
+    from (suc i) a =
+        let z : a + suc i ≡ suc a + i = omega arith in
+        let y : suc i + k ≡ suc (i + k) = omega arith in
+        rw (z, y) (ap (λ l. g a ∷ l) (from i (suc a)))
 
 -- Those that pass a test
 

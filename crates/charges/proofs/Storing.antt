@@ -13,7 +13,7 @@ use Rattle.charges.specs.Arrays.{Column, tickets, lines, order_minutes, times, a
 
 -- Charges by their values
 
-pub charge_same : (x y : Charge) → ((k : Column) → value_of x k ≡ value_of y k) → x ≡ y
+charge_same : (x y : Charge) → ((k : Column) → value_of x k ≡ value_of y k) → x ≡ y
 charge_same x y h = whole
   where
     whole :

@@ -1,17 +1,18 @@
 -- The rules' words for lists in the library's words, which the code's chains are proved in.
 use mathlib.Core.Path.{◌≡◌, refl, ap, sym, ◌∙◌}
-use Prim.Native.Nat.{ℕ, zero, suc, ◌+◌, ◌-◌, ◌≤◌, ◌<◌}
+use Prim.Native.Nat.{ℕ, zero, suc, ◌+◌, ◌≤◌, ◌<◌}
 use mathlib.Core.Bool.{Bool, true, false, cond}
 use mathlib.Core.List.{List, [], ◌∷◌, map}
 use native.Mathlib.Omega.{arith}
 use native.Mathlib.Numerals.{add-one}
 use lib.ListN.{length, get_or, take, drop}
-use lib.Seq.{drop-cons, take-paste, take-take, take-length}
-use Rattle.std.specs.List.{filter, list_any, position, position_from, remove, copy_within}
+use lib.Seq.{drop-cons, take-length}
+use Rattle.std.specs.List.{All, filter, list_any, position, position_from, remove}
 use Rattle.std.specs.declared.option.Option.{Option}
 use Rattle.std.specs.declared.option.Option.TheVariants.{Some}
 use Rattle.std.proofs.lemmas.Iterator.Adapters.{position_from-zero}
-use Rattle.std.proofs.lemmas.List.{drop-take, length-drop}
+use Rattle.std.proofs.lemmas.List.Elements.{All-append, All-take, All-drop}
+use Rattle.rules.specs.Site.{places}
 use Rattle.rules.specs.Basics.{at, first, keep, some, tabulate}
 use Rattle.rules.proofs.Lists.{map_tabulate}
 use Rattle.charges.specs.Arrays.{found_at}
@@ -63,17 +64,9 @@ pub map_is :
 map_is h xs =
     ap (map h) (sym (take-length xs) ∙ take_is xs (length xs) (omega arith)) ∙ map_tabulate h (λ j. get_or xs j 0) (length xs) 0
 
--- a place taken out, where those behind it have moved up by one
-pub remove_is :
-    (xs : List ℕ) (n i : ℕ) {ys : List ℕ}
-    → i < n
-    → n ≤ length xs
-    → ys ≡ copy_within xs (i + 1) n i
-    → take (n - 1) ys ≡ remove (take n xs) i
-remove_is xs n i h l e =
-    let m : n - 1 ≡ i + (n - (i + 1)) = omega arith in
-    let k : n ≡ suc i + (n - (i + 1)) = omega arith in
-    let before : take i (take n xs) ≡ take i xs = take-take i n xs (omega arith) in
-    let after : drop (suc i) (take n xs) ≡ take (n - (i + 1)) (drop (suc i) xs) =
-    ap (λ (j : ℕ). drop (suc i) (take j xs)) k ∙ drop-take (suc i) (n - (i + 1)) xs in
-    rw (e, m, take-paste xs i (drop (i + 1) xs) (n - (i + 1)) (omega arith) (omega (arith, length-drop (i + 1) xs)), before, after, add-one i)
+-- where a place is taken out, the others stay below 180
+pub removed_below :
+    (is rest : List ℕ) (i : ℕ) → rest ≡ remove is i → All (λ j. j < places) is → All (λ j. j < places) rest
+removed_below is rest i e h =
+    let below : ℕ → Type 0 = λ j. j < places in
+    rw e (All-append below (take i is) (drop (suc i) is) (All-take below i is h) (All-drop below (suc i) is h))

@@ -2,3 +2,4 @@ pub mod Arrays
 pub mod Drawn
 pub mod Held
 pub mod Places
+pub mod Starts

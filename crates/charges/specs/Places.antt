@@ -1,5 +1,5 @@
--- Places of held charges in some order, those of the charges that pass a test, and what the arrays have at them.
-use Rattle.std.specs.Prelude.{ℕ, ◌-◌, ◌≤◌, ◌<◌, ◌≡◌, Bool, List, ◌++◌, map, length, get_or, replicate}
+-- Places of held charges in some order, and those of the charges that pass a test.
+use Rattle.std.specs.Prelude.{ℕ, ◌≤◌, ◌<◌, ◌≡◌, Bool, List, length, get_or}
 use Rattle.rules.specs.Site.{places}
 use Rattle.rules.specs.Basics.{tabulate, keep}
 use Rattle.rules.specs.Charge.{Charge}
@@ -18,7 +18,3 @@ Tests answers c f = (i : ℕ) → i < c.held → (b : Bool) → answers i b → 
 -- the places of the charges that pass a test, in ticket order
 abbrev pub places_where : (Charge → Bool) → Charges → List ℕ
 places_where f c = keep (λ i. f (charge_at c i)) (tabulate (λ i. i) c.held 0)
-
--- what a column has at these places, and zeros behind
-abbrev pub gathered_of : List ℕ → List ℕ → List ℕ
-gathered_of column is = map (λ i. get_or column i 0) is ++ replicate (places - length is) 0

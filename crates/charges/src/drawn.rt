@@ -6,6 +6,7 @@ ghost use Rattle.charges.specs.Drawn.{site_places, loads_lent, seen_from};
 
 use crate::loads::Loads;
 use crate::{Charges, PLACES};
+use rules::OTHERS;
 use std::marker::Model;
 
 // "1 to 4 feeders, each with its own .. 180 places"
@@ -34,13 +35,6 @@ impl Model for Drawn {
     ghost invariant = { λ d. d.held ≤ site_places };
 }
 
-// The line on which a charge is seen: what another feeder draws counts as a fourth.
-fn line_seen(own: bool, line: u32) -> u32
-    ensures { result ≡ cond own line 4 }
-{
-    if own { line } else { 4 }
-}
-
 impl Drawn {
     pub fn none() -> Drawn
         ensures { result ≡ [] }
@@ -60,14 +54,19 @@ impl Drawn {
         requires { length self.old + charges.now.held ≤ site_places }
         ensures { self.new ≡ self.old ++ seen_from own (loads_of (charges_of charges.now)) }
     {
-        for i in 0..charges.held {
-            let k = self.held;
-            self.lines[k] = line_seen(own, charges.lines[i]);
-            self.active_times[k] = charges.active_times[i];
-            self.starts[k] = charges.starts[i];
-            self.rates[k] = charges.rates[i];
-            self.held = k + 1;
+        let held = charges.held;
+        let from = self.held;
+        let end = from + held;
+        let lines = &mut self.lines[from..end];
+        if own {
+            lines.copy_from_slice(&charges.lines[..held]);
+        } else {
+            lines.fill(OTHERS);
         }
+        self.active_times[from..end].copy_from_slice(&charges.active_times[..held]);
+        self.starts[from..end].copy_from_slice(&charges.starts[..held]);
+        self.rates[from..end].copy_from_slice(&charges.rates[..held]);
+        self.held = end;
     }
 
     // What is drawn, lent.

@@ -2,7 +2,7 @@
 ghost use Rattle.std.specs.Prelude.{◌≤◌, length};
 
 use crate::Charges;
-use crate::ends::last_until;
+use crate::ends::end_of;
 
 // As many loads as starts: the other columns reach as far.
 #[derive(Clone, Copy)]
@@ -35,7 +35,9 @@ impl<'a> Loads<'a> {
     pub fn last_until(&self) -> u64
         ensures { result ≡ last_until (loads_lent self.now) }
     {
-        last_until(self.starts, self.active_times)
+        let loads = self.starts.iter().zip(self.active_times);
+        let ends = loads.map(|(start, time)| end_of(*start, *time));
+        ends.max().unwrap_or(0)
     }
 
     // Whether nothing is drawn.

@@ -3,25 +3,14 @@ ghost use Rattle.std.specs.Prelude.{◌≡◌, ◌<◌, Bool, not, length, map};
 ghost use Rattle.rules.specs.Charge.{Charge, is_waiting, is_finished, has_ticket, unfinished_charges, without_ticket};
 ghost use Rattle.rules.specs.Calls.{is_passed};
 ghost use Rattle.charges.specs.Arrays.{charge_at, charges_of, Columns, Holds};
-ghost use Rattle.charges.specs.Places.{Tests, places_where, gathered_of};
+ghost use Rattle.charges.specs.Places.{Tests, places_where};
 
+use crate::Charges;
 use crate::ends::end_of;
 use crate::places::Places;
-use crate::{Charges, PLACES};
-
-// What a column has at these places, and zeros behind.
-fn gathered(column: &[u32; PLACES], places: &Places) -> [u32; PLACES]
-    ensures { result ≡ gathered_of column.now places.now }
-{
-    let mut next = [0; PLACES];
-    for (k, place) in places.as_slice().iter().enumerate() {
-        next[k] = column[*place];
-    }
-    next
-}
 
 impl Charges {
-    // The places that pass the test, in ticket order.
+    // The places that pass the test, in the order of the places.
     fn places_where<F: Fn(usize) -> bool>(&self, test: F) -> Places
         requires { (i : _) → i < self.now.held → F.pre test i }
         ensures { (p : Charge → Bool) → Tests (F.post test) self.now p → result ≡ places_where p self.now }
@@ -46,7 +35,7 @@ impl Charges {
     pub fn passed_places(&self, clock: u32, target: u32) -> Places
         ensures { result ≡ places_where (is_passed clock target) self.now }
     {
-        self.places_where(|i| clock <= self.starts[i] && self.starts[i] < target)
+        self.places_where(|i| (clock..target).contains(&self.starts[i]))
     }
 
     // Those of the charges that are not finished at the clock.
@@ -63,28 +52,16 @@ impl Charges {
         self.places_where(|i| self.tickets[i] != ticket)
     }
 
-    // The charges at these places.
+    // The charges at these places. Not inlined, since the charges that are made stand in the frame of the function that makes them.
+    #[inline(never)]
     fn at_places(&self, places: &Places) -> Charges
         ensures { Holds (map (charge_at self.now) places.now) result }
     {
-        Charges {
-            held: places.as_slice().len(),
-            tickets: gathered(&self.tickets, places),
-            lines: gathered(&self.lines, places),
-            order_minutes: gathered(&self.order_minutes, places),
-            times: gathered(&self.times, places),
-            active_times: gathered(&self.active_times, places),
-            dues: gathered(&self.dues, places),
-            starts: gathered(&self.starts, places),
-            rates: gathered(&self.rates, places),
+        let mut charges = Charges::none();
+        for place in places.as_slice() {
+            charges.push(self.at(*place));
         }
-    }
-
-    // How many charges are not finished at the clock.
-    pub fn unfinished_count(&self, clock: u32) -> usize
-        ensures { result ≡ length (unfinished_charges clock (charges_of self.now)) }
-    {
-        self.unfinished_places(clock).len()
+        charges
     }
 
     // The charges that are not finished at the clock. Most moves finish none: then nothing is gathered anew.

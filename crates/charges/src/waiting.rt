@@ -1,4 +1,4 @@
-// The waiting charges: how many, and with new starts.
+// The waiting charges: how many, and with new starts; and whether one of some starts is below the clock.
 ghost use Rattle.std.specs.Prelude.{◌≡◌, ◌≤◌, ltb, length};
 ghost use Rattle.rules.specs.Basics.{some};
 ghost use Rattle.rules.specs.Charge.{waiting_charges};
@@ -30,14 +30,11 @@ impl Charges {
         requires { Columns self.now × (length starts.now ≡ length (waiting_charges clock (charges_of self.now))) }
         ensures { Holds (restarted_of clock (charges_of self.now) starts.now) result }
     {
+        let waiting = self.waiting_places(clock);
         let mut restarted = *self;
         let next = &mut restarted.starts[..];
-        let mut k = 0;
-        for i in 0..self.held {
-            if clock <= self.starts[i] {
-                next[i] = starts[k];
-                k += 1;
-            }
+        for (place, start) in waiting.as_slice().iter().zip(starts) {
+            next[*place] = *start;
         }
         restarted
     }

@@ -1,5 +1,5 @@
 -- What saving and restoring answer, write and give back.
-use Rattle.std.specs.Prelude.{ℕ, ◌≡◌, Bool, ◌&&◌, List, length, Result, Ok, Err}
+use Rattle.std.specs.Prelude.{ℕ, ◌≡◌, Bool, ◌&&◌, List, Result, Ok, Err}
 use Rattle.rules.specs.Site.{State}
 use Rattle.refusals.specs.declared.Refusal.{Refusal}
 use Rattle.refusals.specs.Refusals.{refusal_in}
@@ -22,10 +22,6 @@ saved r image = record { refusal = refusal_in r; blocks = blocks_in r; image = i
 
 pub record Saves (s : State) (previous before after : List ℕ) (r : Result ℕ Refusal) : Type 0 where
   pub result : saved r after ≡ saving s previous before
-
--- the same of each station with so many feeders, of which the first is that of `first` if there is no other
-pub record SavesFirst (count : ℕ) (first : State) (previous before after : List ℕ) (r : Result ℕ Refusal) : Type 0 where
-  pub saves : (s : State) → length s.feeders ≡ count → (count ≡ 1 → first ≡ s) → Saves s previous before after r
 
 -- contents that are those of this station, and it is valid
 unfoldable pub is_from : List ℕ → State → Bool

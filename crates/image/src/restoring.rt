@@ -6,7 +6,7 @@ ghost use Rattle.validity.specs.Settled.{Settled};
 ghost use Rattle.image.specs.Answers.{is_from, Restores};
 
 use blocks::contents::{CONTENTS, IMAGE, is_undamaged, take_blocks};
-use records::reading::{header_right, read};
+use records::reading::Records;
 use records::writing::contents_of;
 use refusals::Refusal;
 use station::Done;
@@ -32,7 +32,8 @@ fn refused(refusal: Refusal) -> Done<Result<(), Refusal>, One>
 }
 
 // An image accepted or refused, and the only feeder of the station beside it. No whole station is made of it: an image is of one
-// feeder, and a copy of the places of four costs more than most calls.
+// feeder, and a copy of the places of four costs more than most calls. Each refusal makes what is given back, and is not passed on
+// by a `?`: out of a `Result` the feeder would be copied twice more.
 pub fn restore(image: &[u8]) -> Done<Result<(), Refusal>, One>
     ensures { Restores image.now result.answer result.station }
 {
@@ -44,10 +45,10 @@ pub fn restore(image: &[u8]) -> Done<Result<(), Refusal>, One>
     }
     let mut contents = [0; CONTENTS];
     take_blocks(image, &mut contents);
-    if !header_right(&contents) {
+    let Some(records) = Records::of(&contents) else {
         return refused(Refusal::ImageInvalid);
-    }
-    let one = read(&contents);
+    };
+    let one = records.read();
     if !is_of(&contents, &one) {
         return refused(Refusal::ImageInvalid);
     }

@@ -1,11 +1,10 @@
--- What an unbalanced minute asks for: seen from the profiles, and as the rules have it.
+-- What an unbalanced minute asks for: seen from its step, and as the rules have it.
 use mathlib.Core.Path.{◌≡◌, refl, sym, ◌∙◌, ap}
-use Prim.Native.Nat.{ℕ, zero, suc, ◌+◌, ◌≤◌, ◌<◌}
+use Prim.Native.Nat.{ℕ, zero, suc, ◌+◌, ◌<◌, max, min}
 use mathlib.Core.Bool.{true, false}
 use mathlib.Core.List.{List, ◌++◌}
 use native.Mathlib.Omega.{arith}
 use lib.Dec.{ltb}
-use lib.ListN.{length, get_or}
 use borrow.Author.Tests.{eq-eqb, ne_eqb, lt-ltb, le-ltb}
 use Rattle.std.specs.declared.option.Option.TheVariants.{Some, None}
 use Rattle.rules.specs.Basics.{at, nothing, Each}
@@ -15,47 +14,34 @@ use Rattle.rules.specs.Search.{Caps, first_unbalanced}
 use Rattle.rules.specs.Replan.{starts, none, largest_line, smallest_line, placed_active, ends, lowers, after_round, round, standing}
 use Rattle.rules.proofs.Lists.{each_right}
 use Rattle.rules.proofs.Counts.{count-append}
-use Rattle.rules.proofs.Rounds.{smallest_line_lem}
 use Rattle.charges.specs.declared.Charges.{Charges}
 use Rattle.charges.specs.Arrays.{charges_of}
 use Rattle.profile.specs.declared.steps.Step.{Step}
-use Rattle.profile.specs.Steps.{minutes_of, counts_of, empty_step, In}
-use Rattle.profile.specs.Shows.{Profile, line_of, level_of, levels, most_drawn, Rated}
-use Rattle.profile.proofs.Levels.{level_in}
+use Rattle.profile.specs.Steps.{counts_of}
+use Rattle.profile.specs.Shows.{Profile, level_of, Rated}
 use Rattle.planner.specs.Starts.{WaitingStarts}
 use Rattle.planner.specs.declared.Beside.{Beside}
 use Rattle.planner.specs.Ready.{terms_of}
 use Rattle.planner.specs.Placed.{plan_of, AllPlaced}
 use Rattle.planner.proofs.Placing.{placed_active_lem}
 use Rattle.lines.specs.Lines.{lines_placed}
-use Rattle.lines.specs.Rounds.{asked_in, Comparable}
-use Rattle.lines.proofs.Extremes.{largest_alike, smallest_alike}
+use Rattle.lines.specs.Rounds.{asked_in}
+use Rattle.lines.proofs.Extremes.{largest_count, smallest_count}
 
--- Seen from the profiles: s is the step of the minute
+-- Seen from the step
 
-module _ {p base : Profile} {t bound : ℕ} (h : Comparable p base t bound) {i : ℕ} (inside : In (minutes_of p) (length p) i t) {s : Step}
-    (is : s ≡ get_or p i (empty_step 0)) where
-  counted : (l : ℕ) → counts_of s l ≡ level_of p l t
-  counted l = ap (λ (x : Step). counts_of x l) is ∙ sym (level_in (minutes_of p) (line_of p l) (length p) i t inside)
+module _ (s : Step) (base : Profile) (bound : ℕ) {line x y : ℕ} (e : line ≡ largest_line (counts_of s)) (ex : x ≡ max s.one (max s.two s.three))
+    (ey : y ≡ level_of base line s.minute) where
+  large : counts_of s line ≡ x
+  large = ap (counts_of s) e ∙ largest_count (counts_of s) ∙ sym ex
 
-  large : largest_line (counts_of s) ≡ largest_line (levels p t)
-  large = largest_alike (counts_of s) (levels p t) (λ l on. counted l)
+  pub asked_none : x ≡ y → None ≡ asked_in s base bound
+  asked_none same = rw (← e, large, ← ey, eq-eqb x y same)
 
-  small : smallest_line (counts_of s) ≡ smallest_line (levels p t)
-  small = smallest_alike (counts_of s) (levels p t) (λ l on. counted l)
-
-  pub low_small : {low : ℕ} → low ≡ smallest_line (counts_of s) → counts_of s low ≤ most_drawn
-  low_small {low} e = rw (counted low) (h.small low (rw e (smallest_line_lem (counts_of s)).line))
-
-  module _ {line x y : ℕ} (e : line ≡ largest_line (counts_of s)) (ex : x ≡ counts_of s line) (ey : y ≡ level_of base line t) where
-    pub asked_none : x ≡ y → None ≡ asked_in p base t bound
-    asked_none same = rw (← (e ∙ large), ← (ex ∙ counted line), ← ey, eq-eqb x y same)
-
-    pub asked_lowers :
-        {low cap : ℕ} → (x ≡ y → ⊥) → low ≡ smallest_line (counts_of s) → cap ≡ counts_of s low + bound
-        → Some (record { line = line; minute = t; cap = cap }) ≡ asked_in p base t bound
-    asked_lowers {low} ne el ec =
-        rw (ec, ← (e ∙ large), ← (ex ∙ counted line), ← ey, ne_eqb x y ne, ← (el ∙ small), ← (counted low))
+  pub asked_lowers :
+      {low minute cap : ℕ} → (x ≡ y → ⊥) → low ≡ min s.one (min s.two s.three) → minute ≡ s.minute → cap ≡ low + bound
+      → Some (record { line = line; minute = minute; cap = cap }) ≡ asked_in s base bound
+  asked_lowers ne el em ec = rw (ec, em, el ∙ sym (smallest_count (counts_of s)), ← e, large, ← ey, ne_eqb x y ne)
 
 -- As the rules have it
 

@@ -17,22 +17,22 @@ use Rattle.queues.specs.Queues.{is_on_line}
 use Rattle.charges.proofs.Storing.{zeros}
 use Rattle.profile.specs.Shows.{Profile}
 use Rattle.priority.specs.declared.crowd.Crowd as code
-use Rattle.priority.specs.Crowds.{CrowdOf}
+use Rattle.priority.specs.declared.crowd.Times.{Times}
+use Rattle.priority.specs.Crowds.{CrowdOf, TimesOf}
 use Rattle.priority.specs.Numbers.{InRange}
-use Rattle.search.specs.declared.caps.LineCaps.{LineCaps}
 use Rattle.planner.specs.declared.Beside.{Beside}
 use Rattle.planner.specs.Ready.{terms_of, begun_of}
 use Rattle.planner.proofs.Showing.{begun_end_most}
 use Rattle.lines.specs.declared.place.Task.{Task}
 use Rattle.lines.specs.Lines.{waiting_of, CanPlace, LinesDone, ShowsStanding}
 use Rattle.lines.proofs.Rearranging.{each_among}
-use Rattle.lines.proofs.Lefts.{own_length, own_total, left_start}
+use Rattle.lines.proofs.Lefts.{crowd_in, own_length, own_total, left_start}
 use Rattle.lines.proofs.Many.{many_next}
 use Rattle.lines.proofs.Nexts.{times_bound}
-use Rattle.lines.proofs.LinePlans.{line_begins, LineSoFar}
+use Rattle.lines.proofs.LinePlans.{own_crowd, line_begins, LineSoFar}
 use Rattle.lines.proofs.LineNumbers.{left_range, total_some}
 
-module _ {size : ℕ} {k : Task} {caps : LineCaps} (can : CanPlace size k caps) where
+module _ {size : ℕ} {k : Task} (can : CanPlace size k) where
   abbrev b : Beside
   b = k.beside
 
@@ -71,11 +71,18 @@ module _ {size : ℕ} {k : Task} {caps : LineCaps} (can : CanPlace size k caps) 
     pub own_range : InRange c own
     own_range = left_range can.ready.listed (left_start line (waiting_of b.clock c) can.ready.listed can.in_order is)
 
+    -- their crowd is that of the rules
+    pub line_crowd : {q : code.Crowd} → CrowdOf c own q → crowd_in q ≡ own_crowd b c line
+    line_crowd w =
+        let many = w.number ∙ own_length line (waiting_of b.clock c) can.ready.listed can.in_order is in
+        let sum = w.total ∙ own_total line (waiting_of b.clock c) can.ready.listed can.in_order is in
+        λ i. record { number = many i; total = sum i }
+
     pub line_start :
-        {cap : Caps} {before from : ℕ} {p : Profile} {by_place : List ℕ} {q : code.Crowd} → line ≡ before + 1 → LinesDone cap b c before p by_place
-        → CrowdOf c own q
+        {cap : Caps} {before from : ℕ} {p : Profile} {by_place : List ℕ} {t : Times} → line ≡ before + 1 → LinesDone cap b c before p by_place
+        → TimesOf c own t
         → from ≡ b.clock
-        → LineSoFar cap b c line own p by_place q from
+        → LineSoFar cap b c line own p by_place t from
     line_start {cap} {before} next d w start =
         let whole : length own ≡ length (of_line line (waiting_of b.clock c)) = own_length line (waiting_of b.clock c) can.ready.listed can.in_order is in
         let v = left_start line (waiting_of b.clock c) can.ready.listed can.in_order is in
@@ -91,19 +98,12 @@ module _ {size : ℕ} {k : Task} {caps : LineCaps} (can : CanPlace size k caps) 
           below = λ u a e. absurd (omega arith);
           low = omega arith;
           near = omega arith;
-          number = w.number ∙ whole;
-          total = w.total ∙ own_total line (waiting_of b.clock c) can.ready.listed can.in_order is;
           some = λ a.
-              omega (
-                arith,
-                w.total,
-                own_total line (waiting_of b.clock c) can.ready.listed can.in_order is,
-                total_some (of_line line (waiting_of b.clock c))
-                    (each_among (λ x. 1 ≤ x.time) (of_line line (waiting_of b.clock c))
-                    (λ x m.
-                    let z = v.from x m in
-                    rw z.is (can.ready.listed.small (get_or own z.place 0) (v.inside z.place z.inside)).time_low))
-                    (omega (arith, whole)),
-              );
-          bounds = times_bound w.times;
+              total_some (of_line line (waiting_of b.clock c))
+              (each_among (λ x. 1 ≤ x.time) (of_line line (waiting_of b.clock c))
+              (λ x m.
+              let z = v.from x m in
+              rw z.is (can.ready.listed.small (get_or own z.place 0) (v.inside z.place z.inside)).time_low))
+              (omega (arith, whole));
+          bounds = times_bound w;
         }

@@ -10,8 +10,7 @@ use Rattle.rules.specs.Search.{Caps}
 use Rattle.charges.specs.declared.Charges.{Charges}
 use Rattle.charges.specs.Held.{Listed}
 use Rattle.profile.specs.Shows.{Profile}
-use Rattle.search.specs.declared.caps.LineCaps.{LineCaps}
-use Rattle.priority.specs.declared.crowd.Crowd as code
+use Rattle.priority.specs.declared.crowd.Times.{Times}
 use Rattle.planner.specs.declared.Beside.{Beside}
 use Rattle.planner.specs.Ready.{terms_of}
 use Rattle.planner.specs.Placed.{AllPlaced}
@@ -20,8 +19,8 @@ use Rattle.lines.specs.Lines.{lines_placed, LinesDone, LinesUnder}
 use Rattle.lines.proofs.Many.{many_room}
 use Rattle.lines.proofs.LinePlans.{pick_in, place_end, LineSoFar}
 
-module _ {cap : Caps} {b : Beside} {c : Charges} {line : ℕ} {left : List ℕ} {p : Profile} {by_place : List ℕ} {q : code.Crowd}
-    {from : ℕ} (v : LineSoFar cap b c line left p by_place q from) where
+module _ {cap : Caps} {b : Beside} {c : Charges} {line : ℕ} {left : List ℕ} {p : Profile} {by_place : List ℕ} {t : Times}
+    {from : ℕ} (v : LineSoFar cap b c line left p by_place t from) where
   pub line_done : length left ≡ 0 → LinesDone cap b c line p by_place
   line_done e =
       record {
@@ -39,10 +38,10 @@ is_none (Some x) h = absurd (h x refl)
 
 -- so many lines, however the number is written
 pub lines_same :
-    (caps : LineCaps) (k : Task) {m l : ℕ} {p : Profile} {by_place : List ℕ} → LinesUnder caps k m p by_place
+    (k : Task) {m l : ℕ} {p : Profile} {by_place : List ℕ} → LinesUnder k m p by_place
     → m ≡ l
-    → LinesUnder caps k l p by_place
-lines_same caps k d e = λ cap shown. rw e at (d cap shown)
+    → LinesUnder k l p by_place
+lines_same k d e = λ cap shown. rw e at (d cap shown)
 
 pub lines_end :
     {cap : Caps} {b : Beside} {c : Charges} {p : Profile} {by_place : List ℕ} → Listed c → LinesDone cap b c 3 p by_place

@@ -9,12 +9,12 @@ use lib.Dec.{eqb}
 use lib.ListN.{length, get_or}
 use lib.Seq.{take-length}
 use borrow.Author.Tests.{eqb-true, eqb-false, ne_eqb, not-true}
-use Rattle.std.specs.List.{remove}
+use Rattle.std.specs.List.{remove, sum_by}
 use Rattle.std.proofs.lemmas.List.Edits.{length-remove, get_or-remove_below, get_or-remove_above}
 use Rattle.rules.specs.Site.{places}
 use Rattle.rules.specs.Basics.{Each, tabulate, keep}
 use Rattle.rules.specs.Charge.{Charge, latest_start_before}
-use Rattle.rules.specs.Priority.{total_time, without_ticket}
+use Rattle.rules.specs.Priority.{Crowd, total_time, without_ticket}
 use Rattle.rules.specs.Replan.{by_latest_start, of_line}
 use Rattle.rules.proofs.Ranges.{below_or_not}
 use Rattle.rules.proofs.Lists.{map_tabulate, length_tabulate, length_keep, each_keep, each_tabulate}
@@ -29,16 +29,20 @@ use Rattle.queues.specs.Queues.{is_on_line, Ordered}
 use Rattle.charges.proofs.Members.{each_place, map_keep}
 use Rattle.charges.proofs.Words.{take_is}
 use Rattle.queues.proofs.EveryTwo.{two_tabulate, two_keep, two_places}
-use Rattle.priority.specs.Crowds.{sum_of}
+use Rattle.priority.specs.declared.crowd.Crowd as code
 use Rattle.planner.proofs.Queueing.{places_apart}
-use Rattle.lines.proofs.Rearranging.{among_kept, among_passes, among_to, among_back, keep_rearranged, rearranged_total, total_places, among_place, PlaceOf, place_among}
+use Rattle.lines.proofs.Rearranging.{among_kept, among_passes, among_to, among_back, keep_rearranged, rearranged_total, total_listed, among_place, PlaceOf, place_among}
 
 -- the j-th charge left
 abbrev pub left_at : Charges → List ℕ → ℕ → Charge
 left_at c left j = charge_at c (get_or left j 0)
 
+-- a crowd of the code, as the rules have it
+abbrev pub crowd_in : code.Crowd → Crowd
+crowd_in q = record { number = q.number; total = q.total }
+
 -- the places are those of the charges left, by latest start, then ticket
-pub record Left (c : Charges) (line : ℕ) (left : List ℕ) (rest : List Charge) : Type 0 where
+pub record AreLeft (c : Charges) (line : ℕ) (left : List ℕ) (rest : List Charge) : Type 0 where
   pub few : length left ≤ places
   pub inside : (j : ℕ) → j < length left → get_or left j 0 < c.held
   pub on_line : (j : ℕ) → j < length left → (left_at c left j).line ≡ line
@@ -63,12 +67,17 @@ by_place xs = sym (take_is xs (length xs) (omega arith)) ∙ take-length xs
 
 module _ {c : Charges} (line : ℕ) (ws : List Charge) {queue own : List ℕ} (h : Listed c) (o : Ordered c (by_latest_start ws) queue)
     (is : own ≡ keep (is_on_line c.lines line) queue) where
+  own_charges_listed : map (charge_at c) own ≡ of_line line (by_latest_start ws)
+  own_charges_listed =
+      ap (map (charge_at c)) is
+      ∙ map_keep (charge_at c) (λ x. eqb x.line line) queue
+      ∙ ap (keep (λ x. eqb x.line line)) o.charges
+
   own_charges : tabulate (left_at c own) (length own) 0 ≡ of_line line (by_latest_start ws)
   own_charges =
       sym (map_tabulate (charge_at c) (λ j. get_or own j 0) (length own) 0)
-      ∙ ap (map (charge_at c)) (by_place own ∙ is)
-      ∙ map_keep (charge_at c) (λ x. eqb x.line line) queue
-      ∙ ap (keep (λ x. eqb x.line line)) o.charges
+      ∙ ap (map (charge_at c)) (by_place own)
+      ∙ own_charges_listed
 
   own_order : Rearranged (of_line line ws) (of_line line (by_latest_start ws))
   own_order = keep_rearranged (λ x. eqb x.line line) (sorted_rearranged latest_start_before ws)
@@ -77,8 +86,8 @@ module _ {c : Charges} (line : ℕ) (ws : List Charge) {queue own : List ℕ} (h
   own_length =
       sym (length_tabulate (left_at c own) (length own) 0) ∙ ap length own_charges ∙ rearranged_length own_order
 
-  pub own_total : sum_of (λ j. (left_at c own j).time) (length own) ≡ total_time (of_line line ws)
-  own_total = total_places (left_at c own) (length own) ∙ ap total_time own_charges ∙ rearranged_total own_order
+  pub own_total : sum_by (λ i. (charge_at c i).time) own ≡ total_time (of_line line ws)
+  own_total = total_listed (charge_at c) own ∙ ap total_time own_charges_listed ∙ rearranged_total own_order
 
   own_places : Each (λ i. (i < c.held) × (is_on_line c.lines line i ≡ true)) own
   own_places =
@@ -105,7 +114,7 @@ module _ {c : Charges} (line : ℕ) (ws : List Charge) {queue own : List ℕ} (h
       (two_keep (λ a b. latest_start_before b a ≡ false) (λ x. eqb x.line line) (by_latest_start ws)
       (sorted_sorted latest_start_before latest_start_ordering ws)))
 
-  pub left_start : Left c line own (of_line line ws)
+  pub left_start : AreLeft c line own (of_line line ws)
   left_start =
       record {
         few = own_few;
@@ -124,7 +133,7 @@ module _ {c : Charges} (line : ℕ) (ws : List Charge) {queue own : List ℕ} (h
 
 -- After one is taken out
 
-module _ {c : Charges} {line : ℕ} {left : List ℕ} {rest : List Charge} (h : Listed c) (v : Left c line left rest) where
+module _ {c : Charges} {line : ℕ} {left : List ℕ} {rest : List Charge} (h : Listed c) (v : AreLeft c line left rest) where
   pub left_apart : (i j : ℕ) → i < length left → j < length left → (i ≡ j → ⊥) → get_or left i 0 ≡ get_or left j 0 → ⊥
   left_apart i j a b ne e = go (below_or_not i j) (below_or_not j i)
     where
@@ -201,7 +210,7 @@ module _ {c : Charges} {line : ℕ} {left : List ℕ} {rest : List Charge} (h : 
             let e : p.place ≡ r = omega arith in
             absurd (ne (ap (λ (y : Charge). y.ticket) p.is ∙ ap (λ (y : ℕ). (left_at c left y).ticket) e))
 
-    pub left_next : Left c line (remove left r) (without_ticket (left_at c left r).ticket rest)
+    pub left_next : AreLeft c line (remove left r) (without_ticket (left_at c left r).ticket rest)
     left_next =
         record {
           few = omega (arith, v.few, length-remove left r low);

@@ -9,10 +9,10 @@ use Rattle.rules.specs.Priority.{total_time}
 use Rattle.charges.specs.declared.Charges.{Charges}
 use Rattle.charges.specs.Held.{Small, Listed}
 use Rattle.priority.specs.Numbers.{InRange}
-use Rattle.lines.proofs.Lefts.{left_at, Left}
+use Rattle.lines.proofs.Lefts.{left_at, AreLeft}
 
 -- what the numbers of those left meet
-module _ {c : Charges} {line : ℕ} {left : List ℕ} {rest : List Charge} (h : Listed c) (v : Left c line left rest) where
+module _ {c : Charges} {line : ℕ} {left : List ℕ} {rest : List Charge} (h : Listed c) (v : AreLeft c line left rest) where
   small : (j : ℕ) → j < length left → Small (left_at c left j)
   small j b = h.small (get_or left j 0) (v.inside j b)
 

@@ -1,6 +1,6 @@
 -- The next charge of a line: found at the last start, or at the smallest one behind it.
 use mathlib.Core.Logic.{◌⊎◌, inl, inr, ⊎_elim}
-use mathlib.Core.Path.{◌≡◌, sym, ◌∙◌}
+use mathlib.Core.Path.{◌≡◌, sym, ◌∙◌, subst}
 use Prim.Native.Nat.{ℕ, ◌+◌, ◌^◌, min, ◌≤◌, ◌<◌}
 use mathlib.Core.Bool.{true, true≢false}
 use mathlib.Core.List.{List}
@@ -9,67 +9,66 @@ use lib.ListN.{length}
 use borrow.Author.Tests.{le-leb}
 use Rattle.std.specs.declared.option.Option.{Option}
 use Rattle.std.specs.declared.option.Option.TheVariants.{Some, None}
-use Rattle.rules.specs.Basics.{run_of}
 use Rattle.rules.proofs.Ranges.{below_or_not}
 use Rattle.charges.specs.declared.Charges.{Charges}
 use Rattle.profile.specs.Shows.{Profile, first_minute, last_minute}
-use Rattle.search.specs.declared.caps.LineCaps.{LineCaps}
 use Rattle.search.specs.Rooms.{Misses}
-use Rattle.search.specs.Caps.{room_under, CanRun}
-use Rattle.priority.specs.declared.crowd.Crowd.{Crowd}
-use Rattle.priority.specs.Numbers.{number_of}
-use Rattle.priority.specs.Chosen.{fits_run, CanChoose}
-use Rattle.priority.specs.Crowds.{shortest_of, longest_of, Found, TimesOf, Narrowed}
-use Rattle.lines.specs.Next.{CanChooseAt, ChosenAt, StartFor, smaller_of, NextStart, Bounds, CanNext, NextAt}
+use Rattle.priority.specs.declared.crowd.Times.{Times}
+use Rattle.priority.specs.declared.choice.Left.{Left}
+use Rattle.priority.specs.declared.choice.Runs.{Runs}
+use Rattle.priority.specs.Crowds.{shortest_of, Found, TimesOf}
+use Rattle.priority.specs.Chosen.{active_time_at, rate_at, with_times, Narrowed, fits_run}
+use Rattle.lines.specs.declared.next.Room.{Room}
+use Rattle.lines.specs.Next.{room_for, runs_at, CanChooseAt, ChosenAt, StartFor, smaller_of, NextStart, Bounds, CanNext, NextAt}
 use Rattle.lines.proofs.Seeking.{rate_of, rate_range, rate_found, rate_missing, rate_none, rate_long}
 
-pub times_bound : {c : Charges} {left : List ℕ} {k : Crowd} → TimesOf c left (length left) k → Bounds c left k
-times_bound t =
+pub times_bound : {c : Charges} {left : List ℕ} {t : Times} → TimesOf c left t → Bounds c left t
+times_bound w =
     record {
-      one_most = t.one.most;
-      two_most = t.two.most;
-      one = λ j h e. (t.one.each j h e).2;
-      two = λ j h e. (t.two.each j h e).2;
-      shortest_low = t.shortest_low;
+      one_most = w.one.most;
+      two_most = w.two.most;
+      one = λ j h e. (w.one.each j h e).2;
+      two = λ j h e. (w.two.each j h e).2;
+      shortest_low = w.shortest_low;
     }
 
-module _ {p : Profile} {caps : LineCaps} {line : ℕ} {c : Charges} {left : List ℕ} {k : Crowd} {from : ℕ}
-    (can : CanNext p caps line c left k from) (more : 1 ≤ length left) where
-  runs : (most s : ℕ) → most ≤ 1445 → first_minute p ≤ s → s + 1445 < 2 ^ 32 → CanRun p most s
-  runs most s h low fit = record { formed = can.can_start.formed; low = low; ends_fit = omega arith }
+module _ {room : Room} {l : Left} {from : ℕ} (can : CanNext room l from) (more : 1 ≤ length l.places.now) where
+  abbrev p : Profile
+  p = room.steps.now
 
-  choose_at :
-      {d : Crowd} {s : ℕ} → Bounds c left d → CanChoose c left d → first_minute p ≤ s → s + 1445 < 2 ^ 32
-      → CanChooseAt p c left d s
-  choose_at {d} {s} b h low fit =
-      record {
-        one = runs (longest_of d.one) s b.one_most low fit;
-        two = runs (longest_of d.two) s b.two_most low fit;
-        can_choose = h;
-      }
+  abbrev left : List ℕ
+  left = l.places.now
 
-  -- At the last start
+  -- At the smallest start behind the last one
 
-  -- At the smallest one behind it
+  module _ {d : Left} (w : Narrowed l d) where
+    abbrev there : Left
+    there = with_times l d.times
 
-  module _ {d : Crowd} (w : Narrowed c left k d) where
+    can_choose_there : {s : ℕ} → first_minute p ≤ s → s + 1445 < 2 ^ 32 → CanChooseAt room there s
+    can_choose_there low fit =
+        let can_choose = can.can_choose more in
+        record {
+          one = record { formed = can.can_start.formed; low = low; ends_fit = omega (arith, w.times.one.most) };
+          two = record { formed = can.can_start.formed; low = low; ends_fit = omega (arith, w.times.two.most) };
+          can_choose =
+              record {
+                range = can_choose.range;
+                number_most = can_choose.number_most;
+                total_low = can_choose.total_low;
+                shortest_low = w.times.shortest_low;
+                in_order = can_choose.in_order;
+              };
+        }
+
+    pub can_there : {s : ℕ} → first_minute p ≤ s → s + 1445 < 2 ^ 32 → CanChooseAt room d s
+    can_there {s} low fit = subst (λ x. CanChooseAt room x s) (sym w.same) (can_choose_there low fit)
+
     abbrev one : ℕ
-    one = shortest_of d.one
+    one = shortest_of d.times.one
 
     abbrev two : ℕ
-    two = shortest_of d.two
-
-    pub can_there : {s : ℕ} → first_minute p ≤ s → s + 1445 < 2 ^ 32 → CanChooseAt p c left d s
-    can_there =
-        let can_choose = can.can_choose more in
-        choose_at (times_bound w.times)
-        (record {
-          range = can_choose.range;
-          number_most = omega (arith, w.number, can_choose.number_most);
-          total_low = omega (arith, w.total, can_choose.total_low);
-          shortest_low = w.times.shortest_low;
-          in_order = can_choose.in_order;
-        })
+    two = shortest_of d.times.two
 
     -- the smallest start of a rate of which a charge is left, and no charge has an earlier one
     record Reached (start : ℕ) : Type 0 where
@@ -77,16 +76,16 @@ module _ {p : Profile} {caps : LineCaps} {line : ℕ} {c : Charges} {left : List
       high : start ≤ last_minute p
       none :
           (u : ℕ) → from ≤ u → u < start → (j : ℕ) → j < length left
-          → Misses (room_under p caps line (number_of c.rates left j)) (number_of c.active_times left j) u
-      found : StartFor p caps line 1 one from (Some start) ⊎ StartFor p caps line 2 two from (Some start)
+          → Misses (room_for room (rate_at l j)) (active_time_at l j) u
+      found : StartFor room 1 one from (Some start) ⊎ StartFor room 2 two from (Some start)
 
-    reached : {start : ℕ} → NextStart p caps line d from (Some start) → Reached start
+    reached : {start : ℕ} → NextStart room d.times from (Some start) → Reached start
     reached {start} m = go m.first m.second m.for_one m.for_two m.smaller
       where
         same : {x y : ℕ} → Some x ≡ Some y → x ≡ y
         same e = cc
 
-        go : (a b : Option ℕ) → StartFor p caps line 1 one from a → StartFor p caps line 2 two from b → Some start ≡ smaller_of a b → Reached start
+        go : (a b : Option ℕ) → StartFor room 1 one from a → StartFor room 2 two from b → Some start ≡ smaller_of a b → Reached start
         go (Some a) (Some b) x y e =
             let s : start ≡ min a b = same e in
             record {
@@ -120,44 +119,43 @@ module _ {p : Profile} {caps : LineCaps} {line : ℕ} {c : Charges} {left : List
             }
         go None None x y e = absurd (cc)
 
-    pub there_range : {start : ℕ} → NextStart p caps line d from (Some start) → (first_minute p ≤ start) × (start ≤ last_minute p)
+    pub there_range : {start : ℕ} → NextStart room d.times from (Some start) → (first_minute p ≤ start) × (start ≤ last_minute p)
     there_range m = let r = reached m in (r.low, r.high)
 
-    module _ {start : ℕ} (m : NextStart p caps line d from (Some start)) where
+    module _ {start : ℕ} (m : NextStart room d.times from (Some start)) where
       -- a charge is taken at that start
-      pub taken_there : ChosenAt p caps line c left d start None → ⊥
+      pub taken_there : ChosenAt room d start None → ⊥
       taken_there none = ⊎_elim one_fits two_fits (reached m).found
         where
-          run_one : ℕ
-          run_one = run_of (room_under p caps line 1) (longest_of d.one) start
+          none_fits : ChosenAt room there start None
+          none_fits = subst (λ x. ChosenAt room x start None) w.same none
 
-          run_two : ℕ
-          run_two = run_of (room_under p caps line 2) (longest_of d.two) start
+          runs : Runs
+          runs = runs_at room d.times start
 
-          one_fits : StartFor p caps line 1 one from (Some start) → ⊥
+          one_fits : StartFor room 1 one from (Some start) → ⊥
           one_fits t =
-              let g : Found c left (length left) 1 one = rate_found can w.times.one t.0 in
-              let fits : fits_run c left run_one run_two g.who ≡ true =
-              rw (← g.rate_is) (le-leb (number_of c.active_times left g.who) run_one (rate_long can w.times.one t g)) in
-              true≢false (sym fits ∙ none g.who (omega arith) g.inside)
+              let g : Found l.charges.now left (length left) 1 one = rate_found can w.times.one t.0 in
+              let fits : fits_run l runs g.who ≡ true =
+              rw (← g.rate_is) (le-leb (active_time_at l g.who) runs.one (rate_long can w.times.one t g)) in
+              true≢false (sym fits ∙ none_fits g.who (omega arith) g.inside)
 
-          two_fits : StartFor p caps line 2 two from (Some start) → ⊥
+          two_fits : StartFor room 2 two from (Some start) → ⊥
           two_fits t =
-              let g : Found c left (length left) 2 two = rate_found can w.times.two t.0 in
-              let fits : fits_run c left run_one run_two g.who ≡ true =
-              rw (← g.rate_is) (le-leb (number_of c.active_times left g.who) run_two (rate_long can w.times.two t g)) in
-              true≢false (sym fits ∙ none g.who (omega arith) g.inside)
+              let g : Found l.charges.now left (length left) 2 two = rate_found can w.times.two t.0 in
+              let fits : fits_run l runs g.who ≡ true =
+              rw (← g.rate_is) (le-leb (active_time_at l g.who) runs.two (rate_long can w.times.two t g)) in
+              true≢false (sym fits ∙ none_fits g.who (omega arith) g.inside)
 
       pub next_there :
-          {place : ℕ} → ChosenAt p caps line c left d start (Some place)
-          → NextAt p caps line c left k from (record { start = start; place = place; crowd = d })
-      next_there h =
+          {position : ℕ} → ChosenAt room d start (Some position)
+          → NextAt room l from (record { start = start; position = position; times = d.times })
+      next_there {position} h =
           let r = reached m in
+          let choice = subst (λ x. ChosenAt room x start (Some position)) w.same h in
           record {
-            inside = h.inside;
-            choice = h;
-            number = w.number;
-            total = w.total;
+            inside = choice.inside;
+            choice = choice;
             bounds = times_bound w.times;
             low = r.low;
             high = omega (arith, r.high);

@@ -1,17 +1,17 @@
 -- Charges in another order: the same members, also of those that pass a test, and the same summed time.
-use mathlib.Core.Path.{◌≡◌, refl, ap, ◌∙◌, sym}
-use Prim.Native.Nat.{ℕ, zero, suc, ◌+◌, ◌<◌}
+use mathlib.Core.Path.{◌≡◌, refl, ap}
+use Prim.Native.Nat.{ℕ, ◌+◌, ◌<◌}
 use mathlib.Core.Bool.{Bool, true, false, cond}
-use mathlib.Core.List.{List, [], ◌∷◌, ◌++◌}
+use mathlib.Core.List.{List, [], ◌∷◌, map}
+use Rattle.std.specs.List.{sum_by}
+use Rattle.std.proofs.lemmas.List.Sums.{sum_by-cons}
 use native.Mathlib.Omega.{arith}
-use native.Mathlib.Nat.{zero-add}
 use Rattle.rules.specs.Basics.{Each, tabulate, keep}
 use Rattle.rules.specs.Charge.{Charge}
 use Rattle.rules.specs.Priority.{total_time}
-use Rattle.rules.proofs.Lists.{each_map, each_keep, each_tabulate, tabulate_each, tabulate_more}
+use Rattle.rules.proofs.Lists.{each_map, each_keep, each_tabulate, tabulate_each}
 use Rattle.rules.proofs.Sorting.{Inserted, here, later, Rearranged, none, more, each_rearranged}
 use Rattle.rules.proofs.Picking.{Among, front, behind, among_each}
-use Rattle.priority.specs.Crowds.{sum_of}
 
 -- Members
 
@@ -92,18 +92,9 @@ rearranged_total (more r i) = omega (arith, inserted_total i, rearranged_total r
 
 -- by place
 
-total-append : (xs : List Charge) (x : Charge) → total_time (xs ++ (x ∷ [])) ≡ total_time xs + x.time
-total-append [] x = omega arith
-total-append (y ∷ xs) x = omega (arith, total-append xs x)
-
-pub total_places : (g : ℕ → Charge) (n : ℕ) → sum_of (λ j. (g j).time) n ≡ total_time (tabulate g n 0)
-total_places g zero = refl
-total_places g (suc n) =
-    ap (λ (k : ℕ). k + (g n).time) (total_places g n)
-    ∙ sym
-    (ap total_time (tabulate_more g n 0)
-    ∙ total-append (tabulate g n 0) (g (0 + n))
-    ∙ ap (λ (k : ℕ). total_time (tabulate g n 0) + (g k).time) (zero-add n))
+pub total_listed : (g : ℕ → Charge) (is : List ℕ) → sum_by (λ i. (g i).time) is ≡ total_time (map g is)
+total_listed g [] = refl
+total_listed g (i ∷ is) = omega (arith, sum_by-cons (λ i. (g i).time) i is, total_listed g is)
 
 pub among_place : (g : ℕ → Charge) (n j : ℕ) → j < n → Among (g j) (tabulate g n 0)
 among_place g n j h =

@@ -12,16 +12,15 @@ use Rattle.rules.specs.Basics.{run_of}
 use Rattle.rules.proofs.Ranges.{below_or_not}
 use Rattle.rules.proofs.Fitting.{Run, run_has}
 use Rattle.charges.specs.declared.Charges.{Charges}
-use Rattle.profile.specs.Shows.{Profile, first_minute, last_minute}
-use Rattle.search.specs.declared.caps.LineCaps.{LineCaps}
+use Rattle.profile.specs.Shows.{first_minute, last_minute}
 use Rattle.search.specs.Rooms.{Misses, Least}
-use Rattle.search.specs.Caps.{room_under}
 use Rattle.search.proofs.Within.{first_last}
 use Rattle.priority.specs.declared.crowd.Span.{Span}
-use Rattle.priority.specs.declared.crowd.Crowd.{Crowd}
-use Rattle.priority.specs.Numbers.{number_of}
+use Rattle.priority.specs.declared.choice.Left.{Left}
 use Rattle.priority.specs.Crowds.{shortest_of, longest_of, Found, FoundIf, SpanOf}
-use Rattle.lines.specs.Next.{StartFor, CanNext}
+use Rattle.priority.specs.Chosen.{active_time_at, rate_at}
+use Rattle.lines.specs.declared.next.Room.{Room}
+use Rattle.lines.specs.Next.{room_for, StartFor, CanNext}
 
 -- a start that passes has a run at least as long
 run_least : (f : ℕ → Bool) (time most start r : ℕ) → Least f time start r → time ≤ most → time ≤ run_of f most r
@@ -31,14 +30,20 @@ run_least f time most start r m h = go (run_has f most r) (below_or_not (run_of 
     go x (inl l) = absurd (true≢false (sym (m.passes (r + run_of f most r) (omega arith) (omega arith)) ∙ x.stops (omega arith)))
     go x (inr l) = l
 
-module _ {p : Profile} {caps : LineCaps} {line : ℕ} {c : Charges} {left : List ℕ} {k : Crowd} {from : ℕ} (can : CanNext p caps line c left k from) where
+module _ {room : Room} {l : Left} {from : ℕ} (can : CanNext room l from) where
+  abbrev c : Charges
+  c = l.charges.now
+
+  abbrev left : List ℕ
+  left = l.places.now
+
   -- a rate of a charge left
-  pub rate_of : (j : ℕ) → j < length left → (1 ≡ number_of c.rates left j) ⊎ (2 ≡ number_of c.rates left j)
+  pub rate_of : (j : ℕ) → j < length left → (1 ≡ rate_at l j) ⊎ (2 ≡ rate_at l j)
   rate_of j h =
       let rated = (can.can_choose (omega arith)).range.rated j h in
-      ⊎_elim (λ l. inl (omega (arith, rated.low))) (λ l. inr (omega (arith, rated.high))) (below_or_not (number_of c.rates left j) 2)
+      ⊎_elim (λ x. inl (omega (arith, rated.low))) (λ x. inr (omega (arith, rated.high))) (below_or_not (rate_at l j) 2)
 
-  pub rate_range : {rate time a : ℕ} → StartFor p caps line rate time from (Some a) → (first_minute p ≤ a) × (a ≤ last_minute p)
+  pub rate_range : {rate time a : ℕ} → StartFor room rate time from (Some a) → (first_minute room.steps.now ≤ a) × (a ≤ last_minute room.steps.now)
   rate_range t = (omega (arith, t.1.least.low, can.low, first_last can.can_start), t.1.high)
 
   module _ {rate : ℕ} {s : Option Span} (z : SpanOf c left (length left) rate s) where
@@ -51,13 +56,13 @@ module _ {p : Profile} {caps : LineCaps} {line : ℕ} {c : Charges} {left : List
         go None f h = absurd (omega arith)
 
     -- where no charge has the rate, none is left with it
-    pub rate_missing : StartFor p caps line rate (shortest_of s) from None → (j : ℕ) → j < length left → rate ≡ number_of c.rates left j → ⊥
+    pub rate_missing : StartFor room rate (shortest_of s) from None → (j : ℕ) → j < length left → rate ≡ rate_at l j → ⊥
     rate_missing e j h same = omega (arith, (z.each j h same).0)
 
-    module _ {a : ℕ} (t : StartFor p caps line rate (shortest_of s) from (Some a)) where
+    module _ {a : ℕ} (t : StartFor room rate (shortest_of s) from (Some a)) where
       pub rate_none :
-          (u : ℕ) → from ≤ u → u < a → (j : ℕ) → j < length left → rate ≡ number_of c.rates left j
-          → Misses (room_under p caps line (number_of c.rates left j)) (number_of c.active_times left j) u
+          (u : ℕ) → from ≤ u → u < a → (j : ℕ) → j < length left → rate ≡ rate_at l j
+          → Misses (room_for room (rate_at l j)) (active_time_at l j) u
       rate_none u b d j h same =
           let e = z.each j h same in
           let w = t.1.least.failed u (omega arith) d in
@@ -69,10 +74,10 @@ module _ {p : Profile} {caps : LineCaps} {line : ℕ} {c : Charges} {left : List
           }
 
       -- one that is as short as that is no longer than the run
-      pub rate_long : (f : Found c left (length left) rate (shortest_of s)) → number_of c.active_times left f.who ≤ run_of (room_under p caps line rate) (longest_of s) a
+      pub rate_long : (f : Found c left (length left) rate (shortest_of s)) → active_time_at l f.who ≤ run_of (room_for room rate) (longest_of s) a
       rate_long f =
           omega (
             arith,
             f.time_is,
-            run_least (room_under p caps line rate) (shortest_of s) (longest_of s) _ a t.1.least z.in_order,
+            run_least (room_for room rate) (shortest_of s) (longest_of s) _ a t.1.least z.in_order,
           )

@@ -7,8 +7,8 @@ use mathlib.Core.List.{List, [], ◌∷◌}
 use native.Mathlib.Omega.{arith}
 use lib.ListN.{length, get_or}
 use borrow.Author.Tests.{lt-ltb, le-ltb, eq-eqb}
-use Rattle.rules.specs.Basics.{at, run_of, Each, keep, some}
-use Rattle.rules.specs.Load.{Load, IsLine, last_until}
+use Rattle.rules.specs.Basics.{at, Each, keep, some}
+use Rattle.rules.specs.Load.{Load, last_until}
 use Rattle.rules.specs.Charge.{Charge, starting}
 use Rattle.rules.specs.Search.{Caps}
 use Rattle.rules.specs.Priority.{Crowd, urgency, taken_before, chosen, foremost, Fitting, fits_at, first_fit, picked}
@@ -16,21 +16,20 @@ use Rattle.rules.proofs.Ranges.{below_or_not}
 use Rattle.rules.proofs.Fitting.{NoneBelow, first_fit_is}
 use Rattle.rules.proofs.Picking.{Among, front, behind, among_each, among_keep, Taken, taken_some}
 use Rattle.rules.proofs.Foremost.{foremost_first}
-use Rattle.charges.specs.declared.Charges.{Charges}
 use Rattle.charges.specs.Held.{Listed}
-use Rattle.profile.specs.Shows.{Profile, Shows}
+use Rattle.profile.specs.Shows.{Shows}
 use Rattle.profile.proofs.Levels.{same_or_not}
-use Rattle.search.specs.declared.caps.LineCaps.{LineCaps}
-use Rattle.search.specs.Caps.{CapsShown, room_under}
+use Rattle.search.specs.Caps.{CapsShown}
 use Rattle.search.proofs.Unders.{run_shows, misses_fails}
-use Rattle.priority.specs.declared.crowd.Crowd as code
-use Rattle.priority.specs.Numbers.{number_of}
+use Rattle.priority.specs.declared.choice.Left.{Left}
+use Rattle.priority.specs.declared.choice.Runs.{Runs}
 use Rattle.priority.specs.Crowds.{longest_of}
-use Rattle.priority.specs.Chosen.{fits_run, Ahead}
+use Rattle.priority.specs.Chosen.{time_at, active_time_at, rate_at, fits_run, Ahead}
+use Rattle.lines.specs.declared.next.Room.{Room}
 use Rattle.lines.specs.declared.next.Next.{Next}
-use Rattle.lines.specs.Next.{NextAt}
+use Rattle.lines.specs.Next.{runs_at, NextAt}
 use Rattle.lines.proofs.Rearranging.{each_among, among_kept, among_passes, PlaceOf}
-use Rattle.lines.proofs.Lefts.{left_at, Left}
+use Rattle.lines.proofs.Lefts.{left_at, crowd_in, AreLeft}
 
 -- Tests of members
 
@@ -55,12 +54,16 @@ picked_is :
 unfolding picked
 picked_is fits clock xs q left s z e f = rw (e, picked) (rw f)
 
-module _ {cap : Caps} {caps : LineCaps} {site clock : ℕ} {c : Charges} {line : ℕ} {left : List ℕ} {p : Profile} {rest : List Charge}
-    {q : code.Crowd} {from : ℕ} {next : Next} (own : Crowd) (loads : List Load) (h : Listed c) (on : IsLine line)
-    (shown : CapsShown caps site cap) (shows : Shows p clock loads) (are : Left c line left rest)
-    (r : NextAt p caps line c left q from next)
-    (number : next.crowd.number ≡ own.number) (total : next.crowd.total ≡ own.total)
+module _ {cap : Caps} {site clock : ℕ} {room : Room} {l : Left} {rest : List Charge} {from : ℕ} {next : Next} (loads : List Load)
+    (h : Listed l.charges.now) (shown : CapsShown room.caps.now site cap) (shows : Shows room.steps.now clock loads)
+    (are : AreLeft l.charges.now room.line l.places.now rest) (r : NextAt room l from next)
     (below : NoneBelow (fits_at site cap) clock loads rest from) (near : from ≤ max clock (last_until loads)) where
+  abbrev charge : ℕ → Charge
+  charge = left_at l.charges.now l.places.now
+
+  abbrev own : Crowd
+  own = crowd_in l.crowd
+
   abbrev s : ℕ
   s = next.start
 
@@ -71,75 +74,78 @@ module _ {cap : Caps} {caps : LineCaps} {site clock : ℕ} {c : Charges} {line :
   start_low = omega (arith, r.low, shows.starts)
 
   pub start_near : s ≤ max clock (last_until loads)
-  start_near = omega (arith, r.high, near, shows.ends (length p - 1) (omega (arith, shows.formed.some)))
+  start_near = omega (arith, r.high, near, shows.ends (length room.steps.now - 1) (omega (arith, shows.formed.some)))
+
+  abbrev runs : Runs
+  runs = runs_at room next.times s
 
   -- a charge fits exactly when it is no longer than the run
-  fits_same : (j : ℕ) → j < length left → fits s (left_at c left j) ≡ fits_run c left (run_of (room_under p caps line 1) (longest_of next.crowd.one) s) (run_of (room_under p caps line 2) (longest_of next.crowd.two) s) j
+  fits_same : (j : ℕ) → j < length l.places.now → fits s (charge j) ≡ fits_run l runs j
   fits_same j b =
       rw (are.on_line j b)
       (⊎_elim
-      (λ l.
-      let e : 1 ≡ number_of c.rates left j = omega (arith, (h.small (get_or left j 0) (are.inside j b)).is_rate.low) in
-      rw (← e) (run_shows on shows shown 1 (number_of c.active_times left j) (longest_of next.crowd.one) s start_low (r.bounds.one j b e)))
-      (λ l.
-      let e : 2 ≡ number_of c.rates left j = omega (arith, (h.small (get_or left j 0) (are.inside j b)).is_rate.high) in
-      rw (← e) (run_shows on shows shown 2 (number_of c.active_times left j) (longest_of next.crowd.two) s start_low (r.bounds.two j b e)))
-      (below_or_not (number_of c.rates left j) 2))
+      (λ x.
+      let e : 1 ≡ rate_at l j = omega (arith, (h.small (get_or l.places.now j 0) (are.inside j b)).is_rate.low) in
+      rw (← e) (run_shows room.on_line shows shown 1 (active_time_at l j) (longest_of next.times.one) s start_low (r.bounds.one j b e)))
+      (λ x.
+      let e : 2 ≡ rate_at l j = omega (arith, (h.small (get_or l.places.now j 0) (are.inside j b)).is_rate.high) in
+      rw (← e) (run_shows room.on_line shows shown 2 (active_time_at l j) (longest_of next.times.two) s start_low (r.bounds.two j b e)))
+      (below_or_not (rate_at l j) 2))
 
-  taken_fits : fits s (left_at c left next.place) ≡ true
-  taken_fits = fits_same next.place r.inside ∙ r.choice.fits
+  taken_fits : fits s (charge next.position) ≡ true
+  taken_fits = fits_same next.position r.inside ∙ r.choice.fits
 
   some_fits : some (fits s) rest ≡ true
-  some_fits = among_some (fits s) (are.to next.place r.inside) taken_fits
+  some_fits = among_some (fits s) (are.to next.position r.inside) taken_fits
 
   pub none_below : NoneBelow (fits_at site cap) clock loads rest s
   none_below u a b =
       ⊎_elim
-      (λ l. below u a l)
-      (λ l.
+      (λ k. below u a k)
+      (λ k.
       some-none (fits u) rest
       (each_among (λ x. fits u x ≡ false) rest
       (λ x m.
       let w = are.from x m in
       rw (w.is, are.on_line w.place w.inside)
-      (misses_fails on shows shown (number_of c.rates left w.place) (number_of c.active_times left w.place) u a
-      (r.none u l b w.place w.inside)))))
+      (misses_fails room.on_line shows shown (rate_at l w.place) (active_time_at l w.place) u a
+      (r.none u k b w.place w.inside)))))
       (below_or_not u from)
 
   first-is : first_fit (fits_at site cap) clock loads rest ≡ at s
   first-is = first_fit_is (fits_at site cap) clock loads rest s start_low start_near some_fits none_below
 
   abbrev W : ℕ → ℕ
-  W j = urgency own s (left_at c left j)
+  W j = urgency own s (charge j)
 
   abbrev T : ℕ → ℕ
-  T = number_of c.times left
+  T = time_at l
 
   -- what is ahead is taken before
   taken_ahead :
-      (j : ℕ) → j < length left → fits s (left_at c left j) ≡ true → (j ≡ next.place → ⊥)
-      → taken_before own s (left_at c left next.place) (left_at c left j) ≡ true
-  taken_ahead j b fit ne = go (rw (number, total) at (r.choice.ahead j b (sym (fits_same j b) ∙ fit) ne))
+      (j : ℕ) → j < length l.places.now → fits s (charge j) ≡ true → (j ≡ next.position → ⊥)
+      → taken_before own s (charge next.position) (charge j) ≡ true
+  taken_ahead j b fit ne = go (r.choice.ahead j b (sym (fits_same j b) ∙ fit) ne)
     where
       go :
-          Ahead W T next.place j
-          → taken_before own s (left_at c left next.place) (left_at c left j) ≡ true
-      go (inl l) = rw (lt-ltb (W j * T next.place) (W next.place * T j) l) refl
+          Ahead W T next.position j
+          → taken_before own s (charge next.position) (charge j) ≡ true
+      go (inl l) = rw (lt-ltb (W j * T next.position) (W next.position * T j) l) refl
       go (inr l) =
           rw (
-            le-ltb (W j * T next.place) (W next.place * T j) (omega (arith, l.0)),
-            eq-eqb (W next.place * T j) (W j * T next.place) (sym l.0),
-            are.sorted next.place j l.1 b,
+            le-ltb (W j * T next.position) (W next.position * T j) (omega (arith, l.0)),
+            eq-eqb (W next.position * T j) (W j * T next.position) (sym l.0),
+            are.sorted next.position j l.1 b,
           )
           refl
 
-  foremost_is : foremost (taken_before own s) (keep (fits s) rest) ≡ chosen (left_at c left next.place)
+  foremost_is : foremost (taken_before own s) (keep (fits s) rest) ≡ chosen (charge next.position)
   foremost_is = go (taken_some (taken_before own s) (fits s) rest some_fits)
     where
-      go : Taken (taken_before own s) (keep (fits s) rest) → foremost (taken_before own s) (keep (fits s) rest) ≡ chosen (left_at c left next.place)
-      go t = t.gives ∙ ap chosen (⊎_elim (λ e. w.is ∙ ap (left_at c left) e) other (same_or_not w.place next.place))
+      go : Taken (taken_before own s) (keep (fits s) rest) → foremost (taken_before own s) (keep (fits s) rest) ≡ chosen (charge next.position)
+      go t = t.gives ∙ ap chosen (⊎_elim (λ e. w.is ∙ ap charge e) other (same_or_not w.place next.position))
         where
-          w : PlaceOf (left_at c left) (length left) t.who
+          w : PlaceOf charge (length l.places.now) t.who
           w = are.from t.who (among_keep (fits s) t.who rest t.member)
 
           first : (1 ≤ t.who.time) × Each (λ d. taken_before own s d t.who ≡ false) (keep (fits s) rest)
@@ -148,17 +154,17 @@ module _ {cap : Caps} {caps : LineCaps} {site clock : ℕ} {c : Charges} {line :
               (each_among (λ x. 1 ≤ x.time) (keep (fits s) rest)
               (λ x m.
               let k = are.from x (among_keep (fits s) x rest m) in
-              rw k.is (h.small (get_or left k.place 0) (are.inside k.place k.inside)).time_low))
+              rw k.is (h.small (get_or l.places.now k.place 0) (are.inside k.place k.inside)).time_low))
               t.gives
 
-          other : (w.place ≡ next.place → ⊥) → t.who ≡ left_at c left next.place
+          other : (w.place ≡ next.position → ⊥) → t.who ≡ charge next.position
           other ne =
               absurd
               (true≢false
               (sym (taken_ahead w.place w.inside (subst (λ (y : Charge). fits s y ≡ true) w.is (among_passes (fits s) rest t.member)) ne)
-              ∙ subst (λ (y : Charge). taken_before own s (left_at c left next.place) y ≡ false) w.is
+              ∙ subst (λ (y : Charge). taken_before own s (charge next.position) y ≡ false) w.is
               (among_each (λ x. taken_before own s x t.who ≡ false)
-              (among_kept (fits s) (are.to next.place r.inside) taken_fits) first.1)))
+              (among_kept (fits s) (are.to next.position r.inside) taken_fits) first.1)))
 
-  pub next_picked : picked (fits_at site cap) clock loads own rest ≡ chosen (starting (left_at c left next.place) s)
-  next_picked = picked_is (fits_at site cap) clock loads own rest s (left_at c left next.place) first-is foremost_is
+  pub next_picked : picked (fits_at site cap) clock loads own rest ≡ chosen (starting (charge next.position) s)
+  next_picked = picked_is (fits_at site cap) clock loads own rest s (charge next.position) first-is foremost_is

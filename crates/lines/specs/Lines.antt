@@ -38,11 +38,11 @@ pub record Capped (site : ℕ) (c : Charges) (caps : LineCaps) : Type 0 where
   pub enough : (i : ℕ) → i < c.held → (l t : ℕ) → (charge_at c i).rate ≤ cap l t
 
 -- what a round asks: a profile with places for all steps, the waiting charges in their order, and caps
-pub record CanPlace (size : ℕ) (k : Task) (caps : LineCaps) : Type 0 where
+pub record CanPlace (size : ℕ) (k : Task) : Type 0 where
   pub ready : Ready k.beside k.charges.now
   pub space : Spacious k.beside size
   pub in_order : InOrder k.beside.clock k.charges.now k.queue.now
-  pub capped : Capped k.beside.limits.site k.charges.now caps
+  pub capped : Capped k.beside.limits.site k.charges.now k.caps.now
 
 -- how many charges are on the first l lines
 abbrev pub many_up_to : ℕ → List Charge → ℕ
@@ -58,6 +58,6 @@ pub record LinesDone (cap : Caps) (b : Beside) (c : Charges) (l : ℕ) (p : Prof
   pub later : (i : ℕ) → i < c.held → l < (charge_at c i).line → Missing (charge_at c i).ticket placed
 
 -- the same, whatever caps these are
-abbrev pub LinesUnder : LineCaps → Task → ℕ → Profile → List ℕ → Type 0
-LinesUnder caps k l p by_place =
-    (cap : Caps) → CapsShown caps k.beside.limits.site cap → LinesDone cap k.beside k.charges.now l p by_place
+abbrev pub LinesUnder : Task → ℕ → Profile → List ℕ → Type 0
+LinesUnder k l p by_place =
+    (cap : Caps) → CapsShown k.caps.now k.beside.limits.site cap → LinesDone cap k.beside k.charges.now l p by_place

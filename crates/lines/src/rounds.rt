@@ -13,20 +13,12 @@ use planner::Beside;
 use planner::cause::Cause;
 use planner::standing::add_standing;
 use planner::starts::waiting_starts;
-use profile::balance::{first_unbalanced, largest_line, level, smallest_line};
+use profile::balance::{first_unbalanced, largest_line, level};
 use profile::loads::Profile;
-use profile::steps::{Step, place};
+use profile::steps::Step;
 use queues::by_latest_start;
-use search::caps::LineCaps;
+use search::caps::{LineCaps, Lowering};
 use std::ops::ControlFlow;
-
-// From the minute on the cap of the line is no longer above this one.
-#[derive(Clone, Copy)]
-pub struct Lowering {
-    pub line: u32,
-    pub minute: u32,
-    pub cap: u32,
-}
 
 // A round ends the replan with what is proposed, or goes on with a line's cap that has to be lowered.
 type Round = ControlFlow<Result<Starts, Cause>, Lowering>;
@@ -38,41 +30,36 @@ pub struct Replanned {
     pub rounds: u32,
 }
 
-// What an unbalanced minute of the plan asks for: a lower cap for the line with the largest count, if a placed charge draws there, and
-// so the count is not that of what stands.
-fn unbalanced_in(plan: &[Step], standing: &[Step], minute: u32, bound: u32) -> Option<Lowering>
-    requires { Comparable plan.now standing.now minute bound }
-    ensures { result ≡ asked_in plan.now standing.now minute bound }
+// What the first minute of an unbalanced step asks for: a lower cap for the line with the largest count, if a placed charge draws there,
+// and so the count is not that of what stands.
+fn unbalanced_in(step: Step, standing: &[Step], bound: u32) -> Option<Lowering>
+    requires { Comparable step standing.now bound }
+    ensures { result ≡ asked_in step standing.now bound }
 {
-    let step = plan[place(plan, minute)];
     let line = largest_line(step);
-    if step.count(line) == level(standing, line, minute) {
+    let minute = step.minute;
+    let drawn = level(standing, line, minute);
+    if step.largest() == drawn {
         return None;
     }
-    let low = smallest_line(step);
-    let cap = step.count(low) + bound;
+    let cap = step.smallest() + bound;
     Some(Lowering { line, minute, cap })
 }
 
 // One round: every waiting charge placed under the caps beside what stands, and what the first unbalanced minute asks for. The plan's
 // profile is lent, since a new one would be cleared in each round.
-fn play<const N: usize>(
-    plan: &mut Profile<N>,
-    standing: &Profile<N>,
-    task: &Task<'_>,
-    caps: &LineCaps,
-) -> Round
-    requires { CanPlace N task.now caps.now × ShowsStanding task.now standing.now }
-    ensures { Plays task.now caps.now result }
+fn play<const N: usize>(plan: &mut Profile<N>, standing: &Profile<N>, task: &Task<'_>) -> Round
+    requires { CanPlace N task.now × ShowsStanding task.now standing.now }
+    ensures { Plays task.now result }
 {
     plan.copy(standing);
-    let by_place = place_lines(plan, task, caps);
+    let by_place = place_lines(plan, task);
     let bound = task.beside.limits.bound;
-    let Some(minute) = first_unbalanced(plan.steps(), bound) else {
+    let Some(step) = first_unbalanced(plan.steps(), bound) else {
         let starts = waiting_starts(task.charges, task.beside.clock, &by_place);
         return ControlFlow::Break(Ok(starts));
     };
-    match unbalanced_in(plan.steps(), standing.steps(), minute, bound) {
+    match unbalanced_in(step, standing.steps(), bound) {
         Some(lowering) => ControlFlow::Continue(lowering),
         // No placed charge is to blame.
         None => ControlFlow::Break(Err(Cause::NoStart)),
@@ -88,17 +75,18 @@ pub fn by_lines<const N: usize>(beside: Beside<'_>, charges: &Charges, allowance
     let mut plan = Profile::<N>::new(beside.clock);
     let mut standing = Profile::<N>::new(beside.clock);
     add_standing(&mut standing, beside, charges, beside.clock);
-    let task = Task {
-        beside,
-        charges,
-        queue: &queue,
-    };
     let mut caps = LineCaps::new(beside.limits);
     let most = allowance.max(1);
     for rounds in 1..=most {
-        match play(&mut plan, &standing, &task, &caps) {
+        let task = Task {
+            beside,
+            charges,
+            queue: &queue,
+            caps: &caps,
+        };
+        match play(&mut plan, &standing, &task) {
             ControlFlow::Break(proposed) => return Replanned { proposed, rounds },
-            ControlFlow::Continue(Lowering { line, minute, cap }) => caps.lower(line, minute, cap),
+            ControlFlow::Continue(lowering) => caps.lower(lowering),
         }
     }
     Replanned {

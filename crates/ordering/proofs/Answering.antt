@@ -1,54 +1,47 @@
--- What a preview answers is what the rules answer, and a commit that is refused is refused by it.
+-- What an order is granted is what the rules show for it; a commit of one that is not granted, or with another start shown, is refused.
 use mathlib.Core.Path.{◌≡◌, refl, ap, sym, ◌∙◌}
-use Prim.Native.Nat.{ℕ}
-use mathlib.Core.List.{[]}
-use Rattle.rules.specs.Basics.{at}
-use Rattle.rules.specs.Calls.{refused, previewed, Result, previewed_at, previewing, step}
-use Rattle.rules.proofs.Tables.{none_first_of}
-use Rattle.rules.proofs.Shown.{preview_shown, commit_refused, commit_other}
+use Prim.Native.Nat.{ℕ, ◌-◌}
+use mathlib.Core.Bool.{not}
+use mathlib.Core.List.{[], ◌∷◌}
+use native.Mathlib.Omega.{arith}
+use Rattle.rules.specs.Basics.{first_of}
+use Rattle.rules.specs.Calls.{refused, previewed, previewed_at, previewing, is_start, step}
+use Rattle.rules.proofs.Tables.{first_of_front}
+use Rattle.rules.proofs.Shown.{commit_other}
 use Rattle.refusals.specs.declared.Refusal.{Refusal}
 use Rattle.refusals.specs.Refusals.{number_of}
 use Rattle.station.specs.declared.Station.{Station}
 use Rattle.station.specs.View.{view, Valid}
 use Rattle.station.specs.Given.{Keeps, Gives}
-use Rattle.station.proofs.Refusing.{call_granted}
+use Rattle.station.proofs.Refusing.{call_granted, gives_refused, number_some}
 use Rattle.ordering.specs.declared.Order.{Order}
-use Rattle.ordering.specs.Ordered.{preview_of, commit_of, start_of, Unrefused}
+use Rattle.ordering.specs.declared.start.Grant.{Grant}
+use Rattle.ordering.specs.Ordered.{preview_of, commit_of, start_of}
+use Rattle.ordering.specs.Grants.{GrantedAt}
 use Rattle.ordering.proofs.Rows.{refusals_of}
 use Rattle.ordering.proofs.Seeking.{none_holds}
 
 -- a preview shows the start
-pub preview_found : {s : Station} {o : Order} {start : ℕ} → Unrefused s o → start_of s o ≡ at start → Keeps (step (view s) (preview_of o)) s (previewed start) []
+pub preview_found : {s : Station} {o : Order} {x : Grant} → GrantedAt s o x → Keeps (step (view s) (preview_of o)) s (previewed x.start) []
 unfolding previewing
-preview_found {s} {o} u e =
-    record { result = ap (previewed_at (view s)) (sym e) ∙ call_granted (view s) (preview_of o) 0 (sym u.none) refl }
+preview_found {s} {o} g =
+    record { result = ap (previewed_at (view s)) (sym g.found) ∙ call_granted (view s) (preview_of o) 0 (sym g.unrefused.none) refl }
 
--- A commit, by what a preview shows
+-- "Both meet the order's refusals": a commit is refused by the number that a preview is
+pub refused_so :
+    {s : Station} (o : Order) (v : Valid s) (shown : ℕ) (refusal : Refusal)
+    → number_of refusal ≡ first_of (refusals_of s o)
+    → Gives (step (view s) (commit_of o shown)) (refused (number_of refusal)) s []
+refused_so {s} o v shown refusal e =
+    let first = first_of_front (refusals_of s o) ((not (is_start (start_of s o) shown), 16) ∷ []) (number_of refusal - 1) (omega (arith, e, number_some refusal)) in
+    gives_refused s (commit_of o shown) refusal v (omega (arith, first, number_some refusal)) refl
 
-module _ {s : Station} (o : Order) (v : Valid s) where
-  -- a start that is shown says that nothing refuses the order
-  pub start_granted : {start : ℕ} → Keeps (step (view s) (preview_of o)) s (previewed start) [] → Unrefused s o × (start_of s o ≡ at start)
-  start_granted {start} told =
-      let granted = preview_shown (view s) o.feeder o.line o.time o.due o.rate start (ap (λ (r : Result). r.answer) told.result) in
-      (record { valid = v; none = none_first_of (refusals_of s o) granted.0 }, granted.1)
-
-  -- by the number of the preview's refusal
-  pub refused_so :
-      (shown : ℕ) (refusal : Refusal) → Keeps (step (view s) (preview_of o)) s (refused (number_of refusal)) []
-      → Gives (step (view s) (commit_of o shown)) (refused (number_of refusal)) s []
-  refused_so shown refusal told =
-      record {
-        result = sym (commit_refused (view s) o.feeder o.line o.time o.due o.rate (number_of refusal) shown v.state (ap (λ (r : Result). r.answer) told.result));
-        valid = v;
-      }
-
-  -- with 16 where another start was shown
-  pub refused_other :
-      {start : ℕ} (shown : ℕ) → Keeps (step (view s) (preview_of o)) s (previewed start) [] → (start ≡ shown → ⊥)
-      → Gives (step (view s) (commit_of o shown)) (refused 16) s []
-  refused_other {start} shown told other =
-      let granted = start_granted told in
-      record {
-        result = sym (commit_other (view s) o.feeder o.line o.time o.due o.rate (none_holds granted.0) start shown granted.1 other);
-        valid = v;
-      }
+-- with 16 where another start was shown
+pub refused_other :
+    {s : Station} {o : Order} {x : Grant} → GrantedAt s o x → (shown : ℕ) → (x.start ≡ shown → ⊥)
+    → Gives (step (view s) (commit_of o shown)) (refused 16) s []
+refused_other {s} {o} {x} g shown other =
+    record {
+      result = sym (commit_other (view s) o.feeder o.line o.time o.due o.rate (none_holds g.unrefused) x.start shown g.found other);
+      valid = g.unrefused.valid;
+    }

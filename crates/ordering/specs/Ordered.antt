@@ -1,5 +1,5 @@
 -- An order in the words of the rules, its refusals by numbers, and what is sought for it on its feeder.
-use Rattle.std.specs.Prelude.{ℕ, ◌+◌, ◌≡◌, Bool, ◌||◌, List, [], ◌∷◌, ltb, leb}
+use Rattle.std.specs.Prelude.{ℕ, ◌+◌, ◌≡◌, Bool, ◌||◌, List, [], ◌∷◌, ltb, leb, get_or}
 use Rattle.rules.specs.Basics.{Found, first_of}
 use Rattle.rules.specs.Site.{places}
 use Rattle.rules.specs.Calls.{Call, preview, commit, refusals, draw_for, start_for}
@@ -8,6 +8,17 @@ use Rattle.orders.specs.declared.sought.Sought.{Sought}
 use Rattle.station.specs.declared.Station.{Station}
 use Rattle.station.specs.View.{feeder_at, view, Valid, limits_for}
 use Rattle.ordering.specs.declared.Order.{Order}
+
+-- an order by its numbers: feeder, line, charging time, due minute and rate; those that are not given count as 0
+abbrev pub order_from : List ℕ → Order
+order_from given =
+    record {
+      feeder = get_or given 0 0;
+      line = get_or given 1 0;
+      time = get_or given 2 0;
+      due = get_or given 3 0;
+      rate = get_or given 4 0;
+    }
 
 abbrev pub preview_of : Order → Call
 preview_of o = preview o.feeder o.line o.time o.due o.rate

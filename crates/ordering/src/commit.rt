@@ -7,7 +7,7 @@ ghost use Rattle.ordering.specs.Ordered.{commit_of};
 ghost use Rattle.ordering.specs.Answers.{commit_answer};
 
 use crate::Order;
-use crate::start::preview;
+use crate::start::{Grant, granted};
 use charges::Charge;
 use refusals::Refusal;
 use station::Station;
@@ -24,13 +24,13 @@ pub fn commit(station: &mut Station, order: Order, shown: u32) -> Result<Committ
     requires { Valid station.old }
     ensures { Gives (step (view station.old) (commit_of order shown)) (commit_answer result) station.new [] }
 {
-    let start = preview(station, order)?;
+    let Grant { place, start } = granted(station, order)?;
     if start != shown {
         return Err(Refusal::StartChanged);
     }
     let ticket = station.next;
     let clock = station.clock;
-    let feeder = &mut station.feeders[order.feeder as usize - 1];
+    let feeder = &mut station.feeders[place];
     feeder.charges.push(Charge {
         ticket,
         line: order.line,

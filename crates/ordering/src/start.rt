@@ -5,6 +5,7 @@ ghost use Rattle.rules.specs.Calls.{step};
 ghost use Rattle.station.specs.View.{view, Valid};
 ghost use Rattle.station.specs.Given.{Keeps};
 ghost use Rattle.ordering.specs.Ordered.{sought_by, start_of, preview_of, Unrefused};
+ghost use Rattle.ordering.specs.Grants.{Grants};
 ghost use Rattle.ordering.specs.Answers.{preview_answer};
 
 use crate::Order;
@@ -16,7 +17,7 @@ use profile::{FEEDER_STEPS, STEPS};
 use refusals::Refusal;
 use station::Station;
 
-// Up to so many charges a feeder's profile is made in short lists, which take less to clear: a step for the clock, and two for each charge.
+// Up to so many charges a feeder's profile is a short list, which takes less to clear: a step for the clock, and two for each charge.
 const FEW: usize = 60;
 
 const FEW_STEPS: usize = 2 * FEW + 1;
@@ -63,18 +64,34 @@ fn start_beside_others(station: &Station, place: usize, order: Order) -> u32
     earliest_start::<STEPS>(sought(station, place, order), drawn.loads())
 }
 
-// The first refusal of an order, or its start.
-pub fn preview(station: &Station, order: Order) -> Result<u32, Refusal>
+// An order that nothing refuses: the place of its feeder, and its start.
+#[derive(Clone, Copy)]
+pub(crate) struct Grant {
+    pub(crate) place: usize,
+    pub(crate) start: u32,
+}
+
+// The first refusal of an order, or what a preview shows and a commit takes where nothing refuses it.
+pub(crate) fn granted(station: &Station, order: Order) -> Result<Grant, Refusal>
     requires { Valid station.now }
-    ensures { Keeps (step (view station.now) (preview_of order)) station.now (preview_answer result) [] }
+    ensures { Grants station.now order result }
 {
     let place = station.place_of(order.feeder)?;
     let feeder = &station.feeders[place];
     let limits = feeder.limits(station.site);
     order_refusal(limits, feeder.charges.held, station.next, order)?;
-    if station.count == 1 {
-        Ok(start_alone(station, order))
+    let start = if station.count == 1 {
+        start_alone(station, order)
     } else {
-        Ok(start_beside_others(station, place, order))
-    }
+        start_beside_others(station, place, order)
+    };
+    Ok(Grant { place, start })
+}
+
+// The first refusal of an order, or its start.
+pub fn preview(station: &Station, order: Order) -> Result<u32, Refusal>
+    requires { Valid station.now }
+    ensures { Keeps (step (view station.now) (preview_of order)) station.now (preview_answer result) [] }
+{
+    Ok(granted(station, order)?.start)
 }

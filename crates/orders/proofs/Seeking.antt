@@ -114,7 +114,7 @@ module _ {xs : List Load} {clock : ℕ} {y : Limits} {a : Draw} (f : OrderBeside
             high = omega (arith, most);
             here =
                 fits_sound (limits_beside y []) clock xs (draw_of a) r f.sound_on
-                (λ t c d. own r t (omega (arith, k.from, h.low)) c d (omega arith) ∙ h.fits b t c d);
+                (λ t c d. own r t (omega (arith, k.from, h.low)) c d (omega arith) ∙ h.passes b t c d);
             least = seeking_failed;
           })
 

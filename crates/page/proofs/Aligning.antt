@@ -9,8 +9,9 @@ use Rattle.std.proofs.lemmas.Fmt.{length-decimal-le}
 use Rattle.std.proofs.lemmas.List.{take-append-drop, take-replicate}
 use Rattle.text.specs.Numbers.{decimal}
 use Rattle.text.proofs.Values.{same_digits}
+use Rattle.rules.specs.Charge.{Charge}
 use Rattle.page.specs.Lines.{spaces, at_right, at_left, column}
-use Rattle.page.specs.Lined.{Fits}
+use Rattle.page.specs.Lined.{ChargeFits}
 
 -- spaces are what the library fills places with
 pub spaces_filled : (n : ℕ) → spaces n ≡ replicate n 32
@@ -51,16 +52,17 @@ right_put text width room start place h size written before =
 few_digits : (k n : ℕ) → n < 10 ^ suc k → n < 2 ^ 64 → length (decimal n) ≤ suc k
 few_digits k n h l = rw (← same_digits n l) (length-decimal-le (suc k) n (omega arith) h l)
 
--- the numbers of a row have no more digits than their columns have places
-module _ {ticket line start end : ℕ} (f : Fits ticket line start end) where
-  pub ticket_digits : length (decimal ticket) ≤ 6
-  ticket_digits = few_digits 5 ticket f.ticket_fits (omega (arith, f.ticket_fits))
+-- the numbers of a charge have no more digits than their columns have places
+module _ {c : Charge} (f : ChargeFits c) where
+  pub ticket_digits : length (decimal c.ticket) ≤ 6
+  ticket_digits = few_digits 5 c.ticket f.ticket_small (omega (arith, f.ticket_small))
 
-  pub line_digits : length (decimal line) ≤ 1
-  line_digits = few_digits 0 line f.line_fits (omega (arith, f.line_fits))
+  pub line_digits : length (decimal c.line) ≤ 1
+  line_digits = few_digits 0 c.line f.line_small (omega (arith, f.line_small))
 
-  pub start_digits : length (decimal start) ≤ 9
-  start_digits = few_digits 8 start f.start_fits (omega (arith, f.start_fits))
+  pub start_digits : length (decimal c.start) ≤ 9
+  start_digits = few_digits 8 c.start (omega (arith, f.start_small)) (omega (arith, f.start_small))
 
-  pub end_digits : length (decimal end) ≤ 9
-  end_digits = few_digits 8 end f.end_fits (omega (arith, f.end_fits))
+  -- whichever of the two times of the charge it counts
+  pub end_digits : (time : ℕ) → time ≤ 1445 → length (decimal (c.start + time)) ≤ 9
+  end_digits time h = few_digits 8 (c.start + time) (omega (arith, f.start_small, h)) (omega (arith, f.start_small, h))

@@ -12,7 +12,7 @@ use Rattle.rules.specs.Entry.{one_feeder, state_after}
 use Rattle.rules.specs.CasesAToL.{orders_e}
 use Rattle.text.specs.Numbers.{digits_within}
 use Rattle.std.specs.Str.{bytes_eq}
-use Rattle.page.specs.Lines.{row_of, blank}
+use Rattle.page.specs.Lines.{row, blank}
 use Rattle.page.specs.Pages.{texts, row_at, rows, page, page_count, pages, pages_of}
 use Rattle.page.specs.Cases.{station_e, cases_of_rows, case_e_lines}
 
@@ -21,7 +21,7 @@ each_same [] = true
 each_same (x ∷ xs) = bytes_eq x.0 x.1 && each_same xs
 
 pub rows_hold : each_same cases_of_rows ≡ true
-unfolding row_of digits_within
+unfolding row digits_within
 rows_hold = refl
 
 abbrev opened_e : State
@@ -33,7 +33,7 @@ e_reached = refl
 
 -- case e before the move: the heading, six rows, and 18 unused ones
 pub page_holds : bytes_eq (pages_of station_e) (case_e_lines ++ texts (λ i. blank) 18) ≡ true
-unfolding row_of digits_within texts row_at rows page page_count pages
+unfolding row digits_within texts row_at rows page page_count pages
 page_holds = refl
 
 -- held, and how many pages

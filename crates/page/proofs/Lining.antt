@@ -9,12 +9,11 @@ use Rattle.rules.specs.Basics.{Each}
 use Rattle.rules.specs.Charge.{Charge, end_of, is_begun}
 use Rattle.rules.proofs.Lists.{each_append}
 use Rattle.text.specs.Numbers.{decimal}
-use Rattle.page.specs.Lines.{at_left, column, columns, ticket_word, line_word, start_word, end_word, state_word, heading, state_of, row_of, row, blank, no_station_words, no_station}
+use Rattle.page.specs.Lines.{at_left, column, columns, ticket_word, line_word, start_word, end_word, state_word, heading, state_of, row, blank, no_station_words, no_station}
 use Rattle.page.specs.declared.row.TheConstants.{NO_STATION}
-use Rattle.page.specs.Lined.{Fits, ChargeFits, Character, Lined, no_line, one_more}
+use Rattle.page.specs.Lined.{ChargeFits, Character, Lined, no_line, one_more}
 use Rattle.page.proofs.Aligning.{length_column, length_left, ticket_digits, line_digits, start_digits, end_digits}
 use Rattle.page.proofs.Characters.{decimal_shown, column_shown, left_shown, characters}
-use Rattle.page.proofs.Paging.{row_fits}
 
 one_line : (line : List ℕ) → length line ≡ 37 → Each Character line → Lined 1 (line ++ (10 ∷ []))
 one_line line l c = one_more 0 line [] l c no_line
@@ -89,11 +88,10 @@ pub no_station_is : NO_STATION.now ≡ no_station
 no_station_is = refl
 
 pub row_lined : (clock : ℕ) (c : Charge) → ChargeFits c → Lined 1 (row clock c)
-unfolding row_of
+unfolding row
 row_lined clock c f =
-    let g : Fits c.ticket c.line c.start (end_of c) = row_fits f in
     line_lined (decimal c.ticket) (decimal c.line) (decimal c.start) (decimal (end_of c)) (state_of (is_begun clock c))
     (record {
-      long = (ticket_digits g, line_digits g, start_digits g, end_digits g, state_fits (is_begun clock c));
+      long = (ticket_digits f, line_digits f, start_digits f, end_digits f c.time (omega (arith, f.time_small)), state_fits (is_begun clock c));
       shown = (decimal_shown c.ticket, decimal_shown c.line, decimal_shown c.start, decimal_shown (end_of c), state_shown (is_begun clock c));
     })

@@ -1,21 +1,20 @@
 -- Texts one behind another: the rows of a page, and all pages.
 use mathlib.Core.Path.{◌≡◌, refl, sym, ap, ◌∙◌}
-use mathlib.Core.Bool.{Bool}
 use mathlib.Core.List.{List, [], ◌++◌, append_assoc, append-nil}
 use Prim.Native.Nat.{ℕ, ◌+◌, ◌*◌, ◌≤◌, ◌<◌}
 use native.Mathlib.Numerals.{add-one}
 use native.Mathlib.Omega.{arith}
 use lib.ListN.{length, get_or}
 use borrow.Author.Tests.{lt-ltb, le-ltb}
-use Rattle.rules.specs.Charge.{Charge, end_of, is_begun}
+use Rattle.rules.specs.Charge.{Charge}
 use Rattle.rules.specs.Basics.{Each}
 use Rattle.rules.proofs.Lists.{length_tabulate, get_d_tabulate, tabulate_each}
 use Rattle.charges.specs.declared.Charges.{Charges}
 use Rattle.charges.specs.Arrays.{charge_at, charges_of}
 use Rattle.layout.specs.Image.{no_charge}
-use Rattle.page.specs.Lines.{row_of, row, blank}
+use Rattle.page.specs.Lines.{row, blank}
 use Rattle.page.specs.Pages.{texts, row_at, rows, page, page_count, pages}
-use Rattle.page.specs.Lined.{Fits, ChargeFits}
+use Rattle.page.specs.Lined.{ChargeFits}
 
 pub texts_none : (f : ℕ → List ℕ) → texts f 0 ≡ []
 unfolding texts
@@ -45,20 +44,12 @@ module _ (clock : ℕ) (cs : List Charge) (q : ℕ) where
 
 -- the rows of charges in arrays
 module _ (clock : ℕ) (charges : Charges) (q : ℕ) where
-  pub row_of_lem :
-      {begun : Bool} {ticket line start end : ℕ}
-      → q < charges.held
-      → begun ≡ is_begun clock (charge_at charges q)
-      → ticket ≡ (charge_at charges q).ticket
-      → line ≡ (charge_at charges q).line
-      → start ≡ (charge_at charges q).start
-      → end ≡ end_of (charge_at charges q)
-      → row_of begun ticket line start end ≡ row_at clock (charges_of charges) q
-  row_of_lem h b t l s e =
+  pub row_placed : q < charges.held → row clock (charge_at charges q) ≡ row_at clock (charges_of charges) q
+  row_placed h =
       let n : length (charges_of charges) ≡ charges.held = length_tabulate (charge_at charges) charges.held 0 in
       let at_place : get_or (charges_of charges) q no_charge ≡ charge_at charges q =
       get_d_tabulate (charge_at charges) charges.held 0 q no_charge h ∙ ap (charge_at charges) (from_zero q) in
-      rw (b, t, l, s, e) (sym (row_held clock (charges_of charges) q (rw n h) ∙ ap (row clock) at_place))
+      sym (row_held clock (charges_of charges) q (rw n h) ∙ ap (row clock) at_place)
     where
       from_zero : (q : ℕ) → 0 + q ≡ q
       from_zero q = omega arith
@@ -68,15 +59,6 @@ module _ (clock : ℕ) (charges : Charges) (q : ℕ) where
 
 pub fits_at_lem : (charges : Charges) (q : ℕ) → Each ChargeFits (charges_of charges) → q < charges.held → ChargeFits (charge_at charges q)
 fits_at_lem charges q e h = tabulate_each ChargeFits (charge_at charges) charges.held 0 e q (omega arith) (omega arith)
-
-pub row_fits : {c : Charge} → ChargeFits c → Fits c.ticket c.line c.start (end_of c)
-row_fits f =
-    record {
-      ticket_fits = f.ticket_small;
-      line_fits = f.line_small;
-      start_fits = omega (arith, f.start_small);
-      end_fits = omega (arith, f.start_small, f.time_small);
-    }
 
 -- Pages
 

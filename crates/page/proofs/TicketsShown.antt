@@ -15,11 +15,10 @@ use Rattle.text.specs.declared.number.NumberError.{NumberError}
 use Rattle.text.specs.declared.number.NumberError.TheVariants.{NotANumber}
 use Rattle.std.specs.Prelude.{Result, Ok, Err}
 use Rattle.text.proofs.Values.{read_back}
-use Rattle.page.specs.Lines.{spaces, at_right, at_left, column, columns, heading, state_of, row_of, row, blank}
+use Rattle.page.specs.Lines.{spaces, at_right, at_left, column, columns, heading, state_of, row, blank}
 use Rattle.page.specs.Lined.{ChargeFits}
 use Rattle.page.proofs.Aligning.{length_right, ticket_digits}
 use Rattle.page.proofs.Characters.{digits_each}
-use Rattle.page.proofs.Paging.{row_fits}
 
 abbrev after_spaces : List ℕ → List ℕ
 after_spaces [] = []
@@ -48,11 +47,11 @@ first_column t l s e w h =
     front_column (at_right 6 t) (column 1 l ++ (column 9 s ++ (column 9 e ++ (at_left 8 w ++ (10 ∷ []))))) (length_right 6 t h)
 
 pub row_ticket : (clock : ℕ) (c : Charge) → ChargeFits c → ticket_in (row clock c) ≡ Ok c.ticket
-unfolding row_of
+unfolding row
 row_ticket clock c f =
     let d : List ℕ = decimal c.ticket in
     ap (λ (l : List ℕ). number_of (after_spaces l))
-    (first_column d (decimal c.line) (decimal c.start) (decimal (end_of c)) (state_of (is_begun clock c)) (ticket_digits (row_fits f)))
+    (first_column d (decimal c.line) (decimal c.start) (decimal (end_of c)) (state_of (is_begun clock c)) (ticket_digits f))
     ∙ ap number_of (spaces_passed (6 - length d) d ∙ no_spaces d (digits_high c.ticket))
     ∙ read_back c.ticket (omega (arith, f.ticket_small))
 

@@ -4,14 +4,7 @@ use Rattle.std.specs.Coded.{×_prop, Unit-prop, le_prop}
 use Rattle.rules.specs.Basics.{Each}
 use Rattle.rules.specs.Charge.{Charge}
 
--- the numbers of a row do not exceed their columns
-pub record Fits (ticket line start end : ℕ) : Type 0 where
-  pub ticket_fits : ticket < 1000000
-  pub line_fits : line < 10
-  pub start_fits : start < 1000000000
-  pub end_fits : end < 1000000000
-
--- nor would those of this charge: "No held time reaches 100,000,000."
+-- the numbers of this charge do not exceed their columns: "No held time reaches 100,000,000."
 pub record ChargeFits (c : Charge) : Type 0 where
   pub ticket_small : c.ticket < 1000000
   pub line_small : c.line < 10

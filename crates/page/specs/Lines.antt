@@ -47,12 +47,10 @@ abbrev pub state_of : Bool → List ℕ
 state_of begun =
     cond begun (99 ∷ 104 ∷ 97 ∷ 114 ∷ 103 ∷ 105 ∷ 110 ∷ 103 ∷ []) (119 ∷ 97 ∷ 105 ∷ 116 ∷ 105 ∷ 110 ∷ 103 ∷ [])
 
-unfoldable pub row_of : Bool → ℕ → ℕ → ℕ → ℕ → List ℕ
-row_of begun ticket line start end = columns (decimal ticket) (decimal line) (decimal start) (decimal end) (state_of begun)
-
 -- the row of a charge: "The end is s + p."
-abbrev pub row : ℕ → Charge → List ℕ
-row clock c = row_of (is_begun clock c) c.ticket c.line c.start (end_of c)
+unfoldable pub row : ℕ → Charge → List ℕ
+row clock c =
+    columns (decimal c.ticket) (decimal c.line) (decimal c.start) (decimal (end_of c)) (state_of (is_begun clock c))
 
 -- "unused rows are spaces"
 abbrev pub blank : List ℕ

@@ -8,7 +8,6 @@ ghost use Rattle.page.specs.Pages.{row_at, rows, page, page_count, pages};
 
 use crate::row::{BLANK, HEADING, print_row};
 use charges::Charges;
-use charges::ends::end_of;
 use text::Text;
 
 // A page has a heading and 24 rows of 38 bytes each, and 180 charges have 8 pages.
@@ -36,14 +35,10 @@ impl Listing<'_> {
         ensures printed { out.new ≡ out.old ++ row_at self.now.clock (charges_of self.now.charges.now) q }
         ensures value { length out.new ≡ length out.old + 38 }
     {
-        let charges = self.charges;
-        if charges.held <= q {
+        if self.charges.held <= q {
             out.print(BLANK);
         } else {
-            let start = charges.starts[q];
-            let end = end_of(start, charges.times[q]);
-            let begun = start < self.clock;
-            print_row(begun, charges.tickets[q], charges.lines[q], start, end, out);
+            print_row(self.charges.at(q), self.clock, out);
         }
     }
 

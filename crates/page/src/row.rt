@@ -1,9 +1,12 @@
 // Rows of 37 characters and a line feed, the heading among them.
 ghost use Rattle.std.specs.Prelude.{◌≡◌, ◌+◌, ◌≤◌, ◌++◌, length};
 ghost use Rattle.text.specs.Numbers.{decimal};
-ghost use Rattle.page.specs.Lines.{column, row_of};
-ghost use Rattle.page.specs.Lined.{Fits};
+ghost use Rattle.charges.specs.Arrays.{charge_of};
+ghost use Rattle.page.specs.Lines.{column, row};
+ghost use Rattle.page.specs.Lined.{ChargeFits};
 
+use charges::Charge;
+use charges::ends::end_of;
 use text::Text;
 
 // Lines that are always the same.
@@ -25,23 +28,17 @@ fn print_column<const N: usize>(n: u64, width: usize, out: &mut Text<N>)
     out.print(b" ");
 }
 
-pub fn print_row<const N: usize>(
-    begun: bool,
-    ticket: u32,
-    line: u32,
-    start: u32,
-    end: u64,
-    out: &mut Text<N>,
-)
-    requires { Fits ticket line start end × (length out.old + 38 ≤ N) }
-    ensures printed { out.new ≡ out.old ++ row_of begun ticket line start end }
+// The row of a charge at a clock. A start equal to the clock still waits.
+pub fn print_row<const N: usize>(charge: Charge, clock: u32, out: &mut Text<N>)
+    requires { ChargeFits (charge_of charge) × (length out.old + 38 ≤ N) }
+    ensures printed { out.new ≡ out.old ++ row clock (charge_of charge) }
     ensures value { length out.new ≡ length out.old + 38 }
 {
-    print_column(u64::from(ticket), 6, out);
-    print_column(u64::from(line), 1, out);
-    print_column(u64::from(start), 9, out);
-    print_column(end, 9, out);
-    if begun {
+    print_column(u64::from(charge.ticket), 6, out);
+    print_column(u64::from(charge.line), 1, out);
+    print_column(u64::from(charge.start), 9, out);
+    print_column(end_of(charge.start, charge.time), 9, out);
+    if charge.start < clock {
         out.print(b"charging\n");
     } else {
         out.print(b"waiting \n");

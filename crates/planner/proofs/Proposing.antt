@@ -7,6 +7,7 @@ use Rattle.rules.specs.Load.{Limits}
 use Rattle.rules.specs.Replan.{stuck, place_all, latest}
 use Rattle.charges.specs.declared.Charges.{Charges}
 use Rattle.charges.specs.Arrays.{charges_of}
+use Rattle.charges.specs.Starts.{Starts}
 use Rattle.profile.specs.Shows.{Profile}
 use Rattle.planner.specs.declared.cause.Cause.TheVariants.{NoStart}
 use Rattle.planner.specs.Starts.{WaitingStarts}
@@ -21,9 +22,9 @@ module _ (y : Limits) {clock : ℕ} {c : Charges} {q : List ℕ} (u : Queue cloc
   latest_none e = record { same = rw (← u.charges, e); many = tt }
 
   pub latest_starts :
-      {p : Profile} {by_place listed : List ℕ}
+      {p : Profile} {by_place : List ℕ} {listed : Starts}
       → AllPlaced (place_all (sound_in y clock c) [] (queue_from c q 0)) y clock c p by_place
-      → WaitingStarts clock c by_place listed
+      → WaitingStarts clock c by_place listed.items
       → Proposes clock c (latest y clock (charges_of c)) (Ok listed)
   unfolding latest
   latest_starts a w = record { same = rw (← u.charges, a.gives, w.gives a.placed a.plan.stored); many = w.many }

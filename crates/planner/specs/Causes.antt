@@ -1,5 +1,5 @@
 -- The causes for keeping the held plan, by their numbers.
-use Rattle.std.specs.Prelude.{ℕ, Option, Some, None, Result, Ok, Err}
+use Rattle.std.specs.Prelude.{ℕ, Result, Ok, Err}
 use Rattle.planner.specs.declared.cause.Cause.{Cause}
 use Rattle.planner.specs.declared.cause.Cause.TheVariants.{NoStart, AllowanceSpent, StartBelowClock, EndsLater, AboveLimit, AboveBound, LatenessNotSmaller}
 
@@ -11,11 +11,6 @@ number_of EndsLater = 4
 number_of AboveLimit = 5
 number_of AboveBound = 6
 number_of LatenessNotSmaller = 7
-
--- 0 for none
-abbrev pub cause_number : Option Cause → ℕ
-cause_number (Some cause) = number_of cause
-cause_number None = 0
 
 -- the number of the cause in an answer, 0 where there is none
 abbrev pub cause_in : {A : Type 0} → Result A Cause → ℕ

@@ -17,7 +17,7 @@ use charges::Charges;
 use charges::waiting::start_below;
 
 // The charges that are held where the plan is taken, or the cause for keeping the held one; and the lateness before and after.
-#[derive(Clone, Copy)]
+#[derive(Drop)]
 pub struct Judgement {
     pub taken: Result<Charges, Cause>,
     pub before: u64,
@@ -53,11 +53,10 @@ fn but_for_lateness<const N: usize>(
     soundness::<N>(beside, next)
 }
 
-// Cause 7 where no other applies, and the lateness is not smaller.
-fn or_late(kept: Result<(), Cause>, before: u64, after: u64) -> Result<(), Cause>
-    ensures { cause_in result ≡ or_late (cause_in kept) before after }
+// Cause 7 where the lateness is not smaller.
+fn less_late(before: u64, after: u64) -> Result<(), Cause>
+    ensures { cause_in result ≡ or_late 0 before after }
 {
-    kept?;
     if after < before {
         Ok(())
     } else {
@@ -74,7 +73,7 @@ pub fn judged<const N: usize>(beside: Beside<'_>, charges: &Charges, starts: &[u
     let before = charges.lateness();
     let after = next.lateness();
     let kept = but_for_lateness::<N>(beside, charges, &next, starts);
-    match or_late(kept, before, after) {
+    match kept.and(less_late(before, after)) {
         Ok(()) => Judgement {
             taken: Ok(next),
             before,

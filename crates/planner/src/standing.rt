@@ -1,5 +1,5 @@
-// The profile of what stands while a plan is made or tested: what the other feeders draw, and some of the charges held. It is filled in
-// its place, since a profile that is handed back is copied.
+// The profile with which a plan is made or tested: what the other feeders draw, and the begun ones of the charges held while it is made,
+// all of the proposed ones while it is tested. It is filled in its place, since a profile that is handed back is copied.
 ghost use Rattle.std.specs.Prelude.{[]};
 ghost use Rattle.rules.specs.Charge.{begun_charges, seen};
 ghost use Rattle.charges.specs.Arrays.{charges_of};

@@ -6,9 +6,9 @@ use charges::{Charges, PLACES};
 
 // The starts of the waiting charges, in ticket order, from those that stand at the charges' places.
 pub fn waiting_starts(charges: &Charges, clock: u32, by_place: &[u32; PLACES]) -> Starts
-    ensures { WaitingStarts clock charges.now by_place.now result }
+    ensures { WaitingStarts clock charges.now by_place.now result.items }
 {
-    let mut starts = Starts::none();
+    let mut starts = Starts::new();
     for place in charges.waiting_places(clock).as_slice() {
         starts.push(by_place[*place]);
     }

@@ -1,21 +1,26 @@
 -- What the planners ask, of a feeder of a valid station.
-use mathlib.Core.Path.{◌≡◌, refl, ap, ◌∙◌}
+use mathlib.Core.Path.{◌≡◌, ap, ◌∙◌}
 use Prim.Native.Nat.{ℕ, ◌<◌}
 use native.Mathlib.Omega.{arith}
 use Rattle.rules.specs.Site as rules
 use Rattle.rules.proofs.Rounding.{bound_at_most}
+use Rattle.charges.specs.Arrays.{Columns}
 use Rattle.planner.specs.declared.Beside.{Beside}
 use Rattle.planner.specs.Ready.{Ready}
-use Rattle.planner.specs.Starts.{waiting_count}
 use Rattle.station.specs.declared.Feeder.{Feeder}
 use Rattle.station.specs.declared.Station.{Station}
 use Rattle.station.specs.declared.surroundings.Surroundings.{Surroundings}
 use Rattle.station.specs.View.{feeder_at, Valid}
-use Rattle.station.specs.Beside.{Surrounds, Lends}
+use Rattle.station.specs.Beside.{BesideOf, Surrounds, Lends}
 use Rattle.station.proofs.Views.{view_number, read_at, feeder_read}
 use Rattle.station.proofs.Held.{valid_listed, held_settings, held_charge}
 use Rattle.station.proofs.Rests.{lent_beside}
-use Rattle.planning.specs.Answers.{CanTest}
+
+-- a plan of the feeder at the place can be tested beside this
+pub record CanTest (s : Station) (p : ℕ) (b : Beside) : Type 0 where
+  pub valid : Valid s
+  pub inside : p < s.count
+  pub beside : BesideOf s p b
 
 -- what is gathered of a valid station, and lent, is what a test takes
 pub can_test : {s : Station} {p : ℕ} {x : Surroundings} {lent b : Beside} → Valid s → p < s.count → Surrounds s p x → Lends x lent → b ≡ lent → CanTest s p b
@@ -34,9 +39,9 @@ module _ {s : Station} {p : ℕ} {b : Beside} (w : CanTest s p b) where
   pub own_read : (other : Feeder) → read_at s p other ≡ feeder_at s p
   own_read = feeder_read s w.valid.formed w.inside
 
-  -- as many charges wait for a planner as in the station
-  pub own_waiting : (other : Feeder) → waiting_count b.clock (read_at s p other).charges ≡ waiting_count s.clock (feeder_at s p).charges
-  own_waiting other = rw (w.beside.clock, own_read other) refl
+  -- the places behind its charges are 0
+  pub own_columns : (other : Feeder) → Columns (read_at s p other).charges
+  own_columns other = rw (own_read other) (w.valid.formed.columns p w.inside)
 
   -- a feeder that can be tested can be planned
   pub ready : (other : Feeder) → Ready b (read_at s p other).charges

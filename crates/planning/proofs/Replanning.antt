@@ -1,13 +1,15 @@
 -- The three calls where none is refused: what is proposed is what the rules test.
 use mathlib.Core.Path.{◌≡◌, refl, ap, sym, ◌∙◌}
-use Prim.Native.Nat.{ℕ, ◌+◌, ◌≤◌, ◌<◌}
+use Prim.Native.Nat.{ℕ, ◌+◌, ◌≤◌}
 use mathlib.Core.List.{List, []}
 use Rattle.std.specs.Prelude.{Result}
 use lib.ListN.{length}
 use Rattle.rules.specs.Replan.{Proposal, starts, latest, Replanned, by_lines}
 use Rattle.rules.specs.Site.{charges_on, limits_of}
 use Rattle.rules.specs.Calls.{tested, offering, replanning_latest, replanning_lines, offer, replan_latest, replan_lines, step}
+use Rattle.charges.specs.declared.Charges.{Charges}
 use Rattle.charges.specs.Arrays.{charges_of}
+use Rattle.charges.specs.Starts.{Starts}
 use Rattle.planner.specs.declared.Beside.{Beside}
 use Rattle.planner.specs.declared.cause.Cause.{Cause}
 use Rattle.planner.specs.Ready.{terms_of}
@@ -20,73 +22,63 @@ use Rattle.station.specs.declared.Station.{Station}
 use Rattle.station.specs.View.{view, feeder_at}
 use Rattle.station.specs.Given.{Gives}
 use Rattle.station.proofs.Views.{read_at}
-use Rattle.station.proofs.Refusing.{call_granted}
+use Rattle.station.proofs.Changed.{changed_at}
+use Rattle.station.proofs.Refusing.{call_granted, gives_by}
 use Rattle.planning.specs.declared.Planned.{Planned}
-use Rattle.planning.specs.Answers.{planned_of, CanTest, Tests}
-use Rattle.planning.proofs.Ready.{own_read}
-use Rattle.planning.proofs.Testing.{own}
+use Rattle.planning.specs.Answers.{planned_of, Tests}
+use Rattle.planning.proofs.Ready.{CanTest, own_read}
+use Rattle.planning.proofs.Testing.{own, left_formed, tests_give}
 use Rattle.planning.proofs.Refusals.{offer_granted, latest_granted, lines_granted}
 
 module _ {s : Station} {n p : ℕ} (names : n ≡ p + 1) where
   pub offer_tested :
-      {ss : List ℕ} {count rounds : ℕ} {answer : Planned} {next : Station}
-      → p < s.count
+      {b : Beside} (w : CanTest s p b) (other : Feeder) {ss : List ℕ} {count rounds : ℕ} {answer : Planned} {next : Charges}
       → count ≡ waiting_count s.clock (feeder_at s p).charges
       → length ss ≡ count
       → rounds ≡ 0
-      → Tests s (p + 1) rounds (starts ss) answer next
-      → Gives (step (view s) (offer n ss)) (planned_of answer) next ss
+      → Tests b (read_at s p other).charges rounds (starts ss) answer next
+      → Gives (step (view s) (offer n ss)) (planned_of answer) (changed_at s p other next s.next) ss
   unfolding offering
-  offer_tested {ss} h c l z t =
-      record {
-        result =
-            (t.gives ss).result
-            ∙ rw (z, ← names) (call_granted (view s) (offer n ss) 0 (offer_granted s names h ss c l) refl);
-        valid = (t.gives ss).valid;
-      }
+  offer_tested w other {ss} c l z t =
+      gives_by (offer n ss) w.valid (left_formed w other t)
+      (tests_give w other t ss ∙ rw (z, ← names) (call_granted (view s) (offer n ss) 0 (offer_granted s names w.inside ss c l) refl))
 
   -- Both replans
 
   module _
-      {b : Beside} (w : CanTest s p b) {r : Result (List ℕ) Cause} {rounds : ℕ} {answer : Planned} {next : Station}
-      (t : Tests s (p + 1) rounds (proposal_of r) answer next)
+      {b : Beside} (w : CanTest s p b) (other : Feeder) {r : Result Starts Cause} {rounds : ℕ} {answer : Planned} {next : Charges}
+      (t : Tests b (read_at s p other).charges rounds (proposal_of r) answer next)
     where
       pub latest_tested :
-          (other : Feeder) {q : Proposal} {made : Result (List ℕ) Cause}
+          {q : Proposal} {made : Result Starts Cause}
           → Proposes b.clock (read_at s p other).charges q made
           → q ≡ latest (terms_of b) b.clock (charges_of (read_at s p other).charges)
           → r ≡ made
           → rounds ≡ 0
-          → Gives (step (view s) (replan_latest n)) (planned_of answer) next []
+          → Gives (step (view s) (replan_latest n)) (planned_of answer) (changed_at s p other next s.next) []
       unfolding replanning_latest
-      latest_tested other e h m z =
+      latest_tested e h m z =
           let same : proposal_of r ≡ latest (limits_of (view s) n) s.clock (charges_on (view s) n) =
           rw (m, ← w.beside.clock) (rw (own_read w other) at (sym e.same ∙ h) ∙ rw (w.beside.terms, names, own w) refl) in
-          record {
-            result =
-                (t.gives []).result
-                ∙ ap (λ (q : Proposal). tested (view s) (p + 1) rounds q []) same
-                ∙ rw (z, ← names) (call_granted (view s) (replan_latest n) 0 (latest_granted s names w.inside) refl);
-            valid = (t.gives []).valid;
-          }
+          gives_by (replan_latest n) w.valid (left_formed w other t)
+          (tests_give w other t []
+          ∙ ap (λ (q : Proposal). tested (view s) (p + 1) rounds q []) same
+          ∙ rw (z, ← names) (call_granted (view s) (replan_latest n) 0 (latest_granted s names w.inside) refl))
 
       pub lines_tested :
-          {q : Replanned} {made : Lined} (allowance : ℕ) (other : Feeder)
+          {q : Replanned} {made : Lined} (allowance : ℕ)
           → Replans b.clock (read_at s p other).charges q made
           → q ≡ by_lines (terms_of b) b.clock allowance (charges_of (read_at s p other).charges)
           → r ≡ made.proposed
           → rounds ≡ made.rounds
           → 1 ≤ allowance
           → allowance ≤ 1000
-          → Gives (step (view s) (replan_lines n allowance)) (planned_of answer) next []
+          → Gives (step (view s) (replan_lines n allowance)) (planned_of answer) (changed_at s p other next s.next) []
       unfolding replanning_lines
-      lines_tested allowance other e h m z low high =
+      lines_tested allowance e h m z low high =
           let same : record { proposal = proposal_of r; rounds = rounds } ≡ by_lines (limits_of (view s) n) s.clock allowance (charges_on (view s) n) =
           rw (m, z, ← w.beside.clock) (rw (own_read w other) at (sym e.same ∙ h) ∙ rw (w.beside.terms, names, own w) refl) in
-          record {
-            result =
-                (t.gives []).result
-                ∙ ap (λ (x : Replanned). tested (view s) (p + 1) x.rounds x.proposal []) same
-                ∙ rw (← names) (call_granted (view s) (replan_lines n allowance) 0 (lines_granted s names w.inside allowance low high) refl);
-            valid = (t.gives []).valid;
-          }
+          gives_by (replan_lines n allowance) w.valid (left_formed w other t)
+          (tests_give w other t []
+          ∙ ap (λ (x : Replanned). tested (view s) (p + 1) x.rounds x.proposal []) same
+          ∙ rw (← names) (call_granted (view s) (replan_lines n allowance) 0 (lines_granted s names w.inside allowance low high) refl))

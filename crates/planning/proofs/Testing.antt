@@ -1,34 +1,33 @@
--- The test that all three end with: its answer, and the station that it leaves.
+-- The test that all three end with: what it makes of the charges of a feeder, it makes of the station.
 use mathlib.Core.Path.{◌≡◌, refl, ap, sym, subst, ◌∙◌}
 use Prim.Native.Nat.{ℕ, zero, suc, ◌+◌, ◌<◌}
 use mathlib.Core.List.{List}
-use Rattle.std.specs.Prelude.{Result, Ok, Err, Some, None}
+use Rattle.std.specs.Prelude.{Result, Ok, Err}
 use native.Mathlib.Omega.{arith}
+use Rattle.std.proofs.lemmas.List.{set-get_or}
 use Rattle.rules.specs.Charge.{lateness}
 use Rattle.rules.specs.Site as rules
 use Rattle.rules.specs.Site.{charges_on, limits_of, holding}
-use Rattle.rules.specs.Replan.{starts}
+use Rattle.rules.specs.Replan.{Proposal, starts, none}
 use Rattle.rules.specs.Judgement.{restarted, judged}
-use Rattle.rules.specs.Calls.{planned, kept, decided}
-use Rattle.rules.specs.Valid.{ValidState}
-use Rattle.rules.proofs.Judgements.{judged_meets}
-use Rattle.rules.proofs.Restarts.{plan_valid}
+use Rattle.rules.specs.Calls.{planned, kept, decided, tested}
 use Rattle.charges.specs.declared.Charges.{Charges}
-use Rattle.charges.specs.Arrays.{charges_of, Holds}
+use Rattle.charges.specs.Arrays.{charges_of, Columns}
 use Rattle.planner.specs.declared.Beside.{Beside}
 use Rattle.planner.specs.declared.cause.Cause.{Cause}
 use Rattle.planner.specs.declared.cause.Cause.TheVariants.{NoStart, AllowanceSpent, StartBelowClock, EndsLater, AboveLimit, AboveBound, LatenessNotSmaller}
 use Rattle.planner.specs.declared.judge.Judgement.{Judgement}
 use Rattle.planner.specs.Causes.{number_of, cause_in}
-use Rattle.planner.specs.Answers.{proposal_of}
 use Rattle.planner.specs.Judged.{TakenAs, held_after, Judges}
 use Rattle.station.specs.declared.Feeder.{Feeder}
 use Rattle.station.specs.declared.Station.{Station}
-use Rattle.station.specs.View.{feeder_at, view}
-use Rattle.station.proofs.Views.{view_number, is_feeder_lem}
-use Rattle.station.proofs.Changed.{changed_at, changed_view, changed_formed}
+use Rattle.station.specs.View.{feeder_at, view, Formed}
 use Rattle.station.proofs.Refusing.{giving}
-use Rattle.planning.specs.Answers.{CanTest, Tests}
+use Rattle.station.proofs.Views.{view_number, read_at}
+use Rattle.station.proofs.Changed.{changed_at, changed_view, changed_formed}
+use Rattle.planning.specs.declared.Planned.{Planned}
+use Rattle.planning.specs.Answers.{planned_of, cause_by, LeftBy, Tests}
+use Rattle.planning.proofs.Ready.{CanTest, own_read}
 
 -- a cause has a number, which keeps the held plan
 number_low : (k : Cause) → 0 < number_of k
@@ -45,74 +44,83 @@ kept_decided :
 kept_decided s f rounds ss list zero h = absurd (omega arith)
 kept_decided s f rounds ss list (suc k) h = refl
 
+-- Of the charges that are judged
+
+module _ {b beside : Beside} {held : Charges} {ss : List ℕ} {j : Judgement} (same : beside ≡ b) (e : Judges beside held ss j) where
+  -- they are those of the judgement where it has no cause
+  pub judged_taken :
+      {c next : Charges} {rounds before after : ℕ} → j.taken ≡ Ok c → next ≡ c → before ≡ j.before → after ≡ j.after →
+      Tests b held rounds (starts ss) (record { taken = Ok tt; before = before; after = after; rounds = rounds }) next
+  judged_taken is put x y =
+      record {
+        cause = rw (← same) (e.cause ∙ ap cause_in is);
+        before = e.before ∙ sym x;
+        after = ap (λ c. lateness (charges_of c)) put ∙ sym (ap (λ (t : Result Charges Cause). lateness (charges_of (held_after held t))) is) ∙ e.after ∙ sym y;
+        made = refl;
+        left = rw (put, ← same) (subst (TakenAs beside.clock held ss) is e.held);
+      }
+
+  -- and stay with its cause
+  pub judged_kept :
+      {k : Cause} {rounds before after : ℕ} → j.taken ≡ Err k → before ≡ j.before → after ≡ j.after →
+      Tests b held rounds (starts ss) (record { taken = Err k; before = before; after = after; rounds = rounds }) held
+  judged_kept is x y =
+      record {
+        cause = rw (← same) (e.cause ∙ ap cause_in is);
+        before = e.before ∙ sym x;
+        after = sym (ap (λ (t : Result Charges Cause). lateness (charges_of (held_after held t))) is) ∙ e.after ∙ sym y;
+        made = refl;
+        left = refl;
+      }
+
 module _ {s : Station} {p : ℕ} {b : Beside} (w : CanTest s p b) where
   pub own : charges_on (view s) (p + 1) ≡ charges_of (feeder_at s p).charges
   own = ap (λ (g : rules.Feeder). g.charges) (view_number s p w.inside)
 
-  kept_result :
-      (cause rounds : ℕ) {before after : ℕ} (list : List ℕ) → before ≡ lateness (charges_of (feeder_at s p).charges) → after ≡ before →
-      giving (planned cause before after rounds) (view s) list ≡ kept (view s) (p + 1) cause rounds list
-  kept_result cause rounds list e a = rw (a, e, own) refl
+  -- the rules' cause is that of the plan beside what stands in the station
+  cause_is : (ss : List ℕ) → judged (limits_of (view s) (p + 1)) s.clock (charges_on (view s) (p + 1)) ss ≡ cause_by b (feeder_at s p).charges (starts ss)
+  cause_is ss = rw (own, ← w.beside.terms, ← w.beside.clock) refl
 
-  -- a replan without a list keeps the held plan
-  pub none_tests :
-      {k : Cause} {r : Result (List ℕ) Cause} {rounds before after : ℕ} → r ≡ Err k → before ≡ lateness (charges_of (feeder_at s p).charges) → after ≡ before →
-      Tests s (p + 1) rounds (proposal_of r) (record { cause = Some k; before = before; after = after; rounds = rounds }) s
-  none_tests {k} {rounds = rounds} is e a = record { gives = λ list. record { result = rw is (kept_result (number_of k) rounds list e a); valid = w.valid } }
+  -- The test of the charges is the rules' test of the station
 
-  module _ {ss : List ℕ} {j : Judgement} {beside : Beside} (same : beside ≡ b) (e : Judges beside (feeder_at s p).charges ss j) where
-    cause_is : judged (limits_of (view s) (p + 1)) s.clock (charges_on (view s) (p + 1)) ss ≡ cause_in j.taken
-    cause_is = rw (own, ← w.beside.terms, ← w.beside.clock, ← same) e.cause
+  module _ (other : Feeder) {q : Proposal} {rounds : ℕ} {answer : Planned} {next : Charges} (t : Tests b (read_at s p other).charges rounds q answer next) where
+    abbrev left : Station
+    left = changed_at s p other next s.next
 
-    -- the cause of a judgement keeps it
-    pub kept_tests :
-        {k : Cause} {rounds before after : ℕ} → j.taken ≡ Err k → before ≡ j.before → after ≡ j.after →
-        Tests s (p + 1) rounds (starts ss) (record { cause = Some k; before = before; after = after; rounds = rounds }) s
-    kept_tests {k} {rounds} is x y =
-        let late : j.after ≡ j.before =
-        sym e.after ∙ ap (λ (t : Result Charges Cause). lateness (charges_of (held_after (feeder_at s p).charges t))) is ∙ e.before in
-        record {
-          gives = λ list. record {
-            result =
-                kept_result (number_of k) rounds list (x ∙ sym e.before) (y ∙ late ∙ sym x)
-                ∙ sym (ap (decided (view s) (p + 1) rounds ss list) (cause_is ∙ ap cause_in is) ∙ kept_decided (view s) (p + 1) rounds ss list (number_of k) (number_low k));
-            valid = w.valid;
-          };
-        }
+    t_own : Tests b (feeder_at s p).charges rounds q answer next
+    t_own = rw (own_read w other) at t
 
-    -- its charges are held where it has no cause
-    module _ {c : Charges} (is : j.taken ≡ Ok c) (other : Feeder) where
-      none_is : judged (limits_of (view s) (p + 1)) s.clock (charges_on (view s) (p + 1)) ss ≡ 0
-      none_is = cause_is ∙ ap cause_in is
+    -- the charges that are left have their form
+    pub left_formed : Formed left
+    left_formed = changed_formed s w.valid.formed p other next s.next w.inside (columns q answer.taken t_own.left)
+      where
+        columns : (q : Proposal) (r : Result (Unit {0}) Cause) → LeftBy b.clock (feeder_at s p).charges q r next → Columns next
+        columns (starts ss) (Ok done) h = h.columns
+        columns (none cause) (Ok done) h = absurd h
+        columns q (Err k) h = rw h (w.valid.formed.columns p w.inside)
 
-      next : Holds (restarted s.clock (charges_on (view s) (p + 1)) ss) c
-      next =
-          rw own
-          (subst (λ (t : Result Charges Cause). TakenAs s.clock (feeder_at s p).charges ss t) is
-          (subst (λ (k : ℕ). TakenAs k (feeder_at s p).charges ss j.taken) (ap (λ (x : Beside). x.clock) same ∙ w.beside.clock) e.held))
+    pub tests_give : (list : List ℕ) → giving (planned_of answer) (view left) list ≡ tested (view s) (p + 1) rounds q list
+    tests_give list = rw (sym t_own.made, sym t_own.before, sym t_own.after) (go q answer.taken t_own.cause (rw w.beside.clock at t_own.left))
+      where
+        -- with the same charges the station is what it was
+        kept_gives :
+            (k : ℕ) → next ≡ (feeder_at s p).charges
+            → giving (planned k (lateness (charges_of (feeder_at s p).charges)) (lateness (charges_of next)) rounds) (view left) list ≡ kept (view s) (p + 1) k rounds list
+        kept_gives k e =
+            let same : left ≡ s =
+            rw (e, ← own_read w other) (ap (λ fs. record { count = s.count; site = s.site; clock = s.clock; next = s.next; feeders = fs }) (set-get_or s.feeders p other)) in
+            ap (λ t. giving (planned k (lateness (charges_of (feeder_at s p).charges)) (lateness (charges_of next)) rounds) (view t) list) same ∙ rw (e, own) refl
 
-      taken_view : view (changed_at s p other c s.next) ≡ holding (view s) (p + 1) (restarted s.clock (charges_on (view s) (p + 1)) ss) s.next
-      taken_view = changed_view s w.valid.formed p other c s.next w.inside ∙ ap (λ cs. holding (view s) (p + 1) cs s.next) next.charges
-
-      pub taken_tests :
-          {held : Charges} {rounds before after : ℕ} → held ≡ c → before ≡ j.before → after ≡ j.after →
-          Tests s (p + 1) rounds (starts ss) (record { cause = None; before = before; after = after; rounds = rounds }) (changed_at s p other held s.next)
-      taken_tests {held} {rounds} put x y =
-          let then : j.after ≡ lateness (charges_of c) =
-          sym e.after ∙ ap (λ (t : Result Charges Cause). lateness (charges_of (held_after (feeder_at s p).charges t))) is in
-          record {
-            gives = λ list.
-                record {
-                  result =
-                      rw (put, taken_view, x ∙ sym e.before ∙ ap lateness (sym own), y ∙ then ∙ ap lateness next.charges)
-                      (sym (ap (decided (view s) (p + 1) rounds ss list) none_is));
-                  valid =
-                      rw put
-                      (record {
-                        formed = changed_formed s w.valid.formed p other c s.next w.inside next.columns;
-                        state = subst ValidState (sym taken_view)
-                            (plan_valid (view s) (p + 1) ss w.valid.state (is_feeder_lem s p w.inside)
-                            (judged_meets (limits_of (view s) (p + 1)) s.clock (charges_on (view s) (p + 1)) ss none_is));
-                      });
-                };
-          }
+        go :
+            (q : Proposal) (r : Result (Unit {0}) Cause)
+            → cause_by b (feeder_at s p).charges q ≡ cause_in r
+            → LeftBy s.clock (feeder_at s p).charges q r next
+            → giving (planned (cause_in r) (lateness (charges_of (feeder_at s p).charges)) (lateness (charges_of next)) rounds) (view left) list
+            ≡ tested (view s) (p + 1) rounds q list
+        go (starts ss) (Ok done) e h =
+            let next_is : charges_of next ≡ restarted s.clock (charges_on (view s) (p + 1)) ss = rw own h.charges in
+            rw (cause_is ss ∙ e) (rw (changed_view s w.valid.formed p other next s.next w.inside, next_is, ap lateness (sym own)) refl)
+        go (starts ss) (Err k) e h =
+            rw (cause_is ss ∙ e, kept_decided (view s) (p + 1) rounds ss list (number_of k) (number_low k)) (kept_gives (number_of k) h)
+        go (none cause) (Ok done) e h = absurd h
+        go (none cause) (Err k) e h = rw e (kept_gives (number_of k) h)

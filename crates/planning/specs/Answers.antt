@@ -1,30 +1,45 @@
 -- What an offer and both replans answer, and the test that they end with.
-use Rattle.std.specs.Prelude.{ℕ, ◌<◌, List, Result}
-use Rattle.rules.specs.Replan.{Proposal}
-use Rattle.rules.specs.Calls.{Answer, planned, tested}
+use Rattle.std.specs.Prelude.{◌≡◌, ℕ, Result, Ok, Err}
+use Rattle.rules.specs.Charge.{lateness}
+use Rattle.rules.specs.Judgement.{restarted, judged}
+use Rattle.rules.specs.Replan.{Proposal, starts, none}
+use Rattle.rules.specs.Calls.{Answer, planned}
 use Rattle.refusals.specs.declared.Refusal.{Refusal}
 use Rattle.refusals.specs.Refusals.{answer_by}
+use Rattle.charges.specs.declared.Charges.{Charges}
+use Rattle.charges.specs.Arrays.{charges_of, Holds}
 use Rattle.planner.specs.declared.Beside.{Beside}
-use Rattle.planner.specs.Causes.{cause_number}
-use Rattle.station.specs.declared.Station.{Station}
-use Rattle.station.specs.View.{view, Valid}
-use Rattle.station.specs.Given.{Gives}
-use Rattle.station.specs.Beside.{BesideOf}
+use Rattle.planner.specs.declared.cause.Cause.{Cause}
+use Rattle.planner.specs.Causes.{cause_in}
+use Rattle.planner.specs.Ready.{terms_of}
 use Rattle.planning.specs.declared.Planned.{Planned}
 
 -- "cause, lateness before and after, rounds used"
 abbrev pub planned_of : Planned → Answer
-planned_of p = planned (cause_number p.cause) p.before p.after p.rounds
+planned_of p = planned (cause_in p.taken) p.before p.after p.rounds
 
 abbrev pub plan_answer : Result Planned Refusal → Answer
 plan_answer = answer_by planned_of
 
--- the test takes a plan of the feeder at the place beside this
-pub record CanTest (s : Station) (p : ℕ) (b : Beside) : Type 0 where
-  pub valid : Valid s
-  pub inside : p < s.count
-  pub beside : BesideOf s p b
+-- the cause for keeping the held charges against what is proposed
+abbrev pub cause_by : Beside → Charges → Proposal → ℕ
+cause_by b held (starts ss) = judged (terms_of b) b.clock (charges_of held) ss
+cause_by b held (none cause) = cause
 
--- "All three end with the same test": this is what it makes of a proposal for feeder f, whatever list is lent.
-pub record Tests (s : Station) (f rounds : ℕ) (p : Proposal) (answer : Planned) (next : Station) : Type 0 where
-  pub gives : (list : List ℕ) → Gives (tested (view s) f rounds p list) (planned_of answer) next list
+-- "the waiting charges get these starts": without starts nothing is taken
+abbrev pub Restarts : ℕ → Charges → Proposal → Charges → Type 0
+Restarts clock held (starts ss) next = Holds (restarted clock (charges_of held) ss) next
+Restarts clock held (none cause) next = ⊥
+
+-- "Otherwise the station is unchanged."
+abbrev pub LeftBy : ℕ → Charges → Proposal → Result (Unit {0}) Cause → Charges → Type 0
+LeftBy clock held p (Ok done) next = Restarts clock held p next
+LeftBy clock held p (Err cause) next = next ≡ held
+
+-- "All three end with the same test": this is what it makes of a proposal for the charges of a feeder.
+pub record Tests (b : Beside) (held : Charges) (rounds : ℕ) (p : Proposal) (answer : Planned) (next : Charges) : Type 0 where
+  pub cause : cause_by b held p ≡ cause_in answer.taken
+  pub before : lateness (charges_of held) ≡ answer.before
+  pub after : lateness (charges_of next) ≡ answer.after
+  pub made : rounds ≡ answer.rounds
+  pub left : LeftBy b.clock held p answer.taken next

@@ -20,5 +20,6 @@ pub fn offer(station: &mut Station, number: u32, starts: &[u32]) -> Result<Plann
     }
     let surroundings = station.surroundings(place);
     let beside = surroundings.lent();
-    Ok(tested(station, place, beside, starts, 0))
+    let charges = &mut station.feeders[place].charges;
+    Ok(tested(charges, beside, starts, 0))
 }

@@ -19,8 +19,9 @@ pub fn replan_latest(station: &mut Station, number: u32) -> Result<Planned, Refu
     let place = station.place_of(number)?;
     let surroundings = station.surroundings(place);
     let beside = surroundings.lent();
-    let proposed = latest(beside, &station.feeders[place].charges);
-    Ok(replanned(station, place, beside, proposed, 0))
+    let charges = &mut station.feeders[place].charges;
+    let proposed = latest(beside, charges);
+    Ok(replanned(charges, beside, proposed, 0))
 }
 
 pub fn replan_lines(station: &mut Station, number: u32, allowance: u32) -> Result<Planned, Refusal>
@@ -33,6 +34,7 @@ pub fn replan_lines(station: &mut Station, number: u32, allowance: u32) -> Resul
     }
     let surroundings = station.surroundings(place);
     let beside = surroundings.lent();
-    let made = by_lines(beside, &station.feeders[place].charges, allowance);
-    Ok(replanned(station, place, beside, made.proposed, made.rounds))
+    let charges = &mut station.feeders[place].charges;
+    let made = by_lines(beside, charges, allowance);
+    Ok(replanned(charges, beside, made.proposed, made.rounds))
 }

@@ -1,40 +1,39 @@
 // The test that an offer and both replans end with.
 ghost use Rattle.std.specs.Prelude.{◌≡◌, ◌+◌, length};
 ghost use Rattle.rules.specs.Replan.{starts as starts_of};
+ghost use Rattle.charges.specs.Arrays.{Columns};
+ghost use Rattle.charges.specs.Held.{Listed};
 ghost use Rattle.planner.specs.Starts.{waiting_count};
 ghost use Rattle.planner.specs.Answers.{ForEach, proposal_of};
-ghost use Rattle.station.specs.View.{feeder_at};
-ghost use Rattle.planning.specs.Answers.{CanTest, Tests};
+ghost use Rattle.planning.specs.Answers.{Tests};
 
 use crate::Planned;
+use charges::Charges;
 use charges::starts::Starts;
 use planner::Beside;
 use planner::cause::Cause;
 use plans::judged;
-use station::Station;
 
-// With no cause the waiting charges of the feeder at the place get these starts. Otherwise the station is unchanged.
-pub fn tested(
-    station: &mut Station,
-    place: usize,
+// With no cause the waiting charges of a feeder get these starts. Otherwise its charges are unchanged.
+pub(crate) fn tested(
+    charges: &mut Charges,
     beside: Beside<'_>,
     starts: &[u32],
     rounds: u32,
 ) -> Planned
-    requires { CanTest station.old place beside × (length starts.now ≡ waiting_count station.old.clock (feeder_at station.old place).charges) }
-    ensures { Tests station.old (place + 1) rounds (starts_of starts.now) result station.new }
+    requires { Columns charges.old × Listed charges.old × (length starts.now ≡ waiting_count beside.clock charges.old) }
+    ensures { Tests beside.entry charges.old rounds (starts_of starts.now) result charges.new }
 {
-    let feeder = &mut station.feeders[place];
-    let judgement = judged(beside, &feeder.charges, starts);
-    let cause = match judgement.taken {
-        Ok(charges) => {
-            feeder.charges = charges;
-            None
+    let judgement = judged(beside, charges, starts);
+    let taken = match judgement.taken {
+        Ok(next) => {
+            *charges = next;
+            Ok(())
         }
-        Err(cause) => Some(cause),
+        Err(cause) => Err(cause),
     };
     Planned {
-        cause,
+        taken,
         before: judgement.before,
         after: judgement.after,
         rounds,
@@ -43,21 +42,20 @@ pub fn tested(
 
 // What a replan proposes meets the test, or its cause keeps the held plan.
 pub(crate) fn replanned(
-    station: &mut Station,
-    place: usize,
+    charges: &mut Charges,
     beside: Beside<'_>,
     proposed: Result<Starts, Cause>,
     rounds: u32,
 ) -> Planned
-    requires { CanTest station.old place beside × ForEach (waiting_count station.old.clock (feeder_at station.old place).charges) proposed }
-    ensures { Tests station.old (place + 1) rounds (proposal_of proposed) result station.new }
+    requires { Columns charges.old × Listed charges.old × ForEach (waiting_count beside.clock charges.old) proposed }
+    ensures { Tests beside.entry charges.old rounds (proposal_of proposed) result charges.new }
 {
     match proposed {
-        Ok(starts) => tested(station, place, beside, starts.as_slice(), rounds),
+        Ok(starts) => tested(charges, beside, starts.as_slice(), rounds),
         Err(cause) => {
-            let before = station.feeders[place].charges.lateness();
+            let before = charges.lateness();
             Planned {
-                cause: Some(cause),
+                taken: Err(cause),
                 before,
                 after: before,
                 rounds,

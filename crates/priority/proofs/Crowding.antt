@@ -1,29 +1,30 @@
--- One charge more: the sum of the times, and the shortest and the longest of a rate.
+-- The summed time of those that wait is small; and with one charge more, the shortest and the longest of a rate.
 use mathlib.Core.Logic.{⊎_elim}
-use mathlib.Core.Path.{◌≡◌, refl, ◌∙◌, ap}
-use Prim.Native.Nat.{ℕ, zero, suc, ◌+◌, ◌*◌, min, ◌≤◌, ◌<◌}
-use mathlib.Core.List.{List}
-use lib.ListN.{length}
+use mathlib.Core.Path.{◌≡◌, refl}
+use Prim.Native.Nat.{ℕ, suc, ◌+◌, ◌*◌, min, ◌≤◌, ◌<◌}
+use mathlib.Core.List.{List, [], ◌∷◌}
+use lib.ListN.{length, get_or}
+use Rattle.std.specs.List.{sum_by}
+use Rattle.std.proofs.lemmas.List.Sums.{sum_by-cons}
 use native.Mathlib.Omega.{arith}
-use native.Mathlib.Numerals.{add-one}
 use Rattle.std.specs.declared.option.Option.{Option}
 use Rattle.std.specs.declared.option.Option.TheVariants.{Some, None}
-use Rattle.rules.specs.Site.{places}
 use Rattle.rules.proofs.Ranges.{below_or_not}
 use Rattle.charges.specs.declared.Charges.{Charges}
 use Rattle.priority.specs.declared.crowd.Span.{Span}
-use Rattle.priority.specs.declared.crowd.Crowd.{Crowd}
+use Rattle.priority.specs.declared.crowd.Times.{Times}
 use Rattle.priority.specs.Numbers.{number_of, InRange}
-use Rattle.priority.specs.Crowds.{sum_of, widened, Joined, Found, FoundIf, SpanOf, TimesOf, FirstCrowd}
+use Rattle.priority.specs.Crowds.{widened, Joined, Found, FoundIf, SpanOf, FirstTimes}
 
 -- The sum
 
-pub sum_more : (f : ℕ → ℕ) (k : ℕ) {s : ℕ} → s ≡ sum_of f k → s + f k ≡ sum_of f (k + 1)
-sum_more f k e = rw (add-one k) (ap (λ (x : ℕ). x + f k) e)
+sum_most : (f : ℕ → ℕ) (xs : List ℕ) → ((j : ℕ) → j < length xs → f (get_or xs j 0) ≤ 1445) → sum_by f xs ≤ 1445 * length xs
+sum_most f [] h = omega arith
+sum_most f (x ∷ xs) h = omega (arith, sum_by-cons f x xs, h 0 (omega arith), sum_most f xs (λ j b. h (suc j) (omega arith)))
 
-pub sum_most : (f : ℕ → ℕ) (n k : ℕ) → ((j : ℕ) → j < n → f j ≤ 1445) → k ≤ n → sum_of f k ≤ 1445 * k
-sum_most f n zero h l = omega arith
-sum_most f n (suc k) h l = omega (arith, sum_most f n k h (omega arith), h k (omega arith))
+pub total_most : {q : Charges} {waiting : List ℕ} → InRange q waiting → sum_by (λ i. get_or q.times i 0) waiting ≤ 260100
+total_most {q} {waiting} range =
+    omega (arith, sum_most (λ i. get_or q.times i 0) waiting (λ j h. (range.short j h).1), range.inside.few)
 
 -- The times of a rate
 
@@ -95,58 +96,48 @@ module _ {q : Charges} {left : List ℕ} {rate : ℕ} where
 
 -- All of them
 
-module _ {q : Charges} {left : List ℕ} {k : ℕ} {c : Crowd} (range : InRange q left) (w : FirstCrowd q left k c) (more : k < length left) where
-  pub crowd_fits : (c.number < places) × (c.total ≤ 260100)
-  crowd_fits = (
-    omega (arith, w.number, range.inside.few),
-    omega (arith, w.total, sum_most (number_of q.times left) (length left) k (λ j h. (range.short j h).1) (omega arith), range.inside.few),
-  )
-
+module _ {q : Charges} {left : List ℕ} {k : ℕ} {t : Times} (range : InRange q left) (w : FirstTimes q left k t) (more : k < length left) where
   joined-more :
-      {r : Crowd} → Joined c (number_of q.times left k) (number_of q.active_times left k) (number_of q.rates left k) r
-      → FirstCrowd q left (k + 1) r
+      {r : Times} → Joined t (number_of q.times left k) (number_of q.active_times left k) (number_of q.rates left k) r
+      → FirstTimes q left (k + 1) r
   joined-more {r} x =
-      record {
-        number = omega (arith, x.number, w.number);
-        total = x.total ∙ sum_more (number_of q.times left) k w.total;
-        times = ⊎_elim (λ e. ones (omega arith)) (λ e. twos (omega (arith, (range.rated k more).high))) (below_or_not (number_of q.rates left k) 2);
-      }
+      ⊎_elim (λ e. ones (omega arith)) (λ e. twos (omega (arith, (range.rated k more).high))) (below_or_not (number_of q.rates left k) 2)
     where
       low : (j : ℕ) → j < k + 1 → r.shortest ≤ number_of q.times left j
       low j h =
           ⊎_elim
-          (λ l. omega (arith, x.shortest, w.times.shortest_low j l))
+          (λ l. omega (arith, x.shortest, w.shortest_low j l))
           (λ l. let here : j ≡ k = omega arith in rw here (omega (arith, x.shortest)))
           (below_or_not j k)
 
       active : (1 ≤ number_of q.active_times left k) × (number_of q.active_times left k ≤ 1445)
       active = range.active k more
 
-      ones : number_of q.rates left k < 2 → TimesOf q left (k + 1) r
+      ones : number_of q.rates left k < 2 → FirstTimes q left (k + 1) r
       ones l =
           let is_one : 1 ≡ number_of q.rates left k = omega (arith, (range.rated k more).low) in
           let y = x.one (omega arith) in
           record {
-            one = rw y.0 (span_more c.one w.times.one is_one active);
-            two = rw y.1 (span_other w.times.two (λ e. omega arith));
+            one = rw y.0 (span_more t.one w.one is_one active);
+            two = rw y.1 (span_other w.two (λ e. omega arith));
             shortest_low = low;
           }
 
-      twos : 2 ≡ number_of q.rates left k → TimesOf q left (k + 1) r
+      twos : 2 ≡ number_of q.rates left k → FirstTimes q left (k + 1) r
       twos is-two =
           let y = x.two (λ e. omega arith) in
           record {
-            one = rw y.1 (span_other w.times.one (λ e. omega arith));
-            two = rw y.0 (span_more c.two w.times.two is-two active);
+            one = rw y.1 (span_other w.one (λ e. omega arith));
+            two = rw y.0 (span_more t.two w.two is-two active);
             shortest_low = low;
           }
 
   -- the numbers that were read are those of the charge
-  pub crowd_more :
-      {time active rate : ℕ} {r : Crowd}
-      → Joined c time active rate r
+  pub times_more :
+      {time active rate : ℕ} {r : Times}
+      → Joined t time active rate r
       → time ≡ number_of q.times left k
       → active ≡ number_of q.active_times left k
       → rate ≡ number_of q.rates left k
-      → FirstCrowd q left (k + 1) r
-  crowd_more x e f g = joined-more (rw (e, f, g) at x)
+      → FirstTimes q left (k + 1) r
+  times_more x e f g = joined-more (rw (e, f, g) at x)

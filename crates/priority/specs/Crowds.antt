@@ -1,14 +1,16 @@
--- The charges left on a line, taken together.
-use Rattle.std.specs.Prelude.{◌≡◌, ⊤, ℕ, zero, suc, ◌+◌, min, max, ◌≤◌, ◌<◌, List, length, Option, Some, None}
+-- The charges of a line, taken together: all of them when the round begins, and those that are left.
+use Rattle.std.specs.Prelude.{◌≡◌, ⊤, ℕ, min, max, ◌≤◌, ◌<◌, List, length, get_or, Option, Some, None}
+use Rattle.std.specs.List.{sum_by}
 use Rattle.charges.specs.declared.Charges.{Charges}
 use Rattle.priority.specs.Numbers.{number_of}
 use Rattle.priority.specs.declared.crowd.Span.{Span}
 use Rattle.priority.specs.declared.crowd.Crowd.{Crowd}
+use Rattle.priority.specs.declared.crowd.Times.{Times}
 
--- the first n numbers summed
-abbrev pub sum_of : (ℕ → ℕ) → ℕ → ℕ
-sum_of f zero = 0
-sum_of f (suc k) = sum_of f k + f k
+-- the number and the summed time of those that wait
+pub record CrowdOf (q : Charges) (waiting : List ℕ) (r : Crowd) : Type 0 where
+  pub number : r.number ≡ length waiting
+  pub total : r.total ≡ sum_by (λ i. get_or q.times i 0) waiting
 
 -- the shortest time, and the longest; 0 where there is none
 abbrev pub shortest_of : Option Span → ℕ
@@ -24,13 +26,11 @@ abbrev pub widened : Option Span → ℕ → Span
 widened (Some s) time = record { shortest = min s.shortest time; longest = max s.longest time }
 widened None time = record { shortest = time; longest = time }
 
--- one more charge
-pub record Joined (c : Crowd) (time active rate : ℕ) (r : Crowd) : Type 0 where
-  pub number : r.number ≡ c.number + 1
-  pub total : r.total ≡ c.total + time
-  pub shortest : r.shortest ≡ min c.shortest time
-  pub one : rate ≡ 1 → (r.one ≡ Some (widened c.one active)) × (r.two ≡ c.two)
-  pub two : (rate ≡ 1 → ⊥) → (r.two ≡ Some (widened c.two active)) × (r.one ≡ c.one)
+-- the times of one more charge
+pub record Joined (t : Times) (time active rate : ℕ) (r : Times) : Type 0 where
+  pub shortest : r.shortest ≡ min t.shortest time
+  pub one : rate ≡ 1 → (r.one ≡ Some (widened t.one active)) × (r.two ≡ t.two)
+  pub two : (rate ≡ 1 → ⊥) → (r.two ≡ Some (widened t.two active)) × (r.one ≡ t.one)
 
 -- a charge with this rate and active time
 pub record Found (q : Charges) (left : List ℕ) (n rate time : ℕ) : Type 0 where
@@ -56,22 +56,10 @@ pub record SpanOf (q : Charges) (left : List ℕ) (n rate : ℕ) (r : Option Spa
   pub found : FoundIf q left n rate r
 
 -- the times of the first n of those left
-pub record TimesOf (q : Charges) (left : List ℕ) (n : ℕ) (r : Crowd) : Type 0 where
+pub record FirstTimes (q : Charges) (left : List ℕ) (n : ℕ) (r : Times) : Type 0 where
   pub one : SpanOf q left n 1 r.one
   pub two : SpanOf q left n 2 r.two
   pub shortest_low : (j : ℕ) → j < n → r.shortest ≤ number_of q.times left j
 
--- the first n of those left, taken together
-pub record FirstCrowd (q : Charges) (left : List ℕ) (n : ℕ) (r : Crowd) : Type 0 where
-  pub number : r.number ≡ n
-  pub total : r.total ≡ sum_of (number_of q.times left) n
-  pub times : TimesOf q left n r
-
-abbrev pub CrowdOf : Charges → List ℕ → Crowd → Type 0
-CrowdOf q left r = FirstCrowd q left (length left) r
-
--- number and sum stay, and the times are of those left
-pub record Narrowed (q : Charges) (left : List ℕ) (c r : Crowd) : Type 0 where
-  pub number : r.number ≡ c.number
-  pub total : r.total ≡ c.total
-  pub times : TimesOf q left (length left) r
+abbrev pub TimesOf : Charges → List ℕ → Times → Type 0
+TimesOf q left r = FirstTimes q left (length left) r

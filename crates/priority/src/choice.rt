@@ -2,10 +2,9 @@
 ghost use Rattle.std.specs.Prelude.{◌≡◌, ◌*◌, ◌≤◌, ltb, length};
 ghost use Rattle.charges.specs.Places.{Inside};
 ghost use Rattle.priority.specs.Numbers.{InRange};
-ghost use Rattle.priority.specs.Crowds.{Narrowed};
-ghost use Rattle.priority.specs.Chosen.{run_for, FirstFitting, CanWeigh, WeighedAt, CanChoose, Choice};
+ghost use Rattle.priority.specs.Chosen.{run_for, Narrowed, FirstFitting, CanWeigh, WeighedAt, CanChoose, Choice};
 
-use crate::crowd::{Crowd, crowd_of};
+use crate::crowd::{Crowd, Times, times_of};
 use crate::weight::urgency;
 use charges::Charges;
 
@@ -18,7 +17,7 @@ pub struct Runs {
 
 impl Runs {
     fn of(self, rate: u32) -> u32
-        ensures { result ≡ run_for self.one self.two rate }
+        ensures { result ≡ run_for self rate }
     {
         if rate == 1 { self.one } else { self.two }
     }
@@ -43,34 +42,32 @@ impl Weighed {
     }
 }
 
-// The charges of a line that are left to place, by place, in the order of d − p, then ticket; and what they are taken together.
+// The charges of a line that are left to place, by place, in the order of d − p, then ticket; with the crowd of the line, and the
+// times of these, or of more that were left before.
 #[derive(Clone, Copy)]
 pub struct Left<'a> {
     pub charges: &'a Charges,
     pub places: &'a [usize],
     pub crowd: Crowd,
+    pub times: Times,
 }
 
 impl<'a> Left<'a> {
-    // When some are placed number and sum stay, and the times are those of the charges left.
+    // The same with the times of these alone.
     pub fn narrowed(&self) -> Left<'a>
         requires { InRange self.now.charges.now self.now.places.now }
-        ensures same { (result.charges.now ≡ self.now.charges.now) × (result.places.now ≡ self.now.places.now) }
-        ensures crowd { Narrowed self.now.charges.now self.now.places.now self.now.crowd result.crowd }
+        ensures { Narrowed self.now result }
     {
-        let now = crowd_of(self.charges, self.places);
-        let crowd = Crowd {
-            number: self.crowd.number,
-            total: self.crowd.total,
-            ..now
-        };
-        Left { crowd, ..*self }
+        Left {
+            times: times_of(self.charges, self.places),
+            ..*self
+        }
     }
 
     // The first of them, from the given one on, that is no longer than the run of minutes with room for its rate.
     fn fitting(&self, runs: Runs, from: usize) -> Option<usize>
         requires { Inside self.now.places.now × (from ≤ length self.now.places.now) }
-        ensures { FirstFitting self.now.charges.now self.now.places.now runs.one runs.two from result }
+        ensures { FirstFitting self.now runs from result }
     {
         (from..self.places.len()).find(|j| {
             let i = self.places[*j];
@@ -80,17 +77,11 @@ impl<'a> Left<'a> {
 
     // The charge at a place, at a start.
     fn weigh(&self, start: u32, place: usize) -> Weighed
-        requires { CanWeigh self.now.charges.now self.now.crowd place }
-        ensures { WeighedAt self.now.charges.now self.now.crowd start place result }
+        requires { CanWeigh self.now place }
+        ensures { WeighedAt self.now start place result }
     {
         let time = self.charges.times[place];
-        let weight = urgency(
-            self.charges.dues[place],
-            time,
-            start,
-            self.crowd.number,
-            self.crowd.total,
-        );
+        let weight = urgency(self.charges.dues[place], time, start, self.crowd);
         Weighed { time, weight }
     }
 
@@ -98,8 +89,8 @@ impl<'a> Left<'a> {
     // ticket"; none where none fits. Weights fall along the order: where the next one would not be heavier for its time even if
     // it were as short as the shortest, no later one is.
     pub fn choose(&self, start: u32, runs: Runs) -> Option<usize>
-        requires { CanChoose self.now.charges.now self.now.places.now self.now.crowd }
-        ensures { Choice self.now.charges.now self.now.places.now self.now.crowd start runs.one runs.two result }
+        requires { CanChoose self.now }
+        ensures { Choice self.now start runs result }
     {
         let mut best = self.fitting(runs, 0)?;
         let mut taken = self.weigh(start, self.places[best]);
@@ -107,7 +98,7 @@ impl<'a> Left<'a> {
         while let Some(j) = self.fitting(runs, from) {
             let next = self.weigh(start, self.places[j]);
             let shortest = Weighed {
-                time: self.crowd.shortest,
+                time: self.times.shortest,
                 weight: next.weight,
             };
             if !shortest.is_heavier(taken) {

@@ -1,10 +1,16 @@
-// The charges left on a line, taken together.
-ghost use Rattle.std.specs.Prelude.{◌≡◌, ◌≤◌, ◌<◌};
-ghost use Rattle.rules.specs.Site.{places};
+// The charges of a line, taken together: all of them when the round begins, and those that are left.
+ghost use Rattle.std.specs.Prelude.{◌≡◌};
 ghost use Rattle.priority.specs.Numbers.{InRange};
-ghost use Rattle.priority.specs.Crowds.{widened, Joined, CrowdOf};
+ghost use Rattle.priority.specs.Crowds.{widened, CrowdOf, Joined, TimesOf};
 
 use charges::Charges;
+
+// "n and P the number and summed p of the line's waiting charges when the round begins"
+#[derive(Clone, Copy)]
+pub struct Crowd {
+    pub number: u32,
+    pub total: u32,
+}
 
 // The shortest and the longest time of one or more charges.
 #[derive(Clone, Copy)]
@@ -13,12 +19,10 @@ pub struct Span {
     pub longest: u32,
 }
 
-// The number and the summed time of the charges of a line that wait when the round begins; and of those left the active times of
-// rate 1 and of rate 2, if any has the rate, and a charging time that none of them is below.
+// Of the charges that are left: the active times of rate 1 and of rate 2, if any has the rate, and a charging time that none of
+// them is below.
 #[derive(Clone, Copy)]
-pub struct Crowd {
-    pub number: u32,
-    pub total: u32,
+pub struct Times {
     pub one: Option<Span>,
     pub two: Option<Span>,
     pub shortest: u32,
@@ -40,15 +44,12 @@ fn widened(span: Option<Span>, time: u32) -> Span
     }
 }
 
-impl Crowd {
+impl Times {
     // One more charge.
-    fn joined(self, time: u32, active_time: u32, rate: u32) -> Crowd
-        requires { (self.number < places) × (self.total ≤ 260100) × (time ≤ 1445) }
+    fn joined(self, time: u32, active_time: u32, rate: u32) -> Times
         ensures { Joined self time active_time rate result }
     {
         let mut next = self;
-        next.number += 1;
-        next.total += time;
         next.shortest = time.min(self.shortest);
         if rate == 1 {
             next.one = Some(widened(self.one, active_time));
@@ -59,21 +60,30 @@ impl Crowd {
     }
 }
 
-// "n and P the number and summed p of the line's waiting charges when the round begins"
-pub fn crowd_of(charges: &Charges, left: &[usize]) -> Crowd
-    requires { InRange charges.now left.now }
-    ensures { CrowdOf charges.now left.now result }
+// Those of a line that wait, when the round begins.
+pub fn crowd_of(charges: &Charges, waiting: &[usize]) -> Crowd
+    requires { InRange charges.now waiting.now }
+    ensures { CrowdOf charges.now waiting.now result }
 {
-    let mut crowd = Crowd {
-        number: 0,
-        total: 0,
+    Crowd {
+        number: waiting.len() as u32,
+        total: waiting.iter().map(|place| charges.times[*place]).sum(),
+    }
+}
+
+// The times of those that are left.
+pub fn times_of(charges: &Charges, left: &[usize]) -> Times
+    requires { InRange charges.now left.now }
+    ensures { TimesOf charges.now left.now result }
+{
+    let mut times = Times {
         one: None,
         two: None,
         shortest: u32::MAX,
     };
     for place in left {
         let i = *place;
-        crowd = crowd.joined(charges.times[i], charges.active_times[i], charges.rates[i]);
+        times = times.joined(charges.times[i], charges.active_times[i], charges.rates[i]);
     }
-    crowd
+    times
 }

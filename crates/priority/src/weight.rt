@@ -3,6 +3,7 @@ ghost use Rattle.std.specs.Prelude.{◌≡◌, ◌+◌, ◌-◌, ◌*◌, ◌/�
 ghost use Rattle.rules.specs.Site.{places};
 ghost use Rattle.rules.specs.Priority.{weight_of};
 
+use crate::crowd::Crowd;
 use crate::table::WEIGHTS;
 use charges::ends::end_of;
 
@@ -20,15 +21,15 @@ pub fn slack(due: u32, start: u32, time: u32) -> u64
     u64::from(due).saturating_sub(end_of(start, time))
 }
 
-// What a charge weighs at a start, on a line that had `number` waiting charges of `total` minutes when the round began.
-pub fn urgency(due: u32, time: u32, start: u32, number: u32, total: u32) -> u32
-    requires { (due ≤ 2000000) × (number ≤ places) × (1 ≤ total) }
-    ensures { (result ≡ weight_of (256 * (due - (start + time)) * number / total)) × (result ≤ 1073741824) }
+// What a charge weighs at a start, on a line with this crowd.
+pub fn urgency(due: u32, time: u32, start: u32, crowd: Crowd) -> u32
+    requires { (due ≤ 2000000) × (crowd.number ≤ places) × (1 ≤ crowd.total) }
+    ensures { (result ≡ weight_of (256 * (due - (start + time)) * crowd.number / crowd.total)) × (result ≤ 1073741824) }
 {
     let m = slack(due, start, time);
     // Late already: nothing to divide.
     if m == 0 {
         return weight(0);
     }
-    weight(256 * m * u64::from(number) / u64::from(total))
+    weight(256 * m * u64::from(crowd.number) / u64::from(crowd.total))
 }

@@ -8,19 +8,20 @@ use native.Mathlib.Omega.{arith}
 use borrow.Author.Tests.{le-leb, lt-leb}
 use lib.Dec.{leb, ltb}
 use lib.ListN.{length, get_or}
+use Rattle.std.specs.declared.ops.Range.{Range}
 use Rattle.rules.specs.Load.{load_from, IsColumn, share, draws}
 use Rattle.rules.proofs.Ranges.{below_or_not}
-use Rattle.profile.specs.Steps.{minutes_of, level_at, In, Rising}
+use Rattle.profile.specs.Steps.{minutes_of, level_at, In}
 use Rattle.profile.specs.Shows.{Profile, draw_of, line_of, level_of, first_minute, Formed, most_drawn, Small, Split, CanAdd, LoadAdded}
 use Rattle.profile.specs.Loads.{PutIn, CanRaise, Raised}
 use Rattle.profile.specs.declared.loads.Draw.{Draw}
 use Rattle.profile.proofs.Levels.{level_in, at_step, step_from}
-use Rattle.profile.proofs.Edited.{put_minutes, put_lines}
+use Rattle.profile.proofs.Edited.{put_minutes}
 use Rattle.profile.proofs.Splits.{split_level, split_rises, split_ends, raise_level}
 
 -- Split
 
-module _ {p q : Profile} {i t : ℕ} (f : Formed p) (h : In (minutes_of p) (length p) i t) (ne : get_or (minutes_of p) i 0 ≡ t → ⊥) (ins : PutIn p q i t) where
+module _ {p q : Profile} {i t : ℕ} (f : Formed p) (h : In p i t) (ne : get_or (minutes_of p) i 0 ≡ t → ⊥) (ins : PutIn p q i t) where
   lt : get_or (minutes_of p) i 0 < t
   lt = ⊎_elim (λ a. a) (λ a. absurd (ne (omega (arith, h.begun)))) (below_or_not (get_or (minutes_of p) i 0) t)
 
@@ -28,12 +29,12 @@ module _ {p q : Profile} {i t : ℕ} (f : Formed p) (h : In (minutes_of p) (leng
   split_some =
       let ia = put_minutes ins in
       record {
-        formed = record { some = omega (arith, ins.size); rises = split_rises ins.size h lt ia f.rises };
+        formed = record { some = omega (arith, ins.size); rises = split_rises h lt ins f.rises };
         few = omega (arith, ins.size);
         more = omega (arith, ins.size);
         starts = ia.before 0 (omega arith);
-        ends = split_ends ins.size h lt ia;
-        same = λ l hl u a. split_level ins.size h lt ia (line_of p l) (line_of q l) (put_lines ins l) u a;
+        ends = split_ends h lt ins;
+        same = λ l _ u a. split_level h lt ins l u a;
         below = omega (arith, h.below, ins.size);
         begins = ia.here;
         earlier = λ m a b.
@@ -62,22 +63,22 @@ pub small_step : (p : Profile) → Formed p → Small p → (l : ℕ) → IsColu
 small_step p f s l hl m h =
     omega (
       arith,
-      level_in (minutes_of p) (line_of p l) (length p) m (get_or (minutes_of p) m 0) (at_step (minutes_of p) (length p) m f.rises h),
+      level_in p (line_of p l) (at_step p m f.rises h),
       s l hl (get_or (minutes_of p) m 0) (step_from f h),
     )
 
 -- two splits: step i of q begins where the load does, or at the clock, and step j where it ends
-module _ {p p₁ q : Profile} {places start from i j : ℕ} {a : Draw} (can : CanAdd p places a start) (e : from ≡ max (first_minute p) start)
-    (begun : from < start + a.time) (s₁ : Split p p₁ from i) (s₂ : Split p₁ q (start + a.time) j) where
-  i_begins : get_or (minutes_of q) i 0 ≡ from
-  i_begins = s₂.earlier i s₁.below (omega (arith, s₁.begins)) ∙ s₁.begins
+module _ {p p₁ q : Profile} {places start from : ℕ} {steps : Range ℕ} {a : Draw} (can : CanAdd p places a start) (e : from ≡ max (first_minute p) start)
+    (begun : from < start + a.time) (s₁ : Split p p₁ from steps.start) (s₂ : Split p₁ q (start + a.time) steps.end) where
+  i_begins : get_or (minutes_of q) steps.start 0 ≡ from
+  i_begins = s₂.earlier steps.start s₁.below (omega (arith, s₁.begins)) ∙ s₁.begins
 
-  i_below : i < length q
+  i_below : steps.start < length q
   i_below = omega (arith, s₁.below, s₂.more)
 
-  order : i ≤ j
+  order : steps.start ≤ steps.end
   order =
-      ⊎_elim (λ a. absurd (omega (arith, s₂.formed.rises j i a i_below, i_begins, s₂.begins))) (λ a. a) (below_or_not j i)
+      ⊎_elim (λ a. absurd (omega (arith, s₂.formed.rises steps.end steps.start a i_below, i_begins, s₂.begins))) (λ a. a) (below_or_not steps.end steps.start)
 
   same_level : (l : ℕ) → IsColumn l → (u : ℕ) → first_minute p ≤ u → level_of q l u ≡ level_of p l u
   same_level l hl u a = s₂.same l hl u (omega (arith, s₁.starts)) ∙ s₁.same l hl u a
@@ -88,7 +89,7 @@ module _ {p p₁ q : Profile} {places start from i j : ℕ} {a : Draw} (can : Ca
       (λ l hl t a. omega (arith, same_level l hl t (omega (arith, s₁.starts, s₂.starts)), can.small l hl t (omega (arith, s₁.starts, s₂.starts))))
 
   -- the line of q may be raised
-  pub raise_can : {line more : ℕ} → IsColumn line → more ≤ 2 → CanRaise q line more i j
+  pub raise_can : {line more : ℕ} → IsColumn line → more ≤ 2 → CanRaise q steps line more
   raise_can {line} hl few =
       record {
         on_column = hl;
@@ -97,7 +98,7 @@ module _ {p p₁ q : Profile} {places start from i j : ℕ} {a : Draw} (can : Ca
         fits = λ m b. omega (arith, small line hl m (omega (arith, s₂.below)));
       }
 
-  module _ {r : Profile} (raised : Raised q a.line a.rate i j r) where
+  module _ {r : Profile} (raised : Raised q steps a.line a.rate r) where
     -- clipped to the clock, the load is the same in every minute from there on
     clipped : (u : ℕ) → first_minute p ≤ u → leb from u ≡ leb start u
     clipped u a =
@@ -109,8 +110,8 @@ module _ {p p₁ q : Profile} {places start from i j : ℕ} {a : Draw} (can : Ca
     new_level : (l : ℕ) → IsColumn l → (u : ℕ) → first_minute p ≤ u → level_of r l u ≡ level_of p l u + draws (load_from (draw_of a) start) l u
     new_level l hl u c =
         ap (λ (n : ℕ). level_at (minutes_of r) (line_of r l) n u) raised.size ∙ ap (λ (x : List ℕ). level_at x (line_of r l) (length q) u) raised.minutes
-        ∙ raise_level (minutes_of q) s₂.formed.rises i_below s₂.below (raised.each l hl) u (omega (arith, s₁.starts, s₂.starts))
-        ∙ ap (λ (x : ℕ). level_of q l u + cond (leb x u && ltb u (get_or (minutes_of q) j 0)) (share a.line a.rate l) 0) i_begins
+        ∙ raise_level q s₂.formed.rises i_below s₂.below (raised.each l hl) u (omega (arith, s₁.starts, s₂.starts))
+        ∙ ap (λ (x : ℕ). level_of q l u + cond (leb x u && ltb u (get_or (minutes_of q) steps.end 0)) (share a.line a.rate l) 0) i_begins
         ∙ ap (λ (x : ℕ). level_of q l u + cond (leb from u && ltb u x) (share a.line a.rate l) 0) s₂.begins
         ∙ ap (λ (b : Bool). level_of q l u + cond (b && ltb u (start + a.time)) (share a.line a.rate l) 0) (clipped u c)
         ∙ ap (λ (x : ℕ). x + draws (load_from (draw_of a) start) l u) (same_level l hl u c)
@@ -121,7 +122,7 @@ module _ {p p₁ q : Profile} {places start from i j : ℕ} {a : Draw} (can : Ca
           formed =
               record {
                 some = omega (arith, raised.size, s₂.formed.some);
-                rises = subst (λ (n : ℕ). Rising (minutes_of r) n) (sym raised.size) (subst (λ (x : List ℕ). Rising x (length q)) (sym raised.minutes) s₂.formed.rises);
+                rises = λ i j b c. rw raised.minutes (s₂.formed.rises i j b (omega (arith, raised.size)));
               };
           few = omega (arith, raised.size, s₁.few, s₂.few);
           starts = ap (λ (x : List ℕ). get_or x 0 0) raised.minutes ∙ s₂.starts ∙ s₁.starts;

@@ -18,9 +18,9 @@ use Rattle.rules.proofs.Counts.{limited_at, limited_all, within_at, within_all, 
 use Rattle.profile.specs.declared.steps.Step.{Step}
 use Rattle.profile.specs.Steps.{In, minutes_of, counts_of, empty_step}
 use Rattle.profile.specs.Minutes.{Passes, Fails, FirstFails}
-use Rattle.profile.specs.Shows.{Profile, levels, first_minute, Formed, Shows, found_at}
-use Rattle.profile.specs.Balance.{limited_in, balanced_in, FirstOrNone, PassesIf, FirstUnbalanced, LimitKept, Unbalanced, WithinLimit}
-use Rattle.profile.proofs.Levels.{at_step, rising_le, step_of, step_from, level_test}
+use Rattle.profile.specs.Shows.{Profile, line_of, level_of, levels, first_minute, Formed, Shows}
+use Rattle.profile.specs.Balance.{limited_in, balanced_in, PassesIf, OffIn, OffIf, FirstUnbalanced, found_in, LimitKept, Unbalanced, WithinLimit}
+use Rattle.profile.proofs.Levels.{level_in, at_step, rising_le, step_of, step_from, level_test}
 use Rattle.profile.proofs.Lines.{Respects, limits_tests, balanced_tests, each_line, line_one, line_two, line_three}
 use Rattle.profile.proofs.Edited.{minute_at}
 use Rattle.profile.proofs.Shown.{shown_test}
@@ -29,7 +29,7 @@ use Rattle.profile.proofs.Shown.{shown_test}
 
 module _ {test : (ℕ → ℕ) → Bool} {p : Profile} (same : Respects test) (f : Formed p) where
   -- a minute is tested by its step
-  step_test : (i t : ℕ) → In (minutes_of p) (length p) i t → test (levels p t) ≡ test (counts_of (get_or p i (empty_step 0)))
+  step_test : (i t : ℕ) → In p i t → test (levels p t) ≡ test (counts_of (get_or p i (empty_step 0)))
   step_test i t h = level_test same p h
 
   -- the steps before step i pass, and so do the minutes before it
@@ -37,10 +37,10 @@ module _ {test : (ℕ → ℕ) → Bool} {p : Profile} (same : Respects test) (f
       (i : ℕ) → ((j : ℕ) → j < i → j < length p → test (counts_of (get_or p j (empty_step 0))) ≡ true) →
       (t : ℕ) → first_minute p ≤ t → (i < length p → t < get_or (minutes_of p) i 0) → test (levels p t) ≡ true
   passed_before i h t a b =
-      let s = step_of (minutes_of p) (length p) t f.some a in
+      let s = step_of p t f.some a in
       step_test s.step t s.inside
       ∙ h s.step
-      (⊎_elim (λ c. c) (λ c. ⊎_elim (λ d. absurd (omega (arith, b d, s.inside.begun, rising_le (minutes_of p) (length p) f.rises i s.step c s.inside.below))) (λ d. omega (arith, s.inside.below)) (below_or_not i (length p))) (below_or_not s.step i))
+      (⊎_elim (λ c. c) (λ c. ⊎_elim (λ d. absurd (omega (arith, b d, s.inside.begun, rising_le p f.rises i s.step c s.inside.below))) (λ d. omega (arith, s.inside.below)) (below_or_not i (length p))) (below_or_not s.step i))
       s.inside.below
 
   -- every step passes
@@ -54,7 +54,7 @@ module _ {test : (ℕ → ℕ) → Bool} {p : Profile} (same : Respects test) (f
         record {
           minute = get_or (minutes_of p) i 0;
           low = step_from f below;
-          fails = step_test i (get_or (minutes_of p) i 0) (at_step (minutes_of p) (length p) i f.rises below) ∙ off;
+          fails = step_test i (get_or (minutes_of p) i 0) (at_step p i f.rises below) ∙ off;
         }
 
     -- it is the first one
@@ -64,7 +64,7 @@ module _ {test : (ℕ → ℕ) → Bool} {p : Profile} (same : Respects test) (f
         record {
           low = step_from f below;
           passed = λ u a b. passed_before i (λ j c d. h j c) u a (λ d. b);
-          fails = step_test i (get_or (minutes_of p) i 0) (at_step (minutes_of p) (length p) i f.rises below) ∙ off;
+          fails = step_test i (get_or (minutes_of p) i 0) (at_step p i f.rises below) ∙ off;
         }
 
 -- whether all steps pass tells whether all minutes do
@@ -78,13 +78,19 @@ minutes_pass {test} {p} r same f h = go r h
     go true h = steps_pass same f (λ j b. h j (empty_step 0) (omega arith) b)
     go false h = step_fails same f h.1 (h.2 (empty_step 0))
 
--- the first step that fails tells the first minute that does
-pub first_minute_fails :
-    {test : (ℕ → ℕ) → Bool} {p : Profile} {i : ℕ} → Respects test → Formed p → i < length p → test (counts_of (get_or p i (empty_step 0))) ≡ false →
-    ((j : ℕ) → j < i → test (counts_of (get_or p j (empty_step 0))) ≡ true) →
-    FirstFails (λ t. test (levels p t)) (first_minute p) (get_or p i (empty_step 0)).minute
-first_minute_fails {test} {p} {i} same f below off before =
-    subst (λ (t : ℕ). FirstFails (λ t. test (levels p t)) (first_minute p) t) (minute_at p i) (first_step_fails same f below off before)
+-- the first step out of balance tells the first minute that is
+pub first_off :
+    {p : Profile} {bound i : ℕ} → Formed p → i < length p → balanced bound (counts_of (get_or p i (empty_step 0))) ≡ false →
+    ((j : ℕ) → j < i → balanced bound (counts_of (get_or p j (empty_step 0))) ≡ true) → OffIn p bound (get_or p i (empty_step 0))
+first_off {p} {bound} {i} f below off before =
+    record {
+      first =
+          subst (λ (t : ℕ). FirstFails (balanced_in p bound) (first_minute p) t) (minute_at p i)
+          (first_step_fails (balanced_tests bound) f below off before);
+      counted = λ l.
+          sym (level_in p (line_of p l) (at_step p i f.rises below))
+          ∙ ap (level_of p l) (minute_at p i);
+    }
 
 -- What a step tells of itself
 
@@ -197,14 +203,15 @@ limit_shows {p} {limit} {site} {r} k clock loads bound others s = go r k.answer
         ∙ sym (limit_at_lem s limit site h.minute from)
         ∙ h.fails)))
 
-pub unbalanced_shows : {p : Profile} {bound : ℕ} {r : Option ℕ} → FirstUnbalanced p bound r → Unbalanced p bound r
+pub unbalanced_shows : {p : Profile} {bound : ℕ} {r : Option Step} → FirstUnbalanced p bound r → Unbalanced p bound r
 unfolding first_unbalanced
 unbalanced_shows {p} {bound} {r} k clock loads limit site others s = go r k.answer
   where
-    go : (r : Option ℕ) → FirstOrNone (balanced_in p bound) (first_minute p) r → first_unbalanced (limits limit bound site others) clock loads ≡ found_at r
-    go (Some t) h =
-        let from : clock ≤ t = omega (arith, s.starts, h.low) in
-        let bad : balance_at (limits limit bound site others) loads t ≡ false = sym (balance_at_lem s bound t from) ∙ h.fails in
+    go : (r : Option Step) → OffIf p bound r → first_unbalanced (limits limit bound site others) clock loads ≡ found_in r
+    go (Some x) h =
+        let t : ℕ = x.minute in
+        let from : clock ≤ t = omega (arith, s.starts, h.first.low) in
+        let bad : balance_at (limits limit bound site others) loads t ≡ false = sym (balance_at_lem s bound t from) ∙ h.first.fails in
         first-is (λ t. not (balance_at (limits limit bound site others) loads t)) (last_until loads - clock) clock t
         (record {
           low = from;
@@ -214,7 +221,7 @@ unbalanced_shows {p} {bound} {r} k clock loads limit site others s = go r k.answ
               (λ ge. absurd (true≢false (sym (balance_past (limits limit bound site others) loads t ge) ∙ bad)))
               (below_or_not t (last_until loads));
           here = ap not bad;
-          least = λ u a b. ap not (sym (balance_at_lem s bound u a) ∙ h.passed u (omega (arith, s.starts)) b);
+          least = λ u a b. ap not (sym (balance_at_lem s bound u a) ∙ h.first.passed u (omega (arith, s.starts)) b);
         })
     go None h =
         first_nothing (λ t. not (balance_at (limits limit bound site others) loads t)) (last_until loads - clock) clock

@@ -36,21 +36,21 @@ pub record PutBoth (p q : Profile) (i j from until : ℕ) : Type 0 where
 
 -- the step of the later minute does not come before that of the earlier one
 pub in_order :
-    (p : Profile) {i j from until : ℕ} → In (minutes_of p) (length p) i from → In (minutes_of p) (length p) j until → from < until → i ≤ j
+    (p : Profile) {i j from until : ℕ} → In p i from → In p j until → from < until → i ≤ j
 in_order p {i} {j} hi hj short = ⊎_elim (λ l. absurd (omega (arith, hj.later i l hi.below, hi.begun))) (λ g. g) (below_or_not j i)
 
-module _ {p : Profile} {i j from until : ℕ} (f : Formed p) (hi : In (minutes_of p) (length p) i from) (hj : In (minutes_of p) (length p) j until) (short : from < until) where
-  pub none_new : get_or (minutes_of p) i 0 ≡ from → get_or (minutes_of p) j 0 ≡ until → SplitBoth p p from until i j
+module _ {p : Profile} {i j from until : ℕ} (f : Formed p) (hi : In p i from) (hj : In p j until) (short : from < until) where
+  pub none_new : get_or (minutes_of p) i 0 ≡ from → get_or (minutes_of p) j 0 ≡ until → SplitBoth p p from until (record { start = i; end = j })
   none_new a b = record { between = p; first = split_here f hi.below a; second = split_here f hj.below b }
 
   pub later_new :
       {q : Profile} → get_or (minutes_of p) i 0 ≡ from → (get_or (minutes_of p) j 0 ≡ until → ⊥) → PutIn p q j until
-      → SplitBoth p q from until i (j + 1)
+      → SplitBoth p q from until (record { start = i; end = j + 1 })
   later_new a nb put = record { between = p; first = split_here f hi.below a; second = split_some f hj nb put }
 
   pub earlier_new :
       {q : Profile} → (get_or (minutes_of p) i 0 ≡ from → ⊥) → get_or (minutes_of p) j 0 ≡ until → PutIn p q i from
-      → SplitBoth p q from until (i + 1) (j + 1)
+      → SplitBoth p q from until (record { start = i + 1; end = j + 1 })
   earlier_new {q} na b put =
       let one = split_some f hi na put in
       let after : i < j = ⊎_elim (λ l. l) (λ g. absurd (omega (arith, in_order p hi hj short, g, hi.begun, b, ap (λ (k : ℕ). get_or (minutes_of p) k 0) (same g)))) (below_or_not i j) in
@@ -64,7 +64,7 @@ module _ {p : Profile} {i j from until : ℕ} (f : Formed p) (hi : In (minutes_o
       same : j ≤ i → i ≡ j
       same g = omega (arith, in_order p hi hj short, g)
 
-module _ {p q : Profile} {i j from until : ℕ} (f : Formed p) (hi : In (minutes_of p) (length p) i from) (hj : In (minutes_of p) (length p) j until)
+module _ {p q : Profile} {i j from until : ℕ} (f : Formed p) (hi : In p i from) (hj : In p j until)
     (ni : get_or (minutes_of p) i 0 ≡ from → ⊥) (nj : get_or (minutes_of p) j 0 ≡ until → ⊥) (short : from < until) (b : PutBoth p q i j from until) where
   within : i + 1 ≤ length p
   within = omega (arith, hi.below)
@@ -119,11 +119,11 @@ module _ {p q : Profile} {i j from until : ℕ} (f : Formed p) (hi : In (minutes
   begun : get_or (minutes_of p) i 0 < from
   begun = ⊎_elim (λ a. a) (λ a. absurd (ni (omega (arith, hi.begun)))) (below_or_not (get_or (minutes_of p) i 0) from)
 
-  stands : In (minutes_of (between p i from)) (length (between p i from)) (j + 1) until
+  stands : In (between p i from) (j + 1) until
   stands =
       ⊎_elim
-      (λ (e : j ≡ i). subst (λ (k : ℕ). In (minutes_of (between p i from)) (length (between p i from)) (k + 1) until) (sym e) (here' first_in.size hi begun (put_minutes first_in) until (subst (λ (k : ℕ). In (minutes_of p) (length p) k until) e hj) (omega arith)))
-      (λ ne. let e : j + 1 ≡ suc j = omega arith in rw e (after' first_in.size hi begun (put_minutes first_in) j until hj (omega (arith, ne, order))))
+      (λ (e : j ≡ i). subst (λ (k : ℕ). In (between p i from) (k + 1) until) (sym e) (here' hi begun first_in until (subst (λ (k : ℕ). In p k until) e hj) (omega arith)))
+      (λ ne. let e : j + 1 ≡ suc j = omega arith in rw e (after' hi begun first_in j until hj (omega (arith, ne, order))))
       (same_or_not j i)
 
   apart : get_or (minutes_of (between p i from)) (j + 1) 0 ≡ until → ⊥
@@ -133,7 +133,7 @@ module _ {p q : Profile} {i j from until : ℕ} (f : Formed p) (hi : In (minutes
       (λ ne. let e : j + 1 ≡ suc j = omega arith in nj (sym ((put_minutes first_in).after j (omega (arith, ne, order)) hj.below) ∙ ap (λ (k : ℕ). get_or (minutes_of (between p i from)) k 0) (sym e) ∙ w))
       (same_or_not j i)
 
-  pub split_twice : SplitBoth p q from until (i + 1) (j + 2)
+  pub split_twice : SplitBoth p q from until (record { start = i + 1; end = j + 2 })
   split_twice =
       let one = split_some f hi ni first_in in
       let e : j + 1 + 1 ≡ j + 2 = omega arith in

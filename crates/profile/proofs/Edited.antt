@@ -128,7 +128,7 @@ module _ (xs : List Step) {ys : List Step} {n line rate i j k : ℕ} (few : n �
   size : length edited ≡ length (take n xs)
   size = search (rules, places)
 
-  pub raised_part : Raised (take n xs) line rate i j edited
+  pub raised_part : Raised (take n xs) (record { start = i; end = j }) line rate edited
   raised_part =
       record {
         minutes = ext_get_or 0 _ _ (length-map edited _ ∙ size ∙ sym (length-map (take n xs) _)) (λ m _. minute_at edited m ∙ same_minute m (below_or_not m i) (below_or_not m j) ∙ sym (minute_at (take n xs) m));

@@ -6,5 +6,4 @@ pub mod Adds
 pub mod Both
 pub mod Shown
 pub mod Balances
-pub mod Picks
 pub mod Placing

@@ -1,5 +1,6 @@
 -- A profile shows loads: in every minute from the clock on, for each line, its level is the count.
 use Rattle.std.specs.Prelude.{ℕ, ◌+◌, ◌-◌, ◌*◌, ◌^◌, ◌≤◌, ◌<◌, max, ◌≡◌, List, length, get_or, Option, Some, None}
+use Rattle.std.specs.declared.ops.Range.{Range}
 use Rattle.rules.specs.Basics.{Found, at, nothing, Each}
 use Rattle.rules.specs.Load as rules
 use Rattle.rules.specs.Load.{draw, Load, load_from, IsColumn, IsRate, draws, count, last_until}
@@ -38,7 +39,7 @@ last_minute p = get_or (minutes_of p) (length p - 1) 0
 -- there is a step, and steps begin in rising minutes
 pub record Formed (p : Profile) : Type 0 where
   pub some : 1 ≤ length p
-  pub rises : Rising (minutes_of p) (length p)
+  pub rises : Rising p
 
 -- so much can be drawn in a minute: 720 charges of rate 2
 abbrev pub most_drawn : ℕ
@@ -76,10 +77,10 @@ pub record Split (p q : Profile) (t k : ℕ) : Type 0 where
   pub earlier : (m : ℕ) → m < length p → get_or (minutes_of p) m 0 < t → get_or (minutes_of q) m 0 ≡ get_or (minutes_of p) m 0
 
 -- q is p with two minutes the beginnings of steps, the first of them split off first
-pub record SplitBoth (p q : Profile) (from until i j : ℕ) : Type 0 where
+pub record SplitBoth (p q : Profile) (from until : ℕ) (steps : Range ℕ) : Type 0 where
   pub between : Profile
-  pub first : Split p between from i
-  pub second : Split between q until j
+  pub first : Split p between from steps.start
+  pub second : Split between q until steps.end
 
 -- what splitting in minute t asks, in a list of so many places
 pub record CanSplit (p : Profile) (places t : ℕ) : Type 0 where

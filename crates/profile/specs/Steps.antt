@@ -1,5 +1,5 @@
 -- A step function: n steps, of which step i begins in minute `at` i and has the level `c` i from there on. And the steps of the code.
-use Rattle.std.specs.Prelude.{ℕ, zero, suc, ◌+◌, ◌≤◌, ◌<◌, ◌≡◌, cond, List, map, eqb, leb, get_or}
+use Rattle.std.specs.Prelude.{ℕ, zero, suc, ◌+◌, ◌≤◌, ◌<◌, ◌≡◌, cond, List, map, eqb, leb, length, get_or}
 use Rattle.rules.specs.Load.{IsColumn, share}
 use Rattle.profile.specs.declared.steps.Step.{Step}
 
@@ -32,14 +32,15 @@ empty_step t = record { minute = t; one = 0; two = 0; three = 0; others = 0 }
 abbrev pub begun_at : ℕ → Step → Step
 begun_at t s = record { minute = t; one = s.one; two = s.two; three = s.three; others = s.others }
 
--- i is that step
-pub record In (ats : List ℕ) (n i t : ℕ) : Type 0 where
-  pub below : i < n
-  pub begun : get_or ats i 0 ≤ t
-  pub later : (j : ℕ) → i < j → j < n → t < get_or ats j 0
+-- minute t lies in step i: it is the last that begins at or before t
+pub record In (p : List Step) (i t : ℕ) : Type 0 where
+  pub below : i < length p
+  pub begun : get_or (minutes_of p) i 0 ≤ t
+  pub later : (j : ℕ) → i < j → j < length p → t < get_or (minutes_of p) j 0
 
-abbrev pub Rising : List ℕ → ℕ → Type 0
-Rising ats n = (i j : ℕ) → i < j → j < n → get_or ats i 0 < get_or ats j 0
+-- steps begin in rising minutes
+abbrev pub Rising : List Step → Type 0
+Rising p = (i j : ℕ) → i < j → j < length p → get_or (minutes_of p) i 0 < get_or (minutes_of p) j 0
 
 -- b is a with v put in at place k of the first n
 pub record Inserted (a b : List ℕ) (n k v : ℕ) : Type 0 where
@@ -62,7 +63,3 @@ pub record Raised (f g : ℕ → ℕ) (i j x : ℕ) : Type 0 where
 pub record RaisedOn (a : Step) (line rate : ℕ) (b : Step) : Type 0 where
   pub minute : b.minute ≡ a.minute
   pub each : (l : ℕ) → IsColumn l → IsColumn line → counts_of b l ≡ counts_of a l + share line rate l
-
--- the first of lines 1, 2 and 3 that has a count; 3 where the others do not have it
-abbrev pub line_with : Step → ℕ → ℕ
-line_with s count = cond (eqb s.one count) 1 (cond (eqb s.two count) 2 3)

@@ -1,9 +1,9 @@
-// Limit and balance, step by step; the rounding that makes the bound; and the lines with the largest and the smallest count.
+// Limit and balance, step by step; the rounding that makes the bound; and the line with the largest count.
 ghost use Rattle.std.specs.Prelude.{◌≡◌, ◌≤◌};
 ghost use Rattle.rules.specs.Calls.{nearest_hundreds};
-ghost use Rattle.rules.specs.Replan.{largest_line, smallest_line};
+ghost use Rattle.rules.specs.Replan.{largest_line};
 ghost use Rattle.rules.specs.Load.{IsColumn};
-ghost use Rattle.profile.specs.Steps.{counts_of, line_with};
+ghost use Rattle.profile.specs.Steps.{counts_of};
 ghost use Rattle.profile.specs.Shows.{level_of, first_minute, Formed};
 ghost use Rattle.profile.specs.Balance.{FirstUnbalanced, LimitKept};
 
@@ -33,8 +33,9 @@ pub fn level(steps: &[Step], line: u32, t: u32) -> u32
     steps[i].count(line)
 }
 
-// The first minute in which two counts differ by more than the bound: step by step, and in each line 1 against 2, 2 against 3, 3 against 1.
-pub fn first_unbalanced(steps: &[Step], bound: u32) -> Option<u32>
+// The step of the first minute in which two counts differ by more than the bound: step by step, and in each line 1 against 2, 2 against 3,
+// 3 against 1.
+pub fn first_unbalanced(steps: &[Step], bound: u32) -> Option<Step>
     requires { Formed steps.now }
     ensures { FirstUnbalanced steps.now bound result }
 {
@@ -44,7 +45,7 @@ pub fn first_unbalanced(steps: &[Step], bound: u32) -> Option<u32>
                 let count = step.count(line);
                 let other = step.count(line % 3 + 1);
                 if bound < count.abs_diff(other) {
-                    break 'minutes Some(step.minute);
+                    break 'minutes Some(*step);
                 }
             }
         }
@@ -60,10 +61,11 @@ pub fn within_limits(steps: &[Step], limit: u32, site: u32) -> bool
     steps.iter().all(|step| step.is_within(limit, site))
 }
 
-// The first of lines 1, 2 and 3 that has a count; the last one where the others do not have it.
-fn line_with(step: Step, count: u32) -> u32
-    ensures { result ≡ line_with step count }
+// The line with the largest count, the lowest among equals.
+pub fn largest_line(step: Step) -> u32
+    ensures { result ≡ largest_line (counts_of step) }
 {
+    let count = step.largest();
     if step.one == count {
         1
     } else if step.two == count {
@@ -71,18 +73,4 @@ fn line_with(step: Step, count: u32) -> u32
     } else {
         3
     }
-}
-
-// The line with the largest count, the lowest among equals.
-pub fn largest_line(step: Step) -> u32
-    ensures { result ≡ largest_line (counts_of step) }
-{
-    line_with(step, step.largest())
-}
-
-// The line with the smallest count, the lowest among equals.
-pub fn smallest_line(step: Step) -> u32
-    ensures { result ≡ smallest_line (counts_of step) }
-{
-    line_with(step, step.smallest())
 }

@@ -4,7 +4,9 @@ ghost use Rattle.profile.specs.Shows.{Shows, CanSplit, SplitBoth, CanAdd, LoadAd
 ghost use Rattle.profile.specs.Loads.{PutIn, CanRaise, Raised};
 
 use crate::steps::{Step, place};
+use rules::OTHERS;
 use std::marker::Model;
+use std::ops::Range;
 
 // What a charge draws wherever it starts: its rate on a line, for `time` minutes.
 #[derive(Clone, Copy)]
@@ -81,45 +83,46 @@ impl<const N: usize> Profile<N> {
         self.count += 1;
     }
 
-    // The same levels, with both minutes the beginnings of steps: which ones these are. Where both are new, each step behind them moves once.
-    fn split(&mut self, from: u32, until: u32) -> (usize, usize)
+    // The same levels, with both minutes the beginnings of steps: the steps from the one up to the other. Where both are new, each step
+    // behind them moves once.
+    fn split(&mut self, from: u32, until: u32) -> Range<usize>
         requires { CanSplit self.old N from × (length self.old + 2 ≤ N) × (from < until) }
-        ensures { SplitBoth self.old self.new from until result.0 result.1 }
+        ensures { SplitBoth self.old self.new from until result }
     {
         let i = place(self.steps(), from);
         let j = place(self.steps(), until);
         if self.list[j].minute == until {
             if self.list[i].minute == from {
-                return (i, j);
+                return i..j;
             }
             self.put_in(i, from);
-            return (i + 1, j + 1);
+            return i + 1..j + 1;
         }
         if self.list[i].minute == from {
             self.put_in(j, until);
-            return (i, j + 1);
+            return i..j + 1;
         }
         self.list.copy_within(j..self.count, j + 2);
         self.list.copy_within(i..j + 1, i + 1);
         self.list[i + 1].minute = from;
         self.list[j + 2].minute = until;
         self.count += 2;
-        (i + 1, j + 2)
+        i + 1..j + 2
     }
 
-    // The rate more on the line in the steps from i up to j.
-    fn raise(&mut self, line: u32, rate: u32, i: usize, j: usize)
-        requires { CanRaise self.old line rate i j }
-        ensures { Raised self.old line rate i j self.new }
+    // The rate more on the line in these steps.
+    fn raise(&mut self, steps: Range<usize>, line: u32, rate: u32)
+        requires { CanRaise self.old steps line rate }
+        ensures { Raised self.old steps line rate self.new }
     {
         // A slice first: no part of an array of N places is lent to a loop.
         let list = &mut self.list[..];
-        for step in &mut list[i..j] {
+        for step in &mut list[steps] {
             *step = step.raised(line, rate);
         }
     }
 
-    // One more load, on a line or, as line 4, of another feeder; what lies before the clock is left out.
+    // One more load, on a line or, as line 4, of another feeder; on any other line it is left out, and so is what lies before the clock.
     pub fn add(&mut self, draw: Draw, start: u32)
         requires { CanAdd self.old N draw start }
         ensures { LoadAdded self.old self.new draw start }
@@ -129,10 +132,10 @@ impl<const N: usize> Profile<N> {
         if until <= from {
             return;
         }
-        if !(1..=4).contains(&draw.line) {
+        if !(1..=OTHERS).contains(&draw.line) {
             return;
         }
-        let (first, end) = self.split(from, until);
-        self.raise(draw.line, draw.rate, first, end);
+        let steps = self.split(from, until);
+        self.raise(steps, draw.line, draw.rate);
     }
 }

@@ -1,7 +1,8 @@
 // The steps of a profile: what each has, and in which one a minute lies.
-ghost use Rattle.std.specs.Prelude.{◌≡◌, ◌&&◌, ◌+◌, ◌^◌, ◌<◌, ◌≤◌, max, min, length, get_or};
+ghost use Rattle.std.specs.Prelude.{◌≡◌, ◌&&◌, ◌+◌, ◌^◌, ◌<◌, ◌≤◌, max, min};
 ghost use Rattle.rules.specs.Load.{whole_of, limited, within_site, balanced};
-ghost use Rattle.profile.specs.Steps.{In, Rising, minutes_of, counts_of, RaisedOn};
+ghost use Rattle.profile.specs.Steps.{In, counts_of, RaisedOn};
+ghost use Rattle.profile.specs.Shows.{first_minute, Formed};
 
 // A step begins in a minute, and has from there on, up to the next one, the count of each line, and as a fourth what the other feeders draw.
 #[derive(Clone, Copy)]
@@ -62,7 +63,7 @@ impl Step {
         self.largest() - self.smallest() <= bound
     }
 
-    // With so much more on a line.
+    // With so much more on a line; what is no line stands, as in `count`, for the other feeders.
     pub fn raised(self, line: u32, rate: u32) -> Step
         requires { counts_of self line + rate < 2 ^ 32 }
         ensures { RaisedOn self line rate result }
@@ -85,8 +86,8 @@ impl Step {
 
 // The last step that begins at or before t.
 pub fn place(steps: &[Step], t: u32) -> usize
-    requires { (1 ≤ length steps.now) × (get_or (minutes_of steps.now) 0 0 ≤ t) × Rising (minutes_of steps.now) (length steps.now) }
-    ensures { In (minutes_of steps.now) (length steps.now) result t }
+    requires { Formed steps.now × (first_minute steps.now ≤ t) }
+    ensures { In steps.now result t }
 {
     steps.partition_point(|step| step.minute <= t) - 1
 }

@@ -9,7 +9,7 @@ use borrow.Author.Tests.{lt-ltb, le-ltb}
 use Rattle.rules.specs.Site.{State}
 use Rattle.charges.specs.Arrays.{charge_at, Filled, Columns}
 use Rattle.station.specs.declared.only.One.{One}
-use Rattle.validity.specs.declared.ranges.Header.{Header}
+use Rattle.validity.specs.declared.header.Header.{Header}
 use Rattle.validity.specs.Settled.{held_by, single}
 use Rattle.layout.specs.Bytes.{byte_of, packed_from, packed}
 use Rattle.layout.specs.Arrangement.{per_block, number_of}
@@ -81,9 +81,7 @@ field_bytes a (x ∷ xs) (suc w) j h =
 abbrev pub header_with : One → ℕ → Header
 header_with o n =
     record {
-      limit = o.feeder.limit;
-      percent = o.feeder.percent;
-      tail = o.feeder.tail;
+      settings = record { limit = o.feeder.limit; percent = o.feeder.percent; tail = o.feeder.tail };
       clock = o.clock;
       next = o.next;
       held = n;

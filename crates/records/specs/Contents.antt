@@ -1,5 +1,5 @@
 -- The contents of a station, and the station that contents would be of.
-use Rattle.std.specs.Prelude.{ℕ, ◌+◌, ◌/◌, ◌%◌, Bool, ◌&&◌, List, [], ◌∷◌, leb, get_or}
+use Rattle.std.specs.Prelude.{ℕ, ◌+◌, ◌*◌, ◌/◌, ◌%◌, ◌≡◌, ◌≤◌, Bool, true, ◌&&◌, List, [], ◌∷◌, leb, get_or}
 use Rattle.rules.specs.Basics.{tabulate}
 use Rattle.rules.specs.Charge.{Charge}
 use Rattle.rules.specs.Site.{places, Feeder, State}
@@ -10,7 +10,7 @@ use Rattle.layout.specs.Bytes.{number_at}
 use Rattle.layout.specs.Arrangement.{per_block, number_of}
 use Rattle.layout.specs.Image.{content}
 use Rattle.layout.specs.Reading.{header_at}
-use Rattle.validity.specs.declared.ranges.Header.{Header}
+use Rattle.validity.specs.declared.header.Header.{Header}
 use Rattle.validity.specs.Settled.{settings_valid}
 
 -- byte m of the contents of a station
@@ -60,21 +60,25 @@ state_from contents =
 abbrev pub header_in : List ℕ → Header
 header_in contents =
     record {
-      limit = header_at contents 0;
-      percent = header_at contents 4;
-      tail = header_at contents 8;
+      settings = record { limit = header_at contents 0; percent = header_at contents 4; tail = header_at contents 8 };
       clock = header_at contents 12;
       next = header_at contents 16;
       held = header_at contents 20;
       site = header_at contents 24;
     }
 
--- the settings of block 0 pass their test
-abbrev pub settings_in : List ℕ → Bool
-settings_in contents =
-    settings_valid (header_at contents 0) (header_at contents 4) (header_at contents 8) (header_at contents 12) (header_at contents 16)
-    (header_at contents 24)
+-- the number held is in range, and the settings pass their test
+abbrev pub in_range : Header → Bool
+in_range h =
+    leb h.held places && settings_valid h.settings.limit h.settings.percent h.settings.tail h.clock h.next h.site
 
--- and so does the number of charges
 unfoldable pub header_right : List ℕ → Bool
-header_right contents = leb (header_at contents 20) places && settings_in contents
+header_right contents = in_range (header_in contents)
+
+-- contents of which these are the numbers of block 0, and pass their test
+pub record Headed (contents : List ℕ) (h : Header) : Type 0 where
+  pub is : h ≡ header_in contents
+  pub right : header_right contents ≡ true
+  pub few : h.held ≤ places
+  pub tail_few : h.settings.tail ≤ 5
+  pub product_few : h.settings.percent * h.settings.limit ≤ 6000

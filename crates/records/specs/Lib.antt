@@ -1,3 +1,4 @@
 pub mod Contents
 pub mod Rows
 pub mod Columns
+pub mod Records

@@ -2,7 +2,7 @@
 use Rattle.std.specs.Prelude.{ℕ, ◌+◌, ◌≤◌, ◌<◌, ◌≡◌, List, length, get_or}
 use Rattle.layout.specs.Bytes.{byte_of}
 use Rattle.blocks.specs.Places.{Filling}
-use Rattle.validity.specs.declared.ranges.Header.{Header}
+use Rattle.validity.specs.declared.header.Header.{Header}
 use Rattle.records.specs.Contents.{record_place}
 
 -- contents of which the first k bytes are those of f, and the others 0
@@ -21,9 +21,9 @@ NumberOf f a x = (j : ℕ) → j < 4 → byte_of j x ≡ f (a + j)
 
 -- and those of the numbers of block 0
 pub record HeaderOf (f : ℕ → ℕ) (header : Header) : Type 0 where
-  pub limit : NumberOf f 0 header.limit
-  pub percent : NumberOf f 4 header.percent
-  pub tail : NumberOf f 8 header.tail
+  pub limit : NumberOf f 0 header.settings.limit
+  pub percent : NumberOf f 4 header.settings.percent
+  pub tail : NumberOf f 8 header.settings.tail
   pub clock : NumberOf f 12 header.clock
   pub next : NumberOf f 16 header.next
   pub held : NumberOf f 20 header.held

@@ -1,68 +1,20 @@
 // A station read from contents.
-ghost use Rattle.std.specs.Prelude.{◌≡◌, true, ℕ, ◌+◌, ◌<◌, ◌≤◌, length, get_or};
+ghost use Rattle.std.specs.Prelude.{◌≡◌, ℕ, ◌+◌, ◌<◌, ◌≤◌, length, get_or};
 ghost use Rattle.rules.specs.Site.{places};
-ghost use Rattle.records.specs.Contents.{header_in, header_right};
+ghost use Rattle.records.specs.Contents.{header_in, in_range, Headed};
 ghost use Rattle.records.specs.Columns.{RowJoined, ColumnRead, ColumnTo, HoldsFrom, ReadFrom};
 
-use crate::arrangement::place_of;
+use crate::arrangement::{
+    CLOCK, DUE, Field, HELD, LIMIT, LINE, NEXT, ORDER_MINUTE, PERCENT, RATE, SITE, START, TAIL,
+    TICKET, TIME, place_of,
+};
 use blocks::bytes::number_at;
 use blocks::contents::CONTENTS;
 use charges::{Charges, PLACES};
-use profile::balance::nearest_hundreds;
 use station::Feeder;
 use station::only::One;
-use validity::ranges::Header;
-
-// The first so many records of some contents.
-#[derive(Clone, Copy)]
-struct Records<'a> {
-    contents: &'a [u8; CONTENTS],
-    held: usize,
-    ghost few: { held ≤ places },
-}
-
-impl<'a> Records<'a> {
-    // Byte j of each record joined to the numbers of a column, as their lowest byte.
-    fn join_row(&self, column: &mut [u32], j: usize)
-        requires { (j < 20) × (length column.old ≤ self.now.held) × ((q : ℕ) → q < length column.old → get_or column.old q 0 < 16777216) }
-        ensures { RowJoined self.now.contents.now j column.old column.new }
-    {
-        for (q, number) in column.iter_mut().enumerate() {
-            *number = 256 * *number + u32::from(self.contents[place_of(q, j)]);
-        }
-    }
-
-    // The column of a field of `width` bytes: 0 behind the records.
-    fn read_column(&self, from: usize, width: usize) -> [u32; PLACES]
-        requires { (from + width ≤ 20) × (width ≤ 4) }
-        ensures { ColumnRead self.now.contents.now from width self.now.held result }
-    {
-        let mut column = [0; PLACES];
-        for j in (0..width).rev() {
-            self.join_row(&mut column[..self.held], from + j);
-        }
-        column
-    }
-
-    // The charges that the records would be of.
-    fn read_charges(&self, tail: u32) -> Charges
-        requires { tail ≤ 5 }
-        ensures { HoldsFrom self.now.contents.now self.now.held tail result }
-    {
-        let times = self.read_column(16, 2);
-        Charges {
-            held: self.held,
-            tickets: self.read_column(0, 4),
-            lines: self.read_column(18, 1),
-            order_minutes: self.read_column(12, 4),
-            times,
-            active_times: with_tail(&times[..self.held], tail),
-            dues: self.read_column(8, 4),
-            starts: self.read_column(4, 4),
-            rates: self.read_column(19, 1),
-        }
-    }
-}
+use station::open::Settings;
+use validity::header::Header;
 
 // p + r of each charge.
 #[tactic(auto, using(charges::proofs::Storing::filled_none))]
@@ -82,47 +34,106 @@ fn read_header(contents: &[u8; CONTENTS]) -> Header
     ensures { result ≡ header_in contents.now }
 {
     Header {
-        limit: number_at(contents, 0),
-        percent: number_at(contents, 4),
-        tail: number_at(contents, 8),
-        clock: number_at(contents, 12),
-        next: number_at(contents, 16),
-        held: number_at(contents, 20),
-        site: number_at(contents, 24),
+        settings: Settings {
+            limit: number_at(contents, LIMIT),
+            percent: number_at(contents, PERCENT),
+            tail: number_at(contents, TAIL),
+        },
+        clock: number_at(contents, CLOCK),
+        next: number_at(contents, NEXT),
+        held: number_at(contents, HELD),
+        site: number_at(contents, SITE),
     }
 }
 
 // Whether the number held and the settings are in range.
-#[tactic(auto, unfolding(crate::specs::Contents::header_right))]
-pub fn header_right(contents: &[u8; CONTENTS]) -> bool
-    ensures { result ≡ header_right contents.now }
+fn is_in_range(header: &Header) -> bool
+    ensures { result ≡ in_range header.now }
 {
-    let header = read_header(contents);
     header.held as usize <= PLACES && header.settings_valid()
 }
 
-// The only feeder of the station that the contents would be of. No whole station is made of it, since that has the places of four.
-pub fn read(contents: &[u8; CONTENTS]) -> One
-    requires { header_right contents.now ≡ true }
-    ensures { ReadFrom contents.now result }
-{
-    let header = read_header(contents);
-    let records = Records {
-        contents,
-        held: header.held as usize,
-    };
-    let charges = records.read_charges(header.tail);
-    let feeder = Feeder {
-        limit: header.limit,
-        percent: header.percent,
-        bound: nearest_hundreds(header.percent * header.limit),
-        tail: header.tail,
-        charges,
-    };
-    One {
-        site: header.site,
-        clock: header.clock,
-        next: header.next,
-        feeder,
+// Contents whose block 0 has a number held and settings that are in range.
+#[derive(Clone, Copy)]
+pub struct Records<'a> {
+    contents: &'a [u8; CONTENTS],
+    header: Header,
+    pub ghost headed: { Headed contents.now header },
+}
+
+impl<'a> Records<'a> {
+    ghost use Rattle.records.specs.Records.{RecordsOf};
+
+    // None where the number held or a setting is out of range.
+    pub fn of(contents: &'a [u8; CONTENTS]) -> Option<Records<'a>>
+        ensures { RecordsOf contents.now result }
+    {
+        let header = read_header(contents);
+        if is_in_range(&header) {
+            Some(Records { contents, header })
+        } else {
+            None
+        }
+    }
+
+    // Byte j of each record joined to the numbers of a column, as their lowest byte.
+    fn join_row(&self, column: &mut [u32], j: usize)
+        requires { (j < 20) × (length column.old ≤ self.now.header.held) × ((q : ℕ) → q < length column.old → get_or column.old q 0 < 16777216) }
+        ensures { RowJoined self.now.contents.now j column.old column.new }
+    {
+        for (q, number) in column.iter_mut().enumerate() {
+            *number = 256 * *number + u32::from(self.contents[place_of(q, j)]);
+        }
+    }
+
+    // The column of a field: 0 behind the records.
+    fn read_column(&self, field: Field) -> [u32; PLACES]
+        ensures { ColumnRead self.now.contents.now field.from field.width self.now.header.held result }
+    {
+        let held = self.header.held as usize;
+        let mut column = [0; PLACES];
+        for j in (0..field.width).rev() {
+            self.join_row(&mut column[..held], field.from + j);
+        }
+        column
+    }
+
+    // The charges that the records would be of.
+    fn read_charges(&self) -> Charges
+        ensures { HoldsFrom self.now.contents.now self.now.header.held self.now.header.settings.tail result }
+    {
+        let held = self.header.held as usize;
+        let times = self.read_column(TIME);
+        Charges {
+            held,
+            tickets: self.read_column(TICKET),
+            lines: self.read_column(LINE),
+            order_minutes: self.read_column(ORDER_MINUTE),
+            times,
+            active_times: with_tail(&times[..held], self.header.settings.tail),
+            dues: self.read_column(DUE),
+            starts: self.read_column(START),
+            rates: self.read_column(RATE),
+        }
+    }
+
+    // The only feeder of the station that the contents would be of. No whole station is made of it, since that has the places of four.
+    pub fn read(&self) -> One
+        ensures { ReadFrom self.now.contents.now result }
+    {
+        let header = self.header;
+        let feeder = Feeder {
+            limit: header.settings.limit,
+            percent: header.settings.percent,
+            bound: header.settings.bound(),
+            tail: header.settings.tail,
+            charges: self.read_charges(),
+        };
+        One {
+            site: header.site,
+            clock: header.clock,
+            next: header.next,
+            feeder,
+        }
     }
 }

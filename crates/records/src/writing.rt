@@ -6,23 +6,27 @@ ghost use Rattle.station.specs.View.{view, station_of};
 ghost use Rattle.records.specs.Contents.{contents_of};
 ghost use Rattle.records.specs.Rows.{HeaderPut, RowPut, ColumnPut};
 
-use crate::arrangement::place_of;
+use crate::arrangement::{
+    CLOCK, DUE, Field, HELD, LIMIT, LINE, NEXT, ORDER_MINUTE, PERCENT, RATE, SITE, START, TAIL,
+    TICKET, TIME, place_of,
+};
 use blocks::bytes::{byte_of, put_number};
 use blocks::contents::CONTENTS;
 use station::only::One;
-use validity::ranges::Header;
+use station::open::Settings;
+use validity::header::Header;
 
 // The numbers of block 0.
 fn put_header(header: &Header, contents: &mut [u8; CONTENTS])
     ensures { HeaderPut header.now contents.old contents.new }
 {
-    put_number(contents, 0, header.limit);
-    put_number(contents, 4, header.percent);
-    put_number(contents, 8, header.tail);
-    put_number(contents, 12, header.clock);
-    put_number(contents, 16, header.next);
-    put_number(contents, 20, header.held);
-    put_number(contents, 24, header.site);
+    put_number(contents, LIMIT, header.settings.limit);
+    put_number(contents, PERCENT, header.settings.percent);
+    put_number(contents, TAIL, header.settings.tail);
+    put_number(contents, CLOCK, header.clock);
+    put_number(contents, NEXT, header.next);
+    put_number(contents, HELD, header.held);
+    put_number(contents, SITE, header.site);
 }
 
 // A byte of each number of a column, as byte j of the records.
@@ -35,13 +39,13 @@ fn put_row(column: &[u32], j: usize, byte: usize, contents: &mut [u8; CONTENTS])
     }
 }
 
-// The column of a field of `width` bytes.
-fn put_column(column: &[u32], from: usize, width: usize, contents: &mut [u8; CONTENTS])
-    requires { (length column.now ≤ places) × (from + width ≤ 20) × (width ≤ 4) }
-    ensures { ColumnPut column.now from width contents.old contents.new }
+// The column of a field.
+fn put_column(column: &[u32], field: Field, contents: &mut [u8; CONTENTS])
+    requires { length column.now ≤ places }
+    ensures { ColumnPut column.now field.from field.width contents.old contents.new }
 {
-    for byte in 0..width {
-        put_row(column, from + byte, byte, contents);
+    for byte in 0..field.width {
+        put_row(column, field.from + byte, byte, contents);
     }
 }
 
@@ -53,9 +57,11 @@ pub fn contents_of(one: &One) -> [u8; CONTENTS]
     let charges = &one.feeder.charges;
     let held = charges.held;
     let header = Header {
-        limit: one.feeder.limit,
-        percent: one.feeder.percent,
-        tail: one.feeder.tail,
+        settings: Settings {
+            limit: one.feeder.limit,
+            percent: one.feeder.percent,
+            tail: one.feeder.tail,
+        },
         clock: one.clock,
         next: one.next,
         held: held as u32,
@@ -63,12 +69,12 @@ pub fn contents_of(one: &One) -> [u8; CONTENTS]
     };
     let mut contents = [0; CONTENTS];
     put_header(&header, &mut contents);
-    put_column(&charges.tickets[..held], 0, 4, &mut contents);
-    put_column(&charges.starts[..held], 4, 4, &mut contents);
-    put_column(&charges.dues[..held], 8, 4, &mut contents);
-    put_column(&charges.order_minutes[..held], 12, 4, &mut contents);
-    put_column(&charges.times[..held], 16, 2, &mut contents);
-    put_column(&charges.lines[..held], 18, 1, &mut contents);
-    put_column(&charges.rates[..held], 19, 1, &mut contents);
+    put_column(&charges.tickets[..held], TICKET, &mut contents);
+    put_column(&charges.starts[..held], START, &mut contents);
+    put_column(&charges.dues[..held], DUE, &mut contents);
+    put_column(&charges.order_minutes[..held], ORDER_MINUTE, &mut contents);
+    put_column(&charges.times[..held], TIME, &mut contents);
+    put_column(&charges.lines[..held], LINE, &mut contents);
+    put_column(&charges.rates[..held], RATE, &mut contents);
     contents
 }

@@ -8,7 +8,7 @@ use lib.Seq.{slice, length-slice, sets, sets-eq, length-take-le, take_at}
 use Rattle.std.specs.Prelude.{Result as Outcome, Ok, Err}
 use Rattle.std.proofs.lemmas.Slice.{between_is}
 use Rattle.rules.specs.Site.{State}
-use Rattle.rules.specs.Calls.{Result}
+use Rattle.rules.specs.Calls.{Result, written, not_held}
 use Rattle.refusals.specs.declared.Refusal.{Refusal}
 use Rattle.answers.specs.Answers.{answer_text, listed_of}
 use Rattle.requests.specs.Requests.{Asked, error, read_request, meaning, lent_list, Fits, Lent, Asks}
@@ -142,13 +142,13 @@ says_as {t} {station} {left} {said} {told} {list} h e f = rw (e, f) h
 -- The list as it is filled for a request, and what stands at its front
 
 pub filled_lent :
-    (lent places : ℕ) (list filled : List ℕ) → lent ≡ min places 4096 → lent ≤ length list → filled ≡ replicate lent 4294967295 ++ drop lent list
-    → filled ≡ sets list 0 (lent_list places)
-filled_lent lent places list filled e h f =
-    let size : 0 + length (lent_list places) ≡ lent = omega (arith, length-replicate {A = ℕ} (min places 4096) 4294967295) in
-    f ∙ ap (λ (n : ℕ). replicate n 4294967295 ++ drop lent list) e
+    (lent places : ℕ) (list : List ℕ) {filled : List ℕ} → lent ≡ min places 4096 → lent ≤ length list
+    → filled ≡ written (replicate lent not_held) list → filled ≡ sets list 0 (lent_list places)
+filled_lent lent places list e h f =
+    let size : 0 + length (lent_list places) ≡ length (lent_list places) = omega arith in
+    f ∙ ap (λ (n : ℕ). written (replicate n not_held) list) e
     ∙ ap (λ (n : ℕ). lent_list places ++ drop n list) (sym size)
-    ∙ sym (sets-eq (lent_list places) list 0 (omega arith))
+    ∙ sym (sets-eq (lent_list places) list 0 (omega (arith, length-replicate {A = ℕ} (min places 4096) not_held)))
 
 front_lent : (r : Request) (list : List ℕ) → 4096 ≤ length list → take (length (lent_by r)) (sets list 0 (lent_by r)) ≡ lent_by r
 front_lent r list h =
@@ -156,7 +156,7 @@ front_lent r list h =
     ap (take (length (lent_by r))) (sets-eq (lent_by r) list 0 (omega arith))
     ∙ take_at (lent_by r) (drop (0 + length (lent_by r)) list) (length (lent_by r)) refl
 
--- what `reply_request` asks for, from what `read` left
+-- what `reply` asks for, from what `read` left
 pub can_reply :
     {asked : Asked} {values numbers after filled : List ℕ} {read : Outcome Request Reason} (r : Request) (list : List ℕ) → 4096 ≤ length list
     → read ≡ Ok r → Asks asked values numbers after read → filled ≡ sets list 0 (lent_to read)

@@ -74,7 +74,7 @@ request_written s (error reason) = []
 abbrev pub places_of : declared.Request → ℕ
 places_of request.Nothing = 0
 places_of (request.Open x) = 0
-places_of (request.Call c from until places) = places
+places_of (request.Call c read places) = places
 
 abbrev pub lent_by : declared.Request → List ℕ
 lent_by r = lent_list (places_of r)
@@ -89,6 +89,10 @@ abbrev pub said_text : Said → List ℕ → List ℕ
 said_text said.Nothing list = []
 said_text (said.Opening a) list = answer_text (open_answer a) 0 []
 said_text (said.Call a asked lent) list = answer_text (answer_of a) asked (take lent list)
+
+-- So many bytes are room enough for any answer: 96, and 21 for each of the 1,440 numbers of a list that are printed at most.
+abbrev pub longest_answer : ℕ
+longest_answer = 30336
 
 -- what is printed of the list stands in the places that were lent, and is not much
 abbrev pub SaidFits : Said → ℕ → Type 0

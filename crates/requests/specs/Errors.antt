@@ -1,16 +1,17 @@
 -- Why a request is no call, as text.
 use Rattle.std.specs.Prelude.{ℕ, List, [], ◌∷◌, ◌++◌}
 use Rattle.text.specs.Printed.{line_feed}
+use Rattle.text.specs.declared.number.NumberError.TheVariants.{NotANumber, TooLarge}
 use Rattle.requests.specs.declared.request.Reason.{Reason}
-use Rattle.requests.specs.declared.request.Reason.TheVariants.{UnknownCall, NotANumber, NumberTooLarge, MissingNumber, ExtraNumber, LineTooLong}
+use Rattle.requests.specs.declared.request.Reason.TheVariants.{UnknownCall, Number, MissingNumber, ExtraNumber, LineTooLong}
 
 abbrev pub reason_text : Reason → List ℕ
 -- "unknown call"
 reason_text UnknownCall = 117 ∷ 110 ∷ 107 ∷ 110 ∷ 111 ∷ 119 ∷ 110 ∷ 32 ∷ 99 ∷ 97 ∷ 108 ∷ 108 ∷ []
 -- "not a number"
-reason_text NotANumber = 110 ∷ 111 ∷ 116 ∷ 32 ∷ 97 ∷ 32 ∷ 110 ∷ 117 ∷ 109 ∷ 98 ∷ 101 ∷ 114 ∷ []
+reason_text (Number NotANumber) = 110 ∷ 111 ∷ 116 ∷ 32 ∷ 97 ∷ 32 ∷ 110 ∷ 117 ∷ 109 ∷ 98 ∷ 101 ∷ 114 ∷ []
 -- "number too large"
-reason_text NumberTooLarge =
+reason_text (Number TooLarge) =
     110 ∷ 117 ∷ 109 ∷ 98 ∷ 101 ∷ 114 ∷ 32 ∷ 116 ∷ 111 ∷ 111 ∷ 32 ∷ 108 ∷ 97 ∷ 114 ∷ 103 ∷ 101 ∷ []
 -- "missing number"
 reason_text MissingNumber =

@@ -1,24 +1,25 @@
 -- What a line of text asks for.
-use Rattle.std.specs.Prelude.{ℕ, zero, suc, ◌-◌, ◌%◌, min, ◌≤◌, ◌≡◌, Bool, true, cond, List, [], ◌∷◌, ltb, eqb, length, get_or, take, drop, replicate, Option, Some, None, Result, Ok, Err, IfOk}
+use Rattle.std.specs.Prelude.{ℕ, zero, suc, ◌-◌, ◌%◌, min, ◌≤◌, ◌≡◌, Bool, true, false, cond, List, [], ◌∷◌, ltb, eqb, length, get_or, take, drop, replicate, Option, Some, None, Result, Ok, Err, IfOk}
 use Rattle.std.proofs.lemmas.List.Edits.{sets}
 use Rattle.std.proofs.Math.Seq.{slice}
 use Rattle.rules.specs.Calls as rules
-use Rattle.rules.specs.Calls.{Call, preview, commit, move, offer, replan_latest, replan_lines, enquire, board, withdraw}
+use Rattle.rules.specs.Calls.{Call, preview, commit, move, offer, replan_latest, replan_lines, enquire, board, withdraw, not_held}
 use Rattle.text.specs.Numbers.{number_of}
 use Rattle.text.specs.Parts.{split}
 use Rattle.text.specs.declared.number.NumberError.{NumberError}
-use Rattle.text.specs.declared.number.NumberError.TheVariants as number
 use Rattle.requests.specs.Words.{named}
 use Rattle.requests.specs.declared.request.Reason.{Reason}
-use Rattle.requests.specs.declared.request.Reason.TheVariants.{UnknownCall, NotANumber, NumberTooLarge, MissingNumber, ExtraNumber, LineTooLong}
+use Rattle.requests.specs.declared.request.Reason.TheVariants.{UnknownCall, Number, MissingNumber, ExtraNumber, LineTooLong}
 use Rattle.requests.specs.declared.word.CallName.{CallName}
 use Rattle.requests.specs.declared.word.CallName.TheVariants.{Open, Preview, Commit, Move, Offer, Latest, Lines, Enquire, Board, Withdraw}
 use Rattle.station.specs.Opened as opened
 use Rattle.station.specs.Opened.{asked_of}
 use Rattle.calls.specs.Applied as applied
+use Rattle.calls.specs.declared.Call as declared_call
 use Rattle.requests.specs.declared.request.Request as declared
 use Rattle.requests.specs.declared.request.Request.TheVariants as request
-use Rattle.requests.specs.declared.request.Takes.{Takes}
+use Rattle.std.specs.declared.ops.Range.{Range}
+use Rattle.std.specs.declared.ops.RangeInclusive.{RangeInclusive}
 
 -- What is asked for: nothing, an opening, a call of the station that stands; or why none of these.
 pub data Asked : Type 0 where
@@ -29,10 +30,10 @@ pub data Asked : Type 0 where
 
 -- How many numbers a call takes, at least and at most. An opening takes the settings of one to four feeders. An offer and a board take as
 -- many as a request can hold: after `offer` or `board` 4,091 bytes are left, and a number with the space before it has two at least. Those are 2,045, so that 2,048 are never passed.
-abbrev pub takes : ℕ → ℕ → Takes
-takes least most = record { least = least; most = most }
+abbrev pub takes : ℕ → ℕ → RangeInclusive ℕ
+takes least most = record { start = least; end = most; exhausted = false }
 
-abbrev pub taken : CallName → Takes
+abbrev pub taken : CallName → RangeInclusive ℕ
 taken Open = takes 5 14
 taken Preview = takes 5 5
 taken Commit = takes 6 6
@@ -44,14 +45,17 @@ taken Enquire = takes 1 1
 taken Board = takes 1 2048
 taken Withdraw = takes 1 1
 
--- why a word is no number, as a reason why a request is no call
-abbrev pub reason_of : NumberError → Reason
-reason_of number.NotANumber = NotANumber
-reason_of number.TooLarge = NumberTooLarge
+-- the number that a word says; why it says none is why the request is no call
+abbrev pub as_reason : Result ℕ NumberError → Result ℕ Reason
+as_reason (Ok n) = Ok n
+as_reason (Err e) = Err (Number e)
+
+abbrev pub read_word : List ℕ → Result ℕ Reason
+read_word word = as_reason (number_of word)
 
 -- a number in front of those that follow it; the first word that is wrong decides
-abbrev pub followed : Result ℕ NumberError → Result (List ℕ) Reason → Result (List ℕ) Reason
-followed (Err e) rest = Err (reason_of e)
+abbrev pub followed : Result ℕ Reason → Result (List ℕ) Reason → Result (List ℕ) Reason
+followed (Err reason) rest = Err reason
 followed (Ok n) (Err reason) = Err reason
 followed (Ok n) (Ok ns) = Ok (n ∷ ns)
 
@@ -59,21 +63,21 @@ followed (Ok n) (Ok ns) = Ok (n ∷ ns)
 unfoldable pub read_numbers : ℕ → ℕ → List (List ℕ) → Result (List ℕ) Reason
 read_numbers least most [] = cond (ltb 0 least) (Err MissingNumber) (Ok [])
 read_numbers least zero (word ∷ words) = Err ExtraNumber
-read_numbers least (suc most) (word ∷ words) = followed (number_of word) (read_numbers (least - 1) most words)
+read_numbers least (suc most) (word ∷ words) = followed (read_word word) (read_numbers (least - 1) most words)
 
 -- the numbers that stand in the list lent for them, at its front: those from the left, up to the first word that is none
-abbrev pub before : Result ℕ NumberError → List ℕ → List ℕ
-before (Err e) ns = []
+abbrev pub before : Result ℕ Reason → List ℕ → List ℕ
+before (Err reason) ns = []
 before (Ok n) ns = n ∷ ns
 
 unfoldable pub values_read : ℕ → List (List ℕ) → List ℕ
 values_read most [] = []
 values_read zero (word ∷ words) = []
-values_read (suc most) (word ∷ words) = before (number_of word) (values_read most words)
+values_read (suc most) (word ∷ words) = before (read_word word) (values_read most words)
 
--- the list that is lent to a move or a board: at most 4,096 places
+-- the list that is lent to a move or a board: at most 4,096 places, each of which says at first that no ticket is held
 abbrev pub lent_list : ℕ → List ℕ
-lent_list places = replicate (min places 4096) 4294967295
+lent_list places = replicate (min places 4096) not_held
 
 -- the count, W, and the settings of four feeders: "feeders that are not given count as 0 0 0"
 abbrev pub asked_from : List ℕ → rules.Asked
@@ -102,11 +106,11 @@ called name (Err reason) = error reason
 
 unfoldable pub read_call : Option CallName → List (List ℕ) → Asked
 read_call None words = error UnknownCall
-read_call (Some name) words = called name (read_numbers (taken name).least (taken name).most words)
+read_call (Some name) words = called name (read_numbers (taken name).start (taken name).end words)
 
 abbrev pub call_values : Option CallName → List (List ℕ) → List ℕ
 call_values None words = []
-call_values (Some name) words = values_read (taken name).most words
+call_values (Some name) words = values_read (taken name).end words
 
 -- an empty text, or one that begins with `#`
 abbrev pub passed_over : List ℕ → Bool
@@ -138,7 +142,7 @@ numbers_read (Err reason) list = Err reason
 abbrev pub meaning : declared.Request → List ℕ → Asked
 meaning request.Nothing list = nothing
 meaning (request.Open x) list = opening (asked_of x)
-meaning (request.Call c from until places) list = call (applied.call_of c (slice from until list) (lent_list places))
+meaning (request.Call c read places) list = call (applied.call_of c (slice read.start read.end list) (lent_list places))
 
 abbrev pub asked_by : Result declared.Request Reason → List ℕ → Asked
 asked_by (Ok r) list = meaning r list
@@ -155,7 +159,22 @@ Lent applied.both until places = Unit {0}
 abbrev pub Fits : ℕ → declared.Request → Type 0
 Fits k request.Nothing = Unit {0}
 Fits k (request.Open x) = Unit {0}
-Fits k (request.Call c from until places) = (from ≤ until) × ((until ≤ k) × Lent (applied.lends c) until places)
+Fits k (request.Call c read places) = (read.start ≤ read.end) × ((read.end ≤ k) × Lent (applied.lends c) read.end places)
+
+-- no numbers, and those behind the first, by their places
+abbrev pub no_numbers : Range ℕ
+no_numbers = record { start = 0; end = 0 }
+
+abbrev pub behind_first : List ℕ → Range ℕ
+behind_first ns = record { start = min (length ns) 1; end = length ns }
+
+-- A call with what is lent to it: those of its numbers that stand behind the first to one that reads; so many places to one that writes,
+-- by its first number where it reads too.
+abbrev pub with_lent : applied.Lends → declared_call.Call → List ℕ → declared.Request
+with_lent applied.none c ns = request.Call c no_numbers 0
+with_lent applied.reads c ns = request.Call c (behind_first ns) 0
+with_lent applied.writes c ns = request.Call c no_numbers (get_or ns 1 0)
+with_lent applied.both c ns = request.Call c (behind_first ns) (get_or ns 0 0)
 
 -- The code's call of a name with its numbers: what it means, and what is lent beside it.
 pub record Calls (name : CallName) (ns : List ℕ) (r : Result declared.Request Reason) : Type 0 where
@@ -163,10 +182,10 @@ pub record Calls (name : CallName) (ns : List ℕ) (r : Result declared.Request 
   pub call_fits : IfOk r (Fits (length ns))
 
 -- Numbers were read so: what they are, that they are not too many, and the whole of the list lent for them.
-pub record TakesNumbers (takes : Takes) (words : List (List ℕ)) (list after : List ℕ) (r : Result ℕ Reason) : Type 0 where
-  pub numbers_are : numbers_read r after ≡ read_numbers takes.least takes.most words
-  pub few : IfOk r (λ count. count ≤ takes.most)
-  pub list_is : after ≡ sets list 0 (values_read takes.most words)
+pub record TakesNumbers (takes : RangeInclusive ℕ) (words : List (List ℕ)) (list after : List ℕ) (r : Result ℕ Reason) : Type 0 where
+  pub numbers_are : numbers_read r after ≡ read_numbers takes.start takes.end words
+  pub few : IfOk r (λ count. count ≤ takes.end)
+  pub list_is : after ≡ sets list 0 (values_read takes.end words)
 
 -- A request was read so: what it asks for, and the whole of the list lent for its numbers.
 pub record Asks (asked : Asked) (values list after : List ℕ) (r : Result declared.Request Reason) : Type 0 where

@@ -1,6 +1,6 @@
 // The requests to a station: a call is read from a line of text, or the reason printed why it is none.
 //
-// No contract speaks of input or output: everything here is a function on slices.
+// No contract speaks of input or output: what is here takes and gives values.
 #![tactic(auto)]
 
 mod error;
@@ -8,4 +8,4 @@ mod request;
 mod word;
 
 pub use error::print_error;
-pub use request::{Reason, Request, fill_lent, places_lent, read_request};
+pub use request::{LENT, LONGEST, MOST, Reason, Request, places_lent, read_request};

@@ -1,5 +1,5 @@
 -- The test of a candidate start, step by step, is the rules' test.
-use Prim.Native.Nat.{ℕ, ◌+◌, ◌≤◌}
+use Prim.Native.Nat.{ℕ, ◌+◌, ◌-◌, ◌≤◌}
 use mathlib.Core.Path.{◌≡◌, refl, sym, ◌∙◌, ap}
 use mathlib.Core.Bool.{Bool, true, false, not}
 use mathlib.Core.List.{[]}
@@ -11,27 +11,20 @@ use Rattle.rules.specs.Load.{counts, sound_counts}
 use Rattle.rules.specs.Search.{added}
 use Rattle.rules.specs.Candidate.{tested_by}
 use Rattle.rules.proofs.TestedStarts.{tested_fails, tested_passes, tested_same, looked_bounds, counts_own}
-use Rattle.profile.specs.Steps.{minutes_of, counts_of, In}
-use Rattle.profile.specs.Shows.{Profile, draw_of, levels}
+use Rattle.profile.specs.Steps.{counts_of, In}
+use Rattle.profile.specs.Shows.{Profile, draw_of, line_of, levels}
 use Rattle.profile.specs.declared.loads.Draw.{Draw}
 use Rattle.profile.specs.declared.steps.Step.{Step}
 use Rattle.profile.proofs.Lines.{sound_tests}
 use Rattle.search.specs.Numbers.{limits_beside, with_draw}
 use Rattle.search.specs.Rooms.{Visit, FailsIn, FirstFailing}
-use Rattle.search.specs.Candidates.{tested_of, fits_in, TestedAs, TestShows}
+use Rattle.search.specs.Candidates.{tested_of, fits_in, TestedAs, TestShows, CanFit}
 use Rattle.search.specs.declared.limits.Limits.{Limits}
 use Rattle.search.specs.declared.walk.Failing.{Failing}
+use Rattle.search.proofs.Sounds.{alone_sound}
 use Rattle.search.proofs.Within.{step_with}
 
 -- One step
-
--- in a step the levels, and so the test, are the same in every minute
-pub step_same :
-    (p : Profile) (y : Limits) (a : Draw) {i : ℕ} (t u : ℕ) → In (minutes_of p) (length p) i t → In (minutes_of p) (length p) i u
-    → fits_in p y a t ≡ fits_in p y a u
-step_same p y a t u h j = step_with p y a t h ∙ sym (step_with p y a u j)
-
--- The test
 
 module _ {p : Profile} (y : Limits) (a : Draw) where
   -- where the counts of a step, with the charge, are sound all its minutes pass, and else it fails at once
@@ -40,7 +33,7 @@ module _ {p : Profile} (y : Limits) (a : Draw) where
       → b ≡ sound_counts (limits_beside y []) (with_draw (counts_of held) a) → r ≡ then_some (not b) t → FailsIn (fits_in p y a) p until i t r
   step_told {until} {i} {t} {held} {b} u sound e = rw e (told b refl)
     where
-      here_is : {c : Bool} → b ≡ c → (v : ℕ) → In (minutes_of p) (length p) i v → fits_in p y a v ≡ c
+      here_is : {c : Bool} → b ≡ c → (v : ℕ) → In p i v → fits_in p y a v ≡ c
       here_is g v h = step_with p y a v h ∙ sym (rw u.item at sound) ∙ g
 
       told : (c : Bool) → b ≡ c → FailsIn (fits_in p y a) p until i t (then_some (not c) t)
@@ -59,11 +52,12 @@ module _ {p : Profile} (y : Limits) (a : Draw) where
       {start until : ℕ} {r : Option Failing} → until ≡ start + a.time → FirstFailing (fits_in p y a) p start until r → TestedAs p y a start r
   test_told {start} {r = None} all h =
       record {
+        first = rw (← all) h;
         same = sym (tested_passes (fits_in p y a) a.time start (λ v c d. h v c (omega arith)));
-        inside = tt;
       }
   test_told {start} {r = Some m} all x =
       record {
+        first = rw (← all) x;
         same =
             ap (λ (v : ℕ). record { fits = false; looked = v }) (omega arith)
             ∙ sym (tested_fails (fits_in p y a) a.time start m.minute
@@ -73,8 +67,15 @@ module _ {p : Profile} (y : Limits) (a : Draw) where
               passed = x.passed;
               fails = x.fails m.minute (omega arith) x.inside;
             }));
-        inside = (x.low, x.inside);
       }
+
+pub tested_first : {p : Profile} {y : Limits} {a : Draw} {start : ℕ} {r : Option Failing} → TestedAs p y a start r → FirstFailing (fits_in p y a) p start (start + a.time) r
+tested_first h = h.first
+
+-- in the last step the charge is alone
+pub fits_rests :
+    {p : Profile} {y : Limits} {a : Draw} {start : ℕ} → CanFit p y a start → (t : ℕ) → In p (length p - 1) t → fits_in p y a t ≡ true
+fits_rests {p} {y} {a} can t h = step_with p y a t h ∙ alone_sound [] (λ l. line_of p l (length p - 1)) can.alone can.can.empty
 
 -- What the answer says of the loads that a profile shows
 

@@ -7,6 +7,6 @@ pub mod Within
 pub mod Unsounds
 pub mod Starts
 pub mod Candidates
-pub mod Fittings
+pub mod Passings
 pub mod Lowerings
 pub mod Unders

@@ -79,13 +79,13 @@ unlowered_shown a site n {m} w e =
 -- A list lowered
 
 -- b is a with the first k places at most t
-pub record Lowering (a b : List ℕ) (t k : ℕ) : Type 0 where
+pub record FirstLowered (a b : List ℕ) (t k : ℕ) : Type 0 where
   pub before : (m : ℕ) → m < k → get_or b m 0 ≡ min (get_or a m 0) t
   pub after : (m : ℕ) → k ≤ m → get_or b m 0 ≡ get_or a m 0
 
 -- b is what the places from n on became
 pub lowering_done :
-    (n : ℕ) {a b : List ℕ} {t k m j : ℕ} → length a ≡ 61 → k ≡ min n 61 → m ≡ 61 - k → Lowering (mid_of k m a) b t j → length b ≡ m → m ≤ j
+    (n : ℕ) {a b : List ℕ} {t k m j : ℕ} → length a ≡ 61 → k ≡ min n 61 → m ≡ 61 - k → FirstLowered (mid_of k m a) b t j → length b ≡ m → m ≤ j
     → Lowered a (put_mid k m a b) t n
 lowering_done n {k = k} full begins some w size all = record { before = λ i h. grind (arith, places); after = λ i h. grind (arith, places, w.before (i - k)) }
 

@@ -1,20 +1,19 @@
--- Room in a minute and in a step, and the search over the answers of `first_failing`.
-use Prim.Native.Nat.{ℕ, ◌+◌, ◌-◌, ◌^◌, ◌≤◌, ◌<◌, max}
-use mathlib.Core.Path.{◌≡◌, refl, sym, ◌∙◌, ap, subst}
-use mathlib.Core.Bool.{Bool, true, false, cond, ◌||◌, or-true, true≢false}
+-- Room in a minute and in a step, and what an answer of `first_failing` says.
+use Prim.Native.Nat.{ℕ, ◌+◌, ◌^◌, ◌≤◌, ◌<◌, max}
+use mathlib.Core.Path.{◌≡◌, refl, ◌∙◌, ap, subst}
+use mathlib.Core.Bool.{Bool, true, false, cond, ◌||◌, or-true}
 use mathlib.Core.Logic.{⊎_elim}
 use native.Mathlib.Omega.{arith}
 use borrow.Author.Tests.{lt-ltb, le-ltb, le-leb, lt-leb}
 use lib.Dec.{ltb}
-use lib.ListN.{length, get_or}
 use Rattle.std.specs.Prelude.{Option, Some, None}
 use Rattle.std.specs.Bool.{then_some}
 use Rattle.rules.proofs.Ranges.{below_or_not}
-use Rattle.profile.specs.Steps.{minutes_of, In, Rising}
-use Rattle.profile.specs.Shows.{Profile, last_minute}
+use Rattle.profile.specs.Steps.{In}
+use Rattle.profile.specs.Shows.{Profile}
 use Rattle.profile.specs.declared.steps.Step.{Step}
-use Rattle.profile.proofs.Levels.{at_step, in_more, rising_le}
-use Rattle.search.specs.Rooms.{has_room, End, Visit, FailsAt, FailsIn, FirstFailing, Misses, Least}
+use Rattle.profile.proofs.Levels.{in_more}
+use Rattle.search.specs.Rooms.{has_room, End, Visit, FailsAt, FailsIn, FirstFailing}
 use Rattle.search.specs.declared.walk.Failing.{Failing}
 
 -- Room
@@ -41,11 +40,11 @@ room_cond false t = room_after 0 t (omega arith) (omega arith)
 -- in step i there is room up to, and without, the minute `room`
 pub room_told :
     {f : ℕ → Bool} {p : Profile} {until i end m t : ℕ} {held : Step} {r : Option ℕ} (room : ℕ) → Visit p until i held t
-    → ((v : ℕ) → In (minutes_of p) (length p) i v → f v ≡ has_room room v) → End p i until end → m ≡ max t room → until < 2 ^ 32
+    → ((v : ℕ) → In p i v → f v ≡ has_room room v) → End p i until end → m ≡ max t room → until < 2 ^ 32
     → r ≡ then_some (ltb m end) m → FailsIn f p until i t r
 room_told {f} {p} {until} {i} {end} {m} {t} room u same e top small is = rw is (⊎_elim ends goes (below_or_not m end))
   where
-    inside : (v : ℕ) → t ≤ v → v < end → In (minutes_of p) (length p) i v
+    inside : (v : ℕ) → t ≤ v → v < end → In p i v
     inside v a b = in_more v u.rises u.inside a (λ h. omega (arith, e.within h))
 
     ends : m < end → FailsIn f p until i t (then_some (ltb m end) m)
@@ -80,56 +79,3 @@ pub told_nothing :
     (f : ℕ → Bool) (p : Profile) (from until : ℕ) (r : Option Failing) → FirstFailing f p from until r → r ≡ None → (t : ℕ) → from ≤ t → t < until
     → f t ≡ true
 told_nothing f p from until r h e = subst (λ (r : Option Failing). FirstFailing f p from until r) e h
-
--- The search
-
--- no start below s will do
-pub record Seek (f : ℕ → Bool) (p : Profile) (time start i s : ℕ) : Type 0 where
-  pub low : start ≤ s
-  pub high : s ≤ last_minute p
-  pub here : In (minutes_of p) (length p) i s
-  pub failed : (j : ℕ) → start ≤ j → j < s → Misses f time j
-
--- in the last step every minute passes the test, and of those from s on minute m of step k fails it
-module _ {f : ℕ → Bool} {p : Profile} {time start i s until m k : ℕ} (r : Rising (minutes_of p) (length p))
-    (rests : (t : ℕ) → In (minutes_of p) (length p) (length p - 1) t → f t ≡ true) (w : Seek f p time start i s) (h : FailsAt f p s until m k) where
-  pub seek_below : k + 1 < length p
-  seek_below = ⊎_elim (λ a. a) (λ a. absurd (true≢false (last a))) (below_or_not (k + 1) (length p))
-    where
-      last : length p ≤ k + 1 → true ≡ false
-      last a =
-          let e : k ≡ length p - 1 = omega (arith, h.inside.below) in
-          sym (rests m (subst (λ (x : ℕ). In (minutes_of p) (length p) x m) e h.inside)) ∙ h.fails m (omega arith) h.inside
-
-  -- the next start is the beginning u of the next step
-  pub seek_on : {j u : ℕ} → until ≡ s + time → j ≡ k + 1 → u ≡ get_or (minutes_of p) (k + 1) 0 → Seek f p time start j u
-  seek_on {j} {u} all next begins =
-      rw (next, begins)
-      (record {
-        low = omega (arith, w.low, h.low, end);
-        high = rising_le (minutes_of p) (length p) r (k + 1) (length p - 1) (omega (arith, seek_below)) (omega (arith, seek_below));
-        here = at_step (minutes_of p) (length p) (k + 1) r seek_below;
-        failed = λ j a b.
-            ⊎_elim
-            (λ x. w.failed j a x)
-            (λ x. ⊎_elim
-            (λ y.
-            record {
-              minute = j;
-              low = omega arith;
-              high = omega (arith, h.low, h.high);
-              fails = h.fails j (omega arith) (in_more j r h.inside (omega arith) (λ z. b));
-            })
-            (λ y. record { minute = m; low = y; high = omega (arith, h.high); fails = h.fails m (omega arith) h.inside })
-            (below_or_not m j))
-            (below_or_not j s);
-      })
-    where
-      end : m < get_or (minutes_of p) (k + 1) 0
-      end = h.inside.later (k + 1) (omega arith) seek_below
-
-pub seek-done :
-    {f : ℕ → Bool} {p : Profile} {time start i s until r : ℕ} → Seek f p time start i s → r ≡ s → until ≡ s + time →
-    ((t : ℕ) → s ≤ t → t < until → f t ≡ true) → Least f time start r × (r ≤ last_minute p)
-seek-done w e all h =
-    rw e (record { low = w.low; passes = λ t a b. h t a (omega arith); failed = w.failed }, w.high)

@@ -7,13 +7,13 @@ use mathlib.Core.Logic.{◌⊎◌, inl, inr, ⊎_elim}
 use native.Mathlib.Omega.{arith}
 use lib.ListN.{length}
 use Rattle.std.specs.Prelude.{Option, Some, None}
+use Rattle.std.specs.declared.ops.Range.{Range}
 use Rattle.rules.specs.Load.{Load, load_from, counts, last_until, sound_counts, sound}
 use Rattle.rules.specs.Search.{added, earliest}
 use Rattle.rules.proofs.Ranges.{fails, below_or_not, first-is, first_nothing}
 use Rattle.rules.proofs.Counts.{draws_before, draws_after, draws_in, count_past, sound_at_lem, sound_all, sound_from_lem, sound_true}
 use Rattle.rules.proofs.Searches.{count_added}
 use Rattle.profile.specs.Minutes.{Fails}
-use Rattle.profile.specs.Steps.{minutes_of}
 use Rattle.profile.specs.Shows.{Profile, draw_of, line_of, level_of, first_minute, last_minute, Shows, found_at}
 use Rattle.profile.specs.declared.loads.Draw.{Draw}
 use Rattle.profile.proofs.Lines.{sound_tests}
@@ -24,7 +24,6 @@ use Rattle.search.specs.Rooms.{Least}
 use Rattle.search.specs.Candidates.{fits_in}
 use Rattle.search.specs.Starts.{CanStart, sound_in, sound_with, UnsoundWithin, UnsoundIf, UnsoundMinutes, StartsIf, EarliestStart, Earliest}
 use Rattle.search.specs.declared.limits.Limits.{Limits}
-use Rattle.search.specs.declared.start.Unsound.{Unsound}
 
 -- One more load
 
@@ -43,7 +42,7 @@ module _ (p : Profile) (y : Limits) (a : Draw) (s t : ℕ) where
 
 -- no minute is unsound: r is the smallest start from the first minute on that fits in all its minutes
 pub start_anywhere :
-    {p : Profile} {y : Limits} (a : Draw) {u : Option Unsound} {start r : ℕ} → UnsoundMinutes p y u → u ≡ None → start ≡ first_minute p
+    {p : Profile} {y : Limits} (a : Draw) {u : Option (Range ℕ)} {start r : ℕ} → UnsoundMinutes p y u → u ≡ None → start ≡ first_minute p
     → Least (fits_in p y a) a.time start r × (r ≤ last_minute p) → EarliestStart p y a (Some r)
 start_anywhere {p} {y} a {u} {start} {r} w none b m =
     record {
@@ -70,20 +69,20 @@ start_anywhere {p} {y} a {u} {start} {r} w none b m =
     go t i (inr c) (inl d) = with_in p y a r t c d ∙ m.0.passes t c d
     go t i (inr c) (inr d) = with_out p y a r t (inr d) ∙ all t i
 
-pub told_unsound : {p : Profile} {y : Limits} {r : Option Unsound} {u : Unsound} → UnsoundMinutes p y r → r ≡ Some u → UnsoundWithin p y u.first u.end
+pub told_unsound : {p : Profile} {y : Limits} {r : Option (Range ℕ)} {minutes : Range ℕ} → UnsoundMinutes p y r → r ≡ Some minutes → UnsoundWithin p y minutes
 told_unsound {p} {y} w e = subst (UnsoundIf p y) e w.answer
 
 -- r is the smallest start, from the first minute on and reaching the end of what is unsound, that fits in all its minutes
-module _ {p : Profile} {y : Limits} (a : Draw) {start first end r : ℕ} (u : UnsoundWithin p y first end)
-    (b : start ≡ max (first_minute p) (end - a.time)) (m : Least (fits_in p y a) a.time start r) where
+module _ {p : Profile} {y : Limits} (a : Draw) {minutes : Range ℕ} {start r : ℕ} (u : UnsoundWithin p y minutes)
+    (b : start ≡ max (first_minute p) (minutes.end - a.time)) (m : Least (fits_in p y a) a.time start r) where
   short : (s : ℕ) → first_minute p ≤ s → s < r → Fails (sound_with p y a s) (first_minute p)
   short s i c =
       ⊎_elim
       (λ lt.
       record {
-        minute = end - 1;
+        minute = minutes.end - 1;
         low = omega (arith, u.low, u.order);
-        fails = with_out p y a s (end - 1) (inr (omega arith)) ∙ u.last_fails;
+        fails = with_out p y a s (minutes.end - 1) (inr (omega arith)) ∙ u.last_fails;
       })
       (λ ge.
       let x = m.failed s ge c in
@@ -95,7 +94,7 @@ module _ {p : Profile} {y : Limits} (a : Draw) {start first end r : ℕ} (u : Un
       (below_or_not s start)
 
   -- every unsound minute lies in the load
-  pub start_covers : r ≤ last_minute p → r ≤ first → EarliestStart p y a (Some r)
+  pub start_covers : r ≤ last_minute p → r ≤ minutes.start → EarliestStart p y a (Some r)
   start_covers near le =
       record {
         answer =
@@ -113,13 +112,13 @@ module _ {p : Profile} {y : Limits} (a : Draw) {start first end r : ℕ} (u : Un
       go t i (inr c) (inr d) = with_out p y a r t (inr d) ∙ u.after t (omega (arith, m.low))
 
   -- one lies before it
-  pub start_late : first < r → EarliestStart p y a None
+  pub start_late : minutes.start < r → EarliestStart p y a None
   start_late lt =
       record {
         answer = λ s i.
             ⊎_elim
             (λ c. short s i c)
-            (λ c. record { minute = first; low = u.low; fails = with_out p y a s first (inl (omega arith)) ∙ u.first_fails })
+            (λ c. record { minute = minutes.start; low = u.low; fails = with_out p y a s minutes.start (inl (omega arith)) ∙ u.first_fails })
             (below_or_not s r);
       }
 
@@ -157,7 +156,7 @@ module _ {p : Profile} {clock : ℕ} {loads : List Load} (s : Shows p clock load
         small = shows_small p clock loads s few;
         empty = λ l h.
             let t = max (last_minute p) (max clock (last_until loads)) in
-            sym (level_in (minutes_of p) (line_of p l) (length p) (length p - 1) t (last_step (minutes_of p) (length p) t s.formed.some (omega arith)))
+            sym (level_in p (line_of p l) (last_step p t s.formed.some (omega arith)))
             ∙ s.counted l h t (omega arith)
             ∙ count_past loads l t (omega arith);
         ends_fit = omega (arith, s.ends (length p - 1) (omega (arith, s.formed.some)));

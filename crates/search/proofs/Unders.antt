@@ -14,7 +14,7 @@ use Rattle.rules.specs.Load.{draw, Load, IsLine, whole_of, counts}
 use Rattle.rules.specs.Search.{Caps, room_for, fits_under}
 use Rattle.rules.proofs.Ranges.{fails, throughout_at}
 use Rattle.rules.proofs.Fitting.{run_is, fits_run_lem}
-use Rattle.profile.specs.Steps.{minutes_of, empty_step, In}
+use Rattle.profile.specs.Steps.{empty_step, In}
 use Rattle.profile.specs.Shows.{Profile, line_of, level_of, levels, last_minute, Shows}
 use Rattle.profile.specs.declared.steps.Step.{Step}
 use Rattle.profile.proofs.Lines.{line_column}
@@ -35,12 +35,12 @@ room_and false room t = room_after 0 t (omega arith) (omega arith) ∙ sym (and-
 -- in a step the room is that of its counts
 pub step_room :
     (p : Profile) (c : LineCaps) (line rate i : ℕ) {x : ℕ} → x ≡ under_in c line rate (get_or p i (empty_step 0))
-    → (v : ℕ) → In (minutes_of p) (length p) i v → room_under p c line rate v ≡ has_room x v
+    → (v : ℕ) → In p i v → room_under p c line rate v ≡ has_room x v
 step_room p c line rate i e v h =
     ap (λ (x : ℕ). has_room (caps_of c line (x + rate)) v && leb (whole_of (levels p v) + rate) c.site)
-    (level_in (minutes_of p) (line_of p line) (length p) i v h)
+    (level_in p (line_of p line) h)
     ∙ ap (λ (x : ℕ). has_room (caps_of c line (line_of p line i + rate)) v && leb (x + rate) c.site)
-    (whole_columns (levels p v) (λ l. line_of p l i) (λ l j. level_in (minutes_of p) (line_of p l) (length p) i v h))
+    (whole_columns (levels p v) (λ l. line_of p l i) (λ l j. level_in p (line_of p l) h))
     ∙ sym (room_and (leb (whole_of (λ l. line_of p l i) + rate) c.site) (caps_of c line (line_of p line i + rate)) v)
     ∙ ap (λ (x : ℕ). has_room x v) (sym e)
 
@@ -54,7 +54,7 @@ under_told {p} c line rate {i = i} {x = x} u small at e top is = room_told x u (
 
 module _ {p : Profile} {c : LineCaps} {line time rate : ℕ} (can : CanStart p time) (h : IsLine line) (full : CanCap c line rate) where
   -- in the last step one more load is alone
-  pub under_rests : (t : ℕ) → In (minutes_of p) (length p) (length p - 1) t → room_under p c line rate t ≡ true
+  pub under_rests : (t : ℕ) → In p (length p - 1) t → room_under p c line rate t ≡ true
   under_rests t i = step_room p c line rate (length p - 1) alone t i ∙ room_always (caps_of c line rate) t full.some
     where
       last : ℕ

@@ -20,23 +20,23 @@ pub record Walk (f : ℕ → Bool) (p : Profile) (from until i : ℕ) : Type 0 w
 
 -- the walk begins in the step of minute `from`
 pub walk_begin :
-    {f : ℕ → Bool} {p : Profile} {from until step i : ℕ} → i ≡ step → In (minutes_of p) (length p) step from → Walk f p from until i
+    {f : ℕ → Bool} {p : Profile} {from until step i : ℕ} → i ≡ step → In p step from → Walk f p from until i
 walk_begin e h = rw e (record { passed = λ v a b c. absurd (omega (arith, h.begun, c h.below)) })
 
 -- the walk looks at step k, from minute t on
-module _ {p : Profile} {from step k i : ℕ} {held : Step} (r : Rising (minutes_of p) (length p)) (start : In (minutes_of p) (length p) step from)
+module _ {p : Profile} {from step k i : ℕ} {held : Step} (r : Rising p) (start : In p step from)
     (turn : IsStep p k i held) (low : step ≤ k) (t : ℕ) (begins : t ≡ max held.minute from) where
   -- it lies in the step
-  walk_inside : In (minutes_of p) (length p) i t
+  walk_inside : In p i t
   walk_inside =
       rw turn.number
       (⊎_elim
       (λ e.
       let q : from ≡ t = omega (arith, start.begun, turn.minute, ap (λ (x : ℕ). get_or (minutes_of p) x 0) e) in
-      subst (λ (x : ℕ). In (minutes_of p) (length p) x t) (sym e) (subst (λ (x : ℕ). In (minutes_of p) (length p) step x) q start))
+      subst (λ (x : ℕ). In p x t) (sym e) (subst (λ (x : ℕ). In p step x) q start))
       (λ ne.
       let q : get_or (minutes_of p) k 0 ≡ t = omega (arith, turn.minute, start.later k (omega (arith, ne, low)) turn.below) in
-      subst (λ (x : ℕ). In (minutes_of p) (length p) k x) q (at_step (minutes_of p) (length p) k r turn.below))
+      subst (λ (x : ℕ). In p k x) q (at_step p k r turn.below))
       (same_or_not k step))
 
   pub walk_visit : {until : ℕ} → t < until → Visit p until i held t

@@ -5,7 +5,7 @@ use mathlib.Core.List.{[]}
 use native.Mathlib.Omega.{arith}
 use lib.ListN.{length, get_or}
 use Rattle.rules.specs.Load.{sound_counts}
-use Rattle.profile.specs.Steps.{minutes_of, counts_of, empty_step, In}
+use Rattle.profile.specs.Steps.{counts_of, empty_step, In}
 use Rattle.profile.specs.Shows.{Profile, line_of, levels, first_minute, last_minute, Formed, Small}
 use Rattle.profile.specs.declared.loads.Draw.{Draw}
 use Rattle.profile.proofs.Lines.{sound_tests}
@@ -22,11 +22,11 @@ step_small {p} f s i h = λ l j. small_step p f s l j i h
 
 -- the counts of a step with one more load are those of its minutes
 pub step_with :
-    (p : Profile) (y : Limits) (a : Draw) {i : ℕ} (t : ℕ) → In (minutes_of p) (length p) i t
+    (p : Profile) (y : Limits) (a : Draw) {i : ℕ} (t : ℕ) → In p i t
     → sound_counts (limits_beside y []) (with_draw (levels p t) a) ≡ sound_counts (limits_beside y []) (with_draw (counts_of (get_or p i (empty_step 0))) a)
 step_with p y a {i} t h =
     sound_tests (limits_beside y []) (with_draw (levels p t) a) (with_draw (counts_of (get_or p i (empty_step 0))) a)
-    (λ l j. omega (arith, level_in (minutes_of p) (line_of p l) (length p) i t h))
+    (λ l j. omega (arith, level_in p (line_of p l) h))
 
 pub first_last : {p : Profile} {time : ℕ} → CanStart p time → first_minute p ≤ last_minute p
 first_last c = step_from c.formed (omega (arith, c.formed.some))

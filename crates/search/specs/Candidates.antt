@@ -1,11 +1,12 @@
 -- The test of a candidate start and the first start that fits, by the levels of a profile.
-use Rattle.std.specs.Prelude.{ℕ, ◌+◌, ◌-◌, ◌^◌, ◌≤◌, ◌<◌, ◌≡◌, Bool, true, false, List, [], length, Option, Some, None}
+use Rattle.std.specs.Prelude.{ℕ, ◌+◌, ◌-◌, ◌^◌, ◌≤◌, ◌<◌, ◌≡◌, Bool, true, false, List, [], Option, Some, None}
 use Rattle.rules.specs.Load.{Load, IsRate, sound_counts}
 use Rattle.rules.specs.Candidate.{Tested, tested_by, candidate}
-use Rattle.profile.specs.Steps.{minutes_of, In}
+use Rattle.profile.specs.Steps.{In}
 use Rattle.profile.specs.Shows.{Profile, draw_of, levels, first_minute, Formed, Small, Shows}
 use Rattle.profile.specs.declared.loads.Draw.{Draw}
 use Rattle.search.specs.Numbers.{limits_beside, with_draw, SoundAlone}
+use Rattle.search.specs.Rooms.{FirstFailing, FirstPassing}
 use Rattle.search.specs.Starts.{CanStart}
 use Rattle.search.specs.declared.limits.Limits.{Limits}
 use Rattle.search.specs.declared.walk.Failing.{Failing}
@@ -24,18 +25,13 @@ pub record CanTest (p : Profile) (a : Draw) (start step : ℕ) : Type 0 where
   pub formed : Formed p
   pub small : Small p
   pub is_rate : IsRate a.rate
-  pub inside : In (minutes_of p) (length p) step start
+  pub inside : In p step start
   pub ends_fit : start + a.time < 2 ^ 32
 
--- the failing minute is none before the start, and lies in the step that is told
-abbrev pub FailingIn : Profile → ℕ → Option Failing → Type 0
-FailingIn p start None = Unit {0}
-FailingIn p start (Some m) = (start ≤ m.minute) × In (minutes_of p) (length p) m.step m.minute
-
--- the answer has the verdict and the number of minutes of the rules' test, and the step of the minute that fails
+-- the answer is the first minute that fails, and has the verdict and the number of minutes of the rules' test
 pub record TestedAs (p : Profile) (y : Limits) (a : Draw) (start : ℕ) (r : Option Failing) : Type 0 where
+  pub first : FirstFailing (fits_in p y a) p start (start + a.time) r
   pub same : tested_of a.time start r ≡ tested_by (fits_in p y a) a.time start
-  pub inside : FailingIn p start r
 
 -- whatever loads p shows, the answer is that of the rules' test
 abbrev pub TestShows : Profile → Limits → Draw → ℕ → Option Failing → Type 0
@@ -53,16 +49,6 @@ pub record CanFit (p : Profile) (y : Limits) (a : Draw) (start : ℕ) : Type 0 w
   pub low : first_minute p ≤ start
   pub ends_fit : start + a.time < 2 ^ 32
 
--- a minute, of the `time` from s on and below `until`, that fails the test
-pub record FailsBelow (f : ℕ → Bool) (time s until : ℕ) : Type 0 where
-  pub minute : ℕ
-  pub low : s ≤ minute
-  pub high : minute < s + time
-  pub below : minute < until
-  pub fails : f minute ≡ false
-
 -- by the minutes below `until` every start before r fails; r fits, or reaches `until` or behind
-pub record FirstFitting (p : Profile) (y : Limits) (a : Draw) (start until r : ℕ) : Type 0 where
-  pub low : start ≤ r
-  pub failed : (s : ℕ) → start ≤ s → s < r → FailsBelow (fits_in p y a) a.time s until
-  pub fits : r + a.time ≤ until → (t : ℕ) → r ≤ t → t < r + a.time → fits_in p y a t ≡ true
+abbrev pub FirstFitting : Profile → Limits → Draw → ℕ → ℕ → ℕ → Type 0
+FirstFitting p y a start until r = FirstPassing (fits_in p y a) a.time start until r

@@ -1,5 +1,6 @@
 -- The smallest start of one more load, by the levels of a profile.
 use Rattle.std.specs.Prelude.{ℕ, ◌+◌, ◌-◌, ◌^◌, ◌≤◌, ◌<◌, ◌≡◌, Bool, true, false, List, [], length, Option, Some, None}
+use Rattle.std.specs.declared.ops.Range.{Range}
 use Rattle.rules.specs.Load.{Load, load_from, IsColumn, draws, sound_counts}
 use Rattle.rules.specs.Search.{earliest}
 use Rattle.profile.specs.Minutes.{Passes, Fails}
@@ -7,7 +8,6 @@ use Rattle.profile.specs.Shows.{Profile, draw_of, line_of, level_of, levels, fir
 use Rattle.profile.specs.declared.loads.Draw.{Draw}
 use Rattle.search.specs.Numbers.{limits_beside}
 use Rattle.search.specs.declared.limits.Limits.{Limits}
-use Rattle.search.specs.declared.start.Unsound.{Unsound}
 
 -- in the last step nothing is drawn
 abbrev pub EndsEmpty : Profile → Type 0
@@ -28,22 +28,22 @@ sound_in p y t = sound_counts (limits_beside y []) (levels p t)
 abbrev pub sound_with : Profile → Limits → Draw → ℕ → ℕ → Bool
 sound_with p y a s t = sound_counts (limits_beside y []) (λ l. level_of p l t + draws (load_from (draw_of a) s) l t)
 
--- every minute before `first` is sound, and every minute from `end` on; `first` is not, and neither is the minute before `end`
-pub record UnsoundWithin (p : Profile) (y : Limits) (first end : ℕ) : Type 0 where
-  pub low : first_minute p ≤ first
-  pub order : first < end
-  pub high : end ≤ last_minute p
-  pub before : (t : ℕ) → first_minute p ≤ t → t < first → sound_in p y t ≡ true
-  pub after : Passes (sound_in p y) end
-  pub first_fails : sound_in p y first ≡ false
-  pub last_fails : sound_in p y (end - 1) ≡ false
+-- every minute before these is sound, and every minute behind them; the first of them is not, and neither is the last
+pub record UnsoundWithin (p : Profile) (y : Limits) (minutes : Range ℕ) : Type 0 where
+  pub low : first_minute p ≤ minutes.start
+  pub order : minutes.start < minutes.end
+  pub high : minutes.end ≤ last_minute p
+  pub before : (t : ℕ) → first_minute p ≤ t → t < minutes.start → sound_in p y t ≡ true
+  pub after : Passes (sound_in p y) minutes.end
+  pub first_fails : sound_in p y minutes.start ≡ false
+  pub last_fails : sound_in p y (minutes.end - 1) ≡ false
 
 -- those minutes, or every minute is sound
-abbrev pub UnsoundIf : Profile → Limits → Option Unsound → Type 0
-UnsoundIf p y (Some u) = UnsoundWithin p y u.first u.end
+abbrev pub UnsoundIf : Profile → Limits → Option (Range ℕ) → Type 0
+UnsoundIf p y (Some minutes) = UnsoundWithin p y minutes
 UnsoundIf p y None = Passes (sound_in p y) (first_minute p)
 
-pub record UnsoundMinutes (p : Profile) (y : Limits) (r : Option Unsound) : Type 0 where
+pub record UnsoundMinutes (p : Profile) (y : Limits) (r : Option (Range ℕ)) : Type 0 where
   pub answer : UnsoundIf p y r
 
 -- r is the smallest start, from the first minute on, with which every minute is sound

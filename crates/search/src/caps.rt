@@ -21,6 +21,14 @@ pub struct LineCaps {
     pub site: u32,
 }
 
+// From the minute on the cap of the line is no longer above this one.
+#[derive(Clone, Copy)]
+pub struct Lowering {
+    pub line: u32,
+    pub minute: u32,
+    pub cap: u32,
+}
+
 // Counts below n are at or below the cap of the line in every minute.
 fn unlowered(n: usize) -> [u32; CAP_PLACES]
     requires { n ≤ cap_places }
@@ -56,13 +64,14 @@ impl LineCaps {
         }
     }
 
-    // The line's cap from t on becomes the smaller of itself and v.
-    pub fn lower(&mut self, line: u32, t: u32, v: u32)
-        requires { t < 4294967295 }
-        ensures { CapLowered self.old self.new line t v }
+    // From the minute on the line's cap becomes the smaller of itself and the one given; what is no line lowers none.
+    pub fn lower(&mut self, lowering: Lowering)
+        requires { lowering.minute < 4294967295 }
+        ensures { CapLowered self.old self.new lowering.line lowering.minute lowering.cap }
     {
-        let above = v as usize + 1;
-        match line {
+        let t = lowering.minute;
+        let above = lowering.cap as usize + 1;
+        match lowering.line {
             1 => lower_from(&mut self.one, above, t),
             2 => lower_from(&mut self.two, above, t),
             3 => lower_from(&mut self.three, above, t),
@@ -70,7 +79,7 @@ impl LineCaps {
         }
     }
 
-    // Up to which minute a count is at or below the cap of its line.
+    // Up to which minute a count is at or below the cap of its line; what is no line goes by the cap of line 3.
     pub fn under(&self, line: u32, count: usize) -> u32
         ensures { result ≡ caps_of self.now line count }
     {

@@ -7,6 +7,7 @@ ghost use Rattle.search.specs.Rooms.{SmallStep};
 
 use profile::loads::Draw;
 use profile::steps::Step;
+use rules::OTHERS;
 
 // The limit N, the bound D, and the site's limit W.
 #[derive(Clone, Copy)]
@@ -41,7 +42,7 @@ impl Limits {
             one: step.one + share(draw, 1),
             two: step.two + share(draw, 2),
             three: step.three + share(draw, 3),
-            others: step.others + share(draw, 4),
+            others: step.others + share(draw, OTHERS),
             ..step
         })
     }

@@ -10,6 +10,7 @@ use crate::candidate::first_fitting;
 use crate::limits::Limits;
 use profile::loads::Draw;
 use profile::steps::Step;
+use std::ops::Range;
 
 // The first start, not below the clock, that reaches the end.
 pub fn reaching(clock: u32, end: u32, time: u32) -> u32
@@ -18,24 +19,15 @@ pub fn reaching(clock: u32, end: u32, time: u32) -> u32
     clock.max(end.saturating_sub(time))
 }
 
-// Where the counts are not within both limits and the bound: in the minute `first` and not before, and not from the minute `end` on.
-#[derive(Clone, Copy)]
-pub struct Unsound {
-    pub first: u32,
-    pub end: u32,
-}
-
-// Where the counts are not within both limits and the bound, if anywhere; in the last step nothing is drawn.
-pub fn unsound_minutes(steps: &[Step], limits: Limits) -> Option<Unsound>
+// The minutes from the first up to the last in which the counts are not within both limits and the bound, if there is one; in the last
+// step nothing is drawn.
+pub fn unsound_minutes(steps: &[Step], limits: Limits) -> Option<Range<u32>>
     requires { Formed steps.now × EndsEmpty steps.now }
     ensures { UnsoundMinutes steps.now limits result }
 {
     let first = steps.iter().position(|step| !limits.allow(*step))?;
     let last = steps.iter().rposition(|step| !limits.allow(*step))?;
-    Some(Unsound {
-        first: steps[first].minute,
-        end: steps[last + 1].minute,
-    })
+    Some(steps[first].minute..steps[last + 1].minute)
 }
 
 // The smallest start, not below the one given, that fits in all its minutes. Every candidate is tested, since none ends behind the
@@ -63,5 +55,5 @@ pub fn earliest(steps: &[Step], limits: Limits, draw: Draw) -> Option<u32>
     };
     let start = reaching(clock, unsound.end, draw.time);
     let s = fitting_from(steps, limits, draw, start);
-    (s <= unsound.first).then_some(s)
+    (s <= unsound.start).then_some(s)
 }

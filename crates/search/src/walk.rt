@@ -1,15 +1,18 @@
-// Walks over the steps: where a step ends, the first minute that fails a test, and the first without room under the cap of a line.
-ghost use Rattle.std.specs.Prelude.{◌+◌, ◌<◌, length};
-ghost use Rattle.profile.specs.Steps.{minutes_of, In, Rising};
-ghost use Rattle.search.specs.Rooms.{End, Visit, Tells, FirstFailing};
+// Walks over the steps: where a step ends, the first minute that fails a test, the first without room under the cap of a line, and the first
+// start that passes a test.
+ghost use Rattle.std.specs.Prelude.{◌+◌, ◌<◌, ◌≤◌, max, length};
+ghost use Rattle.profile.specs.Steps.{In};
+ghost use Rattle.profile.specs.Shows.{last_minute, Formed};
+ghost use Rattle.search.specs.Rooms.{End, Visit, Tells, FirstFailing, CanSeek, Tried, Tests, Settled, FirstPassing};
 ghost use Rattle.search.specs.Caps.{room_under, CanRun};
 
 use crate::caps::LineCaps;
 use profile::loads::Draw;
-use profile::steps::Step;
+use profile::steps::{Step, place};
+use std::ops::Range;
 
-// Where step i ends, or what is looked at.
-pub fn end_of(steps: &[Step], i: usize, until: u32) -> u32
+// Where step i ends, or `until`, where the walk ends.
+pub fn step_end(steps: &[Step], i: usize, until: u32) -> u32
     requires { i < length steps.now }
     ensures { End steps.now i until result }
 {
@@ -25,25 +28,24 @@ pub struct Failing {
     pub step: usize,
 }
 
-// The first failing minute of those from `from` on and below `until`, looked for from the step of `from` on. A step is asked where it
+// The first failing one of these minutes, looked for from the first step on, in which the first of them lies. A step is asked where it
 // fails from a minute on, if it does, when the walk comes to it: a search looks at no step twice, and so needs no list of answers.
 pub fn first_failing_by<F: Fn(usize, Step, u32) -> Option<u32>>(
     steps: &[Step],
-    step: usize,
-    from: u32,
-    until: u32,
+    first: usize,
+    minutes: Range<u32>,
     fails: F,
 ) -> Option<Failing>
-    requires walk { Rising (minutes_of steps.now) (length steps.now) × In (minutes_of steps.now) (length steps.now) step from }
-    requires callable { (i : _) (held : _) (t : _) → Visit steps.now until i held t → F.pre fails i held t }
-    ensures { (f : _) → Tells (F.post fails) steps.now until f → FirstFailing f steps.now from until result }
+    requires walk { Formed steps.now × In steps.now first minutes.start }
+    requires callable { (i : _) (step : _) (t : _) → Visit steps.now minutes.end i step t → F.pre fails i step t }
+    ensures { (f : _) → Tells (F.post fails) steps.now minutes.end f → FirstFailing f steps.now minutes.start minutes.end result }
 {
-    for (i, held) in steps.iter().enumerate().skip(step) {
-        let t = held.minute.max(from);
-        if until <= t {
+    for (i, step) in steps.iter().enumerate().skip(first) {
+        let t = step.minute.max(minutes.start);
+        if minutes.end <= t {
             break;
         }
-        if let Some(minute) = fails(i, *held, t) {
+        if let Some(minute) = fails(i, *step, t) {
             return Some(Failing { minute, step: i });
         }
     }
@@ -55,15 +57,43 @@ pub fn first_failing(
     steps: &[Step],
     caps: &LineCaps,
     draw: Draw,
-    step: usize,
+    first: usize,
     from: u32,
 ) -> Option<Failing>
-    requires { CanRun steps.now draw.time from × In (minutes_of steps.now) (length steps.now) step from }
+    requires { CanRun steps.now draw.time from × In steps.now first from }
     ensures { FirstFailing (room_under steps.now caps.now draw.line draw.rate) steps.now from (from + draw.time) result }
 {
     let until = from + draw.time;
-    first_failing_by(steps, step, from, until, |i, held, t| {
-        let minute = t.max(caps.under_in(held, draw));
-        (minute < end_of(steps, i, until)).then_some(minute)
+    first_failing_by(steps, first, from..until, |i, step, t| {
+        let minute = t.max(caps.under_in(step, draw));
+        (minute < step_end(steps, i, until)).then_some(minute)
     })
+}
+
+// The first start, not below the one given, that passes a test by the minutes below `until`: the answer passes, or it reaches `until` or
+// behind. A start is tested from its step on, up to its first failing minute. After that the next candidate is the end of the minute's
+// step, or `until`, since nothing is known from there on.
+pub fn first_passing<F: Fn(u32, usize) -> Option<Failing>>(
+    steps: &[Step],
+    time: u32,
+    start: u32,
+    until: u32,
+    test: F,
+) -> u32
+    requires seek { CanSeek steps.now time start }
+    requires callable { (s : _) (i : _) → Tried steps.now time start until s i → F.pre test s i }
+    requires settled { Settled (F.post test) steps.now time start until }
+    ensures passing { (f : _) → Tests (F.post test) steps.now time start until f → FirstPassing f time start until result }
+    ensures high { result ≤ max start (last_minute steps.now) }
+{
+    let mut i = place(steps, start);
+    let mut s = start;
+    while s + time <= until {
+        let Some(failing) = test(s, i) else {
+            return s;
+        };
+        i = failing.step + 1;
+        s = steps[i].minute.min(until);
+    }
+    s
 }

@@ -7,7 +7,7 @@ use site::enquiry::Enquiry;
 
 // How many blocks of the image changed; then the numbers of an answer, each 0 where the answer has none of its name. An end is told
 // of a charge that charges, and of no other.
-#[derive(Clone, Copy)]
+#[derive(Clone, Copy, Default)]
 pub struct Numbers {
     pub blocks: u32,
     pub ticket: u32,
@@ -23,21 +23,6 @@ pub struct Numbers {
     pub looked: usize,
 }
 
-const NONE: Numbers = Numbers {
-    blocks: 0,
-    ticket: 0,
-    start: 0,
-    rate: 0,
-    end: None,
-    cause: 0,
-    before: 0,
-    after: 0,
-    rounds: 0,
-    reported: 0,
-    dropped: 0,
-    looked: 0,
-};
-
 impl From<Enquiry> for Numbers {
     ghost use Rattle.site.specs.Answers.{enquiry_of};
 
@@ -48,13 +33,13 @@ impl From<Enquiry> for Numbers {
             Enquiry::Waiting { start, rate } => Numbers {
                 start,
                 rate,
-                ..NONE
+                ..Numbers::default()
             },
             Enquiry::Charging { start, end, rate } => Numbers {
                 start,
                 rate,
                 end: Some(end),
-                ..NONE
+                ..Numbers::default()
             },
         }
     }
@@ -65,27 +50,33 @@ impl From<Answer> for Numbers {
 
     fn from(answer: Answer) -> Numbers {
         match answer {
-            Answer::Previewed(start) => Numbers { start, ..NONE },
+            Answer::Previewed(start) => Numbers {
+                start,
+                ..Numbers::default()
+            },
             Answer::Committed(committed) => Numbers {
                 ticket: committed.ticket,
                 start: committed.start,
-                ..NONE
+                ..Numbers::default()
             },
             Answer::Moved(moved) => Numbers {
                 reported: moved.reported,
                 dropped: moved.dropped,
-                ..NONE
+                ..Numbers::default()
             },
             Answer::Planned(planned) => Numbers {
                 cause: planned.cause_number(),
                 before: planned.before,
                 after: planned.after,
                 rounds: planned.rounds,
-                ..NONE
+                ..Numbers::default()
             },
             Answer::Enquiry(enquiry) => Numbers::from(enquiry),
-            Answer::Looked(looked) => Numbers { looked, ..NONE },
-            Answer::Withdrawn => NONE,
+            Answer::Looked(looked) => Numbers {
+                looked,
+                ..Numbers::default()
+            },
+            Answer::Withdrawn => Numbers::default(),
         }
     }
 }

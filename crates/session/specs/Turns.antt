@@ -1,5 +1,5 @@
 -- A turn of the program, and what a chain of turns comes to.
-use Rattle.std.specs.Prelude.{ℕ, ◌+◌, ◌≤◌, ◌<◌, ◌≡◌, Bool, true, false, List, [], ◌∷◌, ◌++◌, eqb, length, take}
+use Rattle.std.specs.Prelude.{ℕ, ◌+◌, ◌≤◌, ◌<◌, ◌≡◌, Bool, true, false, List, [], ◌∷◌, ◌++◌, eqb, length}
 use Rattle.std.proofs.Math.Seq.{slice}
 use Rattle.rules.specs.Site.{State}
 use Rattle.rules.specs.Calls.{fresh, least}
@@ -46,13 +46,6 @@ pub record KeptTo (from filled to : ℕ) : Type 0 where
 
 -- Turns
 
--- the bytes at the front of the block that are not yet answered, and those that were read after them
-abbrev pub held_of : Session → List ℕ → List ℕ
-held_of s block = take s.held block
-
-abbrev pub read_of : Session → ℕ → List ℕ → List ℕ
-read_of s count block = slice s.held (s.held + count) block
-
 -- the input has ended: bytes were wanted, and none came
 abbrev pub ends : declared.Wants → ℕ → Bool
 ends Bytes count = eqb count 0
@@ -65,64 +58,54 @@ over Space = false
 over Nothing = true
 
 -- Bytes are wanted only where no request that has ended waits for its answer, and there is room for them. Where room was
--- wanted, something was answered.
-abbrev pub Standing : declared.Wants → List ℕ → ℕ → ℕ → Type 0
-Standing Bytes kept held there = (split 10 kept ≡ kept ∷ []) × (held ≤ 4097)
-Standing Space kept held there = held < there
-Standing Nothing kept held there = held ≡ 0
+-- wanted, something was answered: fewer bytes are held than there were.
+abbrev pub Standing : declared.Wants → List ℕ → ℕ → Type 0
+Standing Bytes held there = (split 10 held ≡ held ∷ []) × (length held ≤ 4097)
+Standing Space held there = length held < there
+Standing Nothing held there = held ≡ []
 
--- what is held is answered as a last request
-pub record LastTurn (s : Session) (block : List ℕ) (r : Session) (out : List ℕ) : Type 0 where
-  pub last_is : answered (view s.station) (held_of s block) ≡ record { state = view r.station; text = out }
-  pub none_held : r.held ≡ 0
-  pub is_over : r.wants ≡ Nothing
-  pub valid : Valid r.station
-
--- The contract of a turn. While the input goes on, what is held and the bytes just read give the text that is handed out, and
--- then what the next session holds. Where it has ended, what is held is answered as the last request.
-pub record Turned (s : Session) (count : ℕ) (block : List ℕ) (r : Session) (next out : List ℕ) : Type 0 where
+-- The contract of a turn: `block` is what is held and the bytes just read after it, and `held` what is held then. While the input
+-- goes on, the block gives the text that is handed out, and then what the next session holds. Where it has ended, what is held is
+-- answered as the last request.
+pub record Turned (s : Session) (count : ℕ) (block : List ℕ) (r : Session) (held out : List ℕ) : Type 0 where
   pub goes_on :
       ends s.wants count ≡ false
-      → feed (view s.station) (held_of s block) (read_of s count block)
-      ≡ first out (feed (view r.station) (held_of r next) [])
+      → feed (view s.station) [] block ≡ first out (feed (view r.station) [] held)
   pub has_ended :
       ends s.wants count ≡ true
-      → answered (view s.station) (held_of s block) ≡ record { state = view r.station; text = out }
+      → answered (view s.station) block ≡ record { state = view r.station; text = out }
   pub over_so : over r.wants ≡ ends s.wants count
-  pub standing : Standing r.wants (held_of r next) r.held (s.held + count)
+  pub standing : Standing r.wants held (length block)
   pub valid : Valid r.station
-  pub within : r.held ≤ length next
 
 -- Chains of turns
 
 -- Turns one after another, from the fresh station of 1, 100 with nothing held: all that was read, all that was handed out
--- to be written, and the session and the block after the last turn. Each turn meets `turn`'s contract on the session before
--- it, whatever was read; reading keeps the bytes that are held.
+-- to be written, and the session and what is held after the last turn. Each turn meets `turn`'s contract on the session before
+-- it, with whatever part of the input was read behind what was held.
 pub data Chain : List ℕ → List ℕ → Session → List ℕ → Type 0 where
-  opened :
-      {s : Session} {block : List ℕ} → view s.station ≡ fresh least → s.held ≡ 0 → s.wants ≡ Bytes → Chain [] [] s block
+  opened : {s : Session} → view s.station ≡ fresh least → s.wants ≡ Bytes → Chain [] [] s []
   turned :
-      {read written : List ℕ} {s : Session} {before : List ℕ} {count : ℕ} {block : List ℕ} {r : Session} {next out : List ℕ}
+      {read written : List ℕ} {s : Session} {before : List ℕ} (part : List ℕ) {r : Session} {held out : List ℕ}
       → Chain read written s before
       → over s.wants ≡ false
-      → held_of s block ≡ held_of s before
-      → Turned s count block r next out
-      → Chain (read ++ read_of s count block) (written ++ out) r next
+      → Turned s (length part) (before ++ part) r held out
+      → Chain (read ++ part) (written ++ out) r held
 
 -- THE THEOREM, for every chain of turns. Where bytes are wanted, the texts handed out, the station and what is held are the
 -- definition's for all that was read so far: every request that has ended is answered. Where nothing is wanted any more, the
 -- texts put together are the program's whole output, and the station is its station.
-pub record AnswersAll (read written : List ℕ) (s : Session) (block : List ℕ) : Type 0 where
+pub record AnswersAll (read written : List ℕ) (s : Session) (held : List ℕ) : Type 0 where
   pub so_far :
       s.wants ≡ Bytes
-      → feed (fresh least) [] read ≡ record { state = view s.station; kept = held_of s block; text = written }
+      → feed (fresh least) [] read ≡ record { state = view s.station; kept = held; text = written }
   pub whole : s.wants ≡ Nothing → console read ≡ record { state = view s.station; text = written }
 
 abbrev pub EveryChain : Type 0
-EveryChain = (read written : List ℕ) (s : Session) (block : List ℕ) → Chain read written s block → AnswersAll read written s block
+EveryChain = (read written : List ℕ) (s : Session) (held : List ℕ) → Chain read written s held → AnswersAll read written s held
 
 -- A chain leads here.
-pub record Reached (s : Session) (block : List ℕ) : Type 0 where
+pub record Reached (s : Session) (held : List ℕ) : Type 0 where
   pub read : List ℕ
   pub written : List ℕ
-  pub chain : Chain read written s block
+  pub chain : Chain read written s held

@@ -6,7 +6,7 @@ use mathlib.Core.List.{[]}
 use native.Mathlib.Omega.{arith}
 use lib.Dec.{eqb}
 use Rattle.rules.specs.Basics.{some}
-use Rattle.rules.specs.Charge.{has_ticket}
+use Rattle.rules.specs.Charge.{Charge, has_ticket}
 use Rattle.rules.specs.Site.{site_charges}
 use Rattle.rules.specs.Calls.{Answer, refused, told, enquiring, enquire, step}
 use Rattle.rules.proofs.Ranges.{first_found}
@@ -68,9 +68,10 @@ module _ (s : Station) (ticket : ℕ) where
 
     -- and the feeder tells of it
     pub enquired_holder :
-        {a : Answer} → a ≡ told_charge s.clock (charge_at (feeder_at s f).charges k) → Keeps (step (view s) (enquire ticket)) s a []
-    enquired_holder e =
+        {a : Answer} {x : Charge} → x ≡ charge_at (feeder_at s f).charges k → a ≡ told_charge s.clock x → Keeps (step (view s) (enquire ticket)) s a []
+    enquired_holder g e =
         call_enquired
         (e
+        ∙ ap (told_charge s.clock) g
         ∙ sym (told_found (charge_at (feeder_at s f).charges) s.clock ticket (feeder_at s f).charges.held o.found)
         ∙ sym (among_told holder_among s.clock own_some))

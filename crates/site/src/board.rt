@@ -18,7 +18,7 @@ fn board_feeders(station: &Station, asked: &[u32], answers: &mut [u32]) -> usize
 {
     let mut looked = 0;
     none_held(answers, asked.len());
-    for feeder in station.feeders[..station.count].iter().rev() {
+    for feeder in station.feeders().iter().rev() {
         looked += boards::board(&feeder.charges, asked, answers);
     }
     looked

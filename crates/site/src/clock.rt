@@ -47,7 +47,7 @@ fn report_feeders(station: &Station, target: u32, list: &mut [u32]) -> usize
     ensures { (result ≡ length (reported_by station.now.clock target (site_charges (view station.now)))) × (list.new ≡ written (pairs (reported_by station.now.clock target (site_charges (view station.now)))) list.old) }
 {
     let mut reported = 0;
-    for feeder in station.feeders[..station.count].iter().rev() {
+    for feeder in station.feeders().iter().rev() {
         let passed = by_start(&feeder.charges, station.clock, target);
         report(&feeder.charges, &passed, list, reported);
         reported += passed.len();
@@ -55,15 +55,13 @@ fn report_feeders(station: &Station, target: u32, list: &mut [u32]) -> usize
     reported
 }
 
-// How many charges of all feeders are finished at the target.
-fn dropped_at(station: &Station, target: u32) -> usize
+// How many charges all feeders hold.
+fn held(station: &Station) -> usize
     requires { Formed station.now }
-    ensures { result ≡ length (site_charges (view station.now)) - length (site_charges (moved_to (view station.now) target)) }
+    ensures { result ≡ length (site_charges (view station.now)) }
 {
-    let feeders = station.feeders[..station.count].iter();
-    feeders
-        .map(|feeder| feeder.charges.held - feeder.charges.unfinished_count(target))
-        .sum()
+    let feeders = station.feeders().iter();
+    feeders.map(|feeder| feeder.charges.held).sum()
 }
 
 // Writes a ticket and a start of each charge that the clock passes to the front of the report.
@@ -73,7 +71,8 @@ pub fn move_clock(station: &mut Station, target: u32, report: &mut [u32]) -> Res
 {
     move_refusal(station, target, report)?;
     let reported = report_feeders(station, target, report);
-    let dropped = dropped_at(station, target);
+    let before = held(station);
     station.move_to(target);
+    let dropped = before - held(station);
     Ok(Moved { reported, dropped })
 }

@@ -1,13 +1,13 @@
 // An enquiry, whose answer has to be taken apart before a start can be read.
-ghost use Rattle.std.specs.Prelude.{◌≡◌, ◌<◌, []};
+ghost use Rattle.std.specs.Prelude.{◌≡◌, []};
 ghost use Rattle.rules.specs.Calls.{told as told_of, enquire as enquire_call, step};
-ghost use Rattle.charges.specs.Arrays.{charge_at};
-ghost use Rattle.charges.specs.Held.{Listed};
+ghost use Rattle.charges.specs.Arrays.{charge_of};
+ghost use Rattle.charges.specs.Held.{Small};
 ghost use Rattle.station.specs.View.{view, Valid};
 ghost use Rattle.station.specs.Given.{Keeps};
 ghost use Rattle.site.specs.Answers.{enquiry_of, told_charge, enquiry_answer};
 
-use charges::Charges;
+use charges::Charge;
 use station::Station;
 
 // What is told of a charge that is held.
@@ -17,21 +17,24 @@ pub enum Enquiry {
     Charging { start: u32, end: u32, rate: u32 },
 }
 
-// What is told of the charge at a place. A start equal to the clock still waits.
-fn told(held: &Charges, place: usize, clock: u32) -> Enquiry
-    requires { Listed held.now × (place < held.now.held) }
-    ensures { enquiry_of result ≡ told_charge clock (charge_at held.now place) }
-{
-    let start = held.starts[place];
-    let rate = held.rates[place];
-    if start < clock {
-        Enquiry::Charging {
-            start,
-            end: start + held.times[place],
-            rate,
+impl Enquiry {
+    // What is told of a charge. A start equal to the clock still waits.
+    fn of(charge: Charge, clock: u32) -> Enquiry
+        requires { Small (charge_of charge) }
+        ensures { enquiry_of result ≡ told_charge clock (charge_of charge) }
+    {
+        if charge.start < clock {
+            Enquiry::Charging {
+                start: charge.start,
+                end: charge.start + charge.time,
+                rate: charge.rate,
+            }
+        } else {
+            Enquiry::Waiting {
+                start: charge.start,
+                rate: charge.rate,
+            }
         }
-    } else {
-        Enquiry::Waiting { start, rate }
     }
 }
 
@@ -42,5 +45,5 @@ pub fn enquire(station: &Station, ticket: u32) -> Option<Enquiry>
 {
     let holder = station.holder(ticket)?;
     let held = &station.feeders[holder.feeder].charges;
-    Some(told(held, holder.place, station.clock))
+    Some(Enquiry::of(held.at(holder.place), station.clock))
 }

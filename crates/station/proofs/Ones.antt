@@ -1,14 +1,15 @@
 -- The only feeder of a station is the whole station.
-use mathlib.Core.Path.{◌≡◌, refl, sym, ◌∙◌, ap}
+use mathlib.Core.Path.{◌≡◌, refl, sym, ◌∙◌, ap, subst}
 use Prim.Native.Nat.{ℕ, zero, suc, ◌≤◌, ◌<◌}
 use mathlib.Core.List.{List, [], ◌∷◌}
 use native.Mathlib.Omega.{arith}
 use lib.ListN.{length, get_or}
+use Rattle.std.specs.Prelude.{Option, Some, None}
 use Rattle.charges.specs.Arrays.{Columns}
 use Rattle.station.specs.declared.Feeder.{Feeder}
 use Rattle.station.specs.declared.Station.{Station}
 use Rattle.station.specs.declared.only.One.{One}
-use Rattle.station.specs.View.{outside, unused, feeder_at, Formed, Valid, one_at, station_of}
+use Rattle.station.specs.View.{outside, unused, feeder_at, Formed, Valid, station_of, OnlyOf, Alone}
 
 four : (gs : List Feeder) → length gs ≡ 4 → gs ≡ get_or gs 0 outside ∷ get_or gs 1 outside ∷ get_or gs 2 outside ∷ get_or gs 3 outside ∷ []
 four [] e = absurd (omega (arith, e))
@@ -24,8 +25,12 @@ counted :
     s ≡ record { count = n; site = s.site; clock = s.clock; next = s.next; feeders = gs }
 counted s n gs e f = rw (← e, ← f) refl
 
--- the station is that of its only feeder
-pub single : (s : Station) → Formed s → s.count ≡ 1 → s ≡ station_of (one_at s 0)
+-- the first feeder, with what it has of the station
+abbrev pub first_one : Station → One
+first_one s = record { site = s.site; clock = s.clock; next = s.next; feeder = feeder_at s 0 }
+
+-- where there is no other, the station is that of its first feeder
+single : (s : Station) → Formed s → s.count ≡ 1 → s ≡ station_of (first_one s)
 single s w e =
     counted s 1 (feeder_at s 0 ∷ unused ∷ unused ∷ unused ∷ []) e
     (four s.feeders w.four
@@ -54,5 +59,14 @@ only_formed o c =
     first (suc i) h = absurd (omega (arith, h))
 
 -- taken out of it, it is the whole of it
-pub taken_whole : {s : Station} {o : One} → Valid s → s.count ≡ 1 → o ≡ one_at s 0 → station_of o ≡ s
-taken_whole {s} v n e = ap station_of e ∙ sym (single s v.formed n)
+pub taken_whole : {s : Station} {o : One} → Formed s → s.count ≡ 1 → o ≡ first_one s → station_of o ≡ s
+taken_whole {s} w n e = ap station_of e ∙ sym (single s w n)
+
+pub taken_out : (s : Station) (o : One) {r : Option One} → OnlyOf s r → r ≡ Some o → station_of o ≡ s
+taken_out s o p e = rw e at p
+
+pub none_out : (s : Station) {r : Option One} → OnlyOf s r → r ≡ None → s.count ≡ 1 → ⊥
+none_out s p e = rw e at p
+
+pub taken_alone : (s : Station) (o : One) {r : Option One} → Valid s → OnlyOf s r → r ≡ Some o → Alone o
+taken_alone s o v p e = record { valid = subst Valid (sym (taken_out s o p e)) v }

@@ -17,7 +17,7 @@ use Rattle.station.specs.declared.Feeder.{Feeder}
 use Rattle.station.specs.declared.Station.{Station}
 use Rattle.station.specs.declared.open.Settings.{Settings}
 use Rattle.station.specs.declared.open.Asked.{Asked}
-use Rattle.station.specs.declared.open.Opened.{Opened}
+use Rattle.station.specs.declared.bounds.Opened.{Opened}
 use Rattle.station.specs.View.{view, Formed, station_of}
 use Rattle.station.specs.Opened.{settings_of, asked_of, fresh_of, fresh_feeder, opened_of, bounds_of, FreshLeast, OnlyLeast, Opens}
 use Rattle.station.proofs.FreshFeeders.{opens, view_fresh, formed_fresh, bounds_fresh}

@@ -1,5 +1,6 @@
 -- The view of a station: its feeders by their places, one of them changed, and that it determines the station.
 use mathlib.Core.Path.{◌≡◌, sym, ◌∙◌, ap, subst}
+use mathlib.Core.List.{List}
 use Prim.Native.Nat.{ℕ, zero, suc, ◌+◌, ◌-◌, ◌<◌}
 use mathlib.Core.Logic.{⊎_elim}
 use native.Mathlib.Omega.{arith}
@@ -39,8 +40,8 @@ is_feeder_lem s i h = record { low = omega arith; high = omega (arith, view_leng
 pub length_among : (s : Station) → Formed s → length (take s.count s.feeders) ≡ s.count
 length_among s w = length-take-le s.count s.feeders (omega (arith, w.four, w.few))
 
-pub among : (s : Station) {i : ℕ} → Formed s → i < length (take s.count s.feeders) → i < s.count
-among s w h = omega (arith, h, length_among s w)
+pub among : (s : Station) {i : ℕ} {gs : List Feeder} → Formed s → gs ≡ take s.count s.feeders → i < length gs → i < s.count
+among s w e h = omega (arith, h, ap length e, length_among s w)
 
 pub among_at : (s : Station) (i : ℕ) → i < s.count → get_or (take s.count s.feeders) i outside ≡ feeder_at s i
 among_at s i h = get_or-take s.count s.feeders i outside h
@@ -53,8 +54,9 @@ read_at s i other = get_or s.feeders i other
 pub feeder_read : (s : Station) {i : ℕ} → Formed s → i < s.count → (other : Feeder) → read_at s i other ≡ feeder_at s i
 feeder_read s {i} w h other = get_or_default s.feeders i other outside (omega (arith, h, w.four, w.few))
 
-pub among_read : (s : Station) {i : ℕ} → i < length (take s.count s.feeders) → i < s.count → (other : Feeder) → get_or (take s.count s.feeders) i other ≡ feeder_at s i
-among_read s {i} l h other = get_or_default (take s.count s.feeders) i other outside l ∙ among_at s i h
+pub among_read :
+    (s : Station) {i : ℕ} {gs : List Feeder} → gs ≡ take s.count s.feeders → i < length gs → i < s.count → (other : Feeder) → get_or gs i other ≡ feeder_at s i
+among_read s {i} {gs} e l h other = get_or_default gs i other outside l ∙ ap (λ fs. get_or fs i outside) e ∙ among_at s i h
 
 -- One feeder changed
 

@@ -10,7 +10,7 @@ use Rattle.station.specs.declared.Station.{Station}
 use Rattle.station.specs.declared.only.One.{One}
 use Rattle.station.specs.declared.open.Settings.{Settings}
 use Rattle.station.specs.declared.open.Asked.{Asked}
-use Rattle.station.specs.declared.open.Opened.{Opened}
+use Rattle.station.specs.declared.bounds.Opened.{Opened}
 use Rattle.station.specs.View.{no_charges, unused, feeder_at, view, Valid, station_of, Alone}
 
 abbrev pub settings_of : Settings → rules.Settings

@@ -1,5 +1,5 @@
 -- What a station is in the words of the rules, and what every call needs of it and keeps.
-use Rattle.std.specs.Prelude.{◌≡◌, ℕ, ◌+◌, ◌≤◌, ◌<◌, true, ◌||◌, [], ◌∷◌, ltb, length, get_or, replicate, Result, Ok, Err}
+use Rattle.std.specs.Prelude.{◌≡◌, ℕ, ◌+◌, ◌≤◌, ◌<◌, true, ◌||◌, [], ◌∷◌, ltb, length, get_or, replicate, Option, Some, None, Result, Ok, Err}
 use native.Mathlib.Omega.{arith}
 use Rattle.rules.specs.Basics.{tabulate}
 use Rattle.rules.specs.Site as rules
@@ -93,10 +93,6 @@ pub record Valid (s : Station) : Type 0 where
 
 -- One feeder
 
--- the feeder at a place, with what it shares with the others
-abbrev pub one_at : Station → ℕ → One
-one_at s p = record { site = s.site; clock = s.clock; next = s.next; feeder = feeder_at s p }
-
 -- what a plan of a feeder has to keep to, but for what the others draw, where this is the site's limit
 abbrev pub limits_for : Feeder → ℕ → Limits
 limits_for g site = record { limit = g.limit; bound = g.bound; site = site }
@@ -116,6 +112,11 @@ station_of o =
       next = o.next;
       feeders = o.feeder ∷ unused ∷ unused ∷ unused ∷ [];
     }
+
+-- a station is that of its only feeder; one of several has none
+abbrev pub OnlyOf : Station → Option One → Type 0
+OnlyOf s (Some o) = station_of o ≡ s
+OnlyOf s None = s.count ≡ 1 → ⊥
 
 -- the only feeder of a valid station
 pub record Alone (o : One) : Type 0 where

@@ -17,7 +17,7 @@ impl Station {
         requires { Formed self.now }
         ensures { HolderOf self.now ticket result }
     {
-        for (feeder, held) in self.feeders[..self.count].iter().enumerate() {
+        for (feeder, held) in self.feeders().iter().enumerate() {
             if let Some(place) = held.charges.place_of(ticket) {
                 return Some(Holder { feeder, place });
             }

@@ -1,8 +1,9 @@
-// A charging station by value: one to four feeders under one clock, one ticket row and the site's limit; how it is opened, what is
+// A charging station: one to four feeders under one clock, one ticket row and the site's limit; how it is opened, what is
 // read off it, and how its clock is moved.
 #![tactic(auto)]
 
 pub mod beside;
+pub mod bounds;
 pub mod holder;
 pub mod moved;
 pub mod only;

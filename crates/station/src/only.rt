@@ -1,9 +1,9 @@
 // The only feeder of a station, as an image has it.
-ghost use Rattle.std.specs.Prelude.{◌≡◌, ◌<◌};
-ghost use Rattle.station.specs.View.{Formed, one_at, station_of};
+ghost use Rattle.std.specs.Prelude.{◌≡◌};
+ghost use Rattle.station.specs.View.{Formed, station_of, OnlyOf};
 ghost use Rattle.station.specs.Opened.{OnlyLeast};
 
-use crate::open::{LEAST, NONE};
+use crate::open::{LEAST, Settings};
 use crate::{Feeder, Station};
 
 // One feeder of a station, with what it shares with the others: the site's limit, the clock and the next ticket. Images are of one
@@ -17,24 +17,27 @@ pub struct One {
 }
 
 impl Station {
-    // The feeder at a place.
-    pub fn one(&self, place: usize) -> One
-        requires { Formed self.now × (place < self.now.count) }
-        ensures { result ≡ one_at self.now place }
+    // The only feeder; none where there are several.
+    pub fn only(&self) -> Option<One>
+        requires { Formed self.now }
+        ensures { OnlyOf self.now result }
     {
-        One {
+        if self.count != 1 {
+            return None;
+        }
+        Some(One {
             site: self.site,
             clock: self.clock,
             next: self.next,
-            feeder: self.feeders[place],
-        }
+            feeder: self.feeders[0],
+        })
     }
 
     // The station of which this is the only feeder.
     pub fn of_only(one: One) -> Station
         ensures { result ≡ station_of one }
     {
-        let unused = NONE.fresh();
+        let unused = Settings::default().fresh();
         Station {
             count: 1,
             site: one.site,

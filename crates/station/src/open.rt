@@ -5,13 +5,14 @@ ghost use Rattle.rules.specs.Calls.{opened, open_refusals, opening};
 ghost use Rattle.refusals.specs.Refusals.{refusal_in};
 ghost use Rattle.station.specs.Opened.{settings_of, asked_of, settings_from, asked_from, feeder_refusals, fresh_feeder, fresh_at, fresh_of, BoundOf, opened_of, bounds_of, FreshLeast, Opens};
 
+use crate::bounds::Opened;
 use crate::{Done, FEEDERS, Feeder, Station};
 use charges::Charges;
 use profile::balance::nearest_hundreds;
 use refusals::Refusal;
 
-// What an opening is given for a feeder: the limit N, the percentage c and r.
-#[derive(Clone, Copy)]
+// What an opening is given for a feeder: the limit N, the percentage c and r. What a feeder past the count is made of is 0, 0 and 0.
+#[derive(Clone, Copy, Default)]
 pub struct Settings {
     pub limit: u32,
     pub percent: u32,
@@ -26,15 +27,8 @@ pub struct Asked {
     pub settings: [Settings; FEEDERS],
 }
 
-// What a feeder past the count is made of.
-pub const NONE: Settings = Settings {
-    limit: 0,
-    percent: 0,
-    tail: 0,
-};
-
 // The settings of the least station: 1, 100, r 0, one feeder and W 720.
-pub const LEAST: Asked = Asked {
+pub(crate) const LEAST: Asked = Asked {
     count: 1,
     site: 720,
     settings: [Settings {
@@ -44,15 +38,8 @@ pub const LEAST: Asked = Asked {
     }; FEEDERS],
 };
 
-// The bound D of each feeder up to the count.
-#[derive(Clone, Copy)]
-pub struct Opened {
-    pub count: usize,
-    pub bounds: [u32; FEEDERS],
-}
-
 // The number at a place; 0 where there is none.
-pub fn number_at(numbers: &[u32], i: usize) -> u32
+pub fn number_or_zero(numbers: &[u32], i: usize) -> u32
     ensures { result ≡ get_or numbers.now i 0 }
 {
     numbers.get(i).copied().unwrap_or(0)
@@ -65,14 +52,14 @@ impl Settings {
         ensures { settings_of result ≡ settings_from numbers.now i }
     {
         Settings {
-            limit: number_at(numbers, i),
-            percent: number_at(numbers, i + 1),
-            tail: number_at(numbers, i + 2),
+            limit: number_or_zero(numbers, i),
+            percent: number_or_zero(numbers, i + 1),
+            tail: number_or_zero(numbers, i + 2),
         }
     }
 
     // "D = c N / 100 to the nearest": the largest bound where the product is no number of 32 bits.
-    fn bound(&self) -> u32
+    pub fn bound(&self) -> u32
         ensures { BoundOf self.now result }
     {
         nearest_hundreds(self.percent.saturating_mul(self.limit))
@@ -149,7 +136,7 @@ impl Asked {
         if place < self.count as usize {
             self.settings[place].fresh()
         } else {
-            NONE.fresh()
+            Settings::default().fresh()
         }
     }
 
@@ -174,16 +161,6 @@ impl Asked {
 }
 
 impl Station {
-    fn opened(&self) -> Opened
-        requires { length self.now.feeders ≡ 4 }
-        ensures { opened_of result ≡ opened (take self.now.count (bounds_of self.now)) }
-    {
-        Opened {
-            count: self.count,
-            bounds: self.feeders.each_ref().map(|feeder| feeder.bound),
-        }
-    }
-
     // "Beside a refused opening stands the fresh station of 1, 100", "r is 0", and "one feeder and W 720": a session begins with it too.
     pub fn least() -> Station
         ensures { FreshLeast result }

@@ -11,12 +11,12 @@ use charges::drawn::Drawn;
 
 impl Station {
     // What the feeders but that at the place draw, as a fourth line.
-    pub fn rest(&self, place: usize) -> Drawn
+    pub(crate) fn rest(&self, place: usize) -> Drawn
         requires { Formed self.now × (place < self.now.count) }
         ensures { (result ≡ map elsewhere (loads_of (others_of (view self.now) (place + 1)))) × (length result ≤ 540) }
     {
         let mut rest = Drawn::none();
-        for (i, other) in self.feeders[..self.count].iter().enumerate() {
+        for (i, other) in self.feeders().iter().enumerate() {
             if i != place {
                 rest.append(&other.charges, false);
             }

@@ -1,3 +1,4 @@
 pub mod Values
 pub mod Splitting
 pub mod Printing
+pub mod Blocks

@@ -4,15 +4,12 @@ use mathlib.Core.Bool.{Bool, true, false, cond}
 use mathlib.Core.List.{List, [], ◌∷◌, ◌++◌}
 use mathlib.Core.Logic.{⊎_elim}
 use Prim.Native.Nat.{ℕ, suc, ◌+◌, ◌-◌, ◌≤◌, ◌<◌}
-use native.Mathlib.Nat.{zero-add}
 use native.Mathlib.Omega.{arith}
 use borrow.Author.Tests.{lt-ltb, le-ltb, eqb-true}
 use lib.Dec.{eqb, ltb}
 use lib.ListN.{length, take, drop}
-use lib.Seq.{slice}
 use Rattle.std.specs.Prelude.{Option, Some, None, MatchOption}
-use Rattle.std.specs.List.{slice_split, onto_first, copy_within, position_or_len, before_first, after_first}
-use Rattle.std.proofs.lemmas.Slice.{between_is}
+use Rattle.std.specs.List.{slice_split, onto_first, position_or_len, before_first, after_first}
 use Rattle.std.proofs.lemmas.List.{take_rest}
 use Rattle.std.proofs.lemmas.List.Splits.{slice_split_first}
 use Rattle.std.proofs.lemmas.List.Sums.{split_at_first, passes_at_first}
@@ -67,7 +64,3 @@ by_place s bs e =
     (λ h. rw (e, lt-ltb (end_of s bs) (length bs) h) (found s bs h))
     (λ h. rw (e, le-ltb (end_of s bs) (length bs) h) (not_found s bs h))
     (below_or_not (end_of s bs) (length bs))
-
--- what stands between two places, copied to the front
-pub carried : (from to : ℕ) (bs : List ℕ) → copy_within bs from to 0 ≡ slice from to bs ++ drop (to - from) bs
-carried from to bs = rw (zero-add (to - from), between_is bs from to)

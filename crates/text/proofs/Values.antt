@@ -15,9 +15,10 @@ use Rattle.rules.proofs.Ranges.{below_or_not}
 use Rattle.std.specs.Fmt.{decimal as printed}
 use Rattle.std.proofs.lemmas.Fmt.{decimal_by_steps}
 use Rattle.text.specs.Numbers.{is_digit, value_from, number_of, digits_within, decimal}
+use Rattle.text.specs.declared.number.NumberError.{NumberError}
 use Rattle.text.specs.declared.number.NumberError.TheVariants.{NotANumber, TooLarge}
 use Rattle.std.specs.Prelude.{Result, Ok, Err}
-use Rattle.std.specs.Result.{OkIff, result_or}
+use Rattle.std.specs.Result.{OkIff, MatchResult, IsErrAnd}
 
 -- past 32 bits the digits so far no longer matter
 too_large_stays :
@@ -66,10 +67,11 @@ value_left n i text h = rw (drop_of_length-le text h)
 
 -- the number of 32 bits, where there is one
 pub settled :
-    {E : Type 0} (n : ℕ) (r : Result ℕ E) → OkIff r (n < 4294967296) n
-    → result_or r (Err TooLarge) ≡ cond (ltb n 4294967296) (Ok n) (Err TooLarge)
-settled n (Ok m) h = rw (lt-ltb n 4294967296 h.0, h.1)
-settled n (Err e) h = rw (le-ltb n 4294967296 (omega arith))
+    {E : Type 0} (n : ℕ) (r : Result ℕ E) (read : Result ℕ NumberError) → OkIff r (n < 4294967296) n
+    → MatchResult r (λ m. read ≡ Ok m) (λ _. IsErrAnd read (λ e. e ≡ TooLarge)) → read ≡ cond (ltb n 4294967296) (Ok n) (Err TooLarge)
+settled n (Ok m) read h k = k ∙ rw (lt-ltb n 4294967296 h.0, h.1)
+settled n (Err x) (Ok m) h k = absurd k
+settled n (Err x) (Err e) h k = rw (le-ltb n 4294967296 (omega arith), k)
 
 -- The digits of a number
 

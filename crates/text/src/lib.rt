@@ -1,5 +1,5 @@
-// What is common to all text: its parts between separators, decimal numbers read from it and printed to it, bytes moved to its front.
-// What a text means is said elsewhere.
+// What is common to all text: a place for its bytes, what is read into it and printed to it, its parts between separators, and decimal
+// numbers. What a text means is said elsewhere.
 #![tactic(auto)]
 
 mod block;
@@ -7,7 +7,48 @@ mod number;
 mod part;
 mod printer;
 
-pub use block::carry;
 pub use number::{NumberError, read_number};
 pub use part::split_once;
-pub use printer::Text;
+use std::marker::Model;
+
+// Bytes that were read or printed, in a fixed place of N bytes.
+#[derive(Drop)]
+pub struct Text<const N: usize> {
+    bytes: [u8; N],
+    length: usize,
+}
+
+impl<const N: usize> Model for Text<N> {
+    ghost use Rattle.std.specs.Prelude.{ℕ, ◌≤◌, List, take};
+
+    ghost Value = { List ℕ };
+
+    ghost view = { λ t. take t.length t.bytes };
+
+    ghost invariant = { λ t. t.length ≤ N };
+}
+
+impl<const N: usize> Text<N> {
+    ghost use Rattle.std.specs.Prelude.{◌≡◌, []};
+
+    pub fn new() -> Self
+        ensures { result ≡ [] }
+    {
+        Text {
+            bytes: [0; N],
+            length: 0,
+        }
+    }
+
+    pub fn as_bytes(&self) -> &[u8]
+        ensures { result.now ≡ self.now }
+    {
+        &self.bytes[..self.length]
+    }
+
+    pub fn clear(&mut self)
+        ensures { self.new ≡ [] }
+    {
+        self.length = 0;
+    }
+}

@@ -25,5 +25,5 @@ pub fn read_number(word: &[u8]) -> Result<u32, NumberError>
         let digit = u64::from(*byte - b'0');
         value = value.saturating_mul(10).saturating_add(digit);
     }
-    u32::try_from(value).or(Err(NumberError::TooLarge))
+    u32::try_from(value).map_err(|_| NumberError::TooLarge)
 }

@@ -3,51 +3,12 @@ ghost use Rattle.std.specs.Prelude.{◌≡◌, ◌+◌, ◌*◌, ◌≤◌, ◌�
 ghost use Rattle.text.specs.Numbers.{decimal};
 ghost use Rattle.text.specs.Printed.{field, listed, fields_text, fields_of, room_of};
 
+use crate::Text;
 use itoa::Buffer;
-use std::marker::Model;
 
-// Printed bytes, in a fixed place of N bytes.
-//
 // A number is printed by `itoa`, and not by `write!`: what the library promises of `write!` holds only where it answers `Ok`, and that
 // it does is promised nowhere, so that printing, which cannot fail, could.
-#[derive(Drop)]
-pub struct Text<const N: usize> {
-    bytes: [u8; N],
-    length: usize,
-}
-
-impl<const N: usize> Model for Text<N> {
-    ghost use Rattle.std.specs.Prelude.{ℕ, ◌≤◌, List, take};
-
-    ghost Value = { List ℕ };
-
-    ghost view = { λ t. take t.length t.bytes };
-
-    ghost invariant = { λ t. t.length ≤ N };
-}
-
 impl<const N: usize> Text<N> {
-    pub fn new() -> Self
-        ensures { result ≡ [] }
-    {
-        Text {
-            bytes: [0; N],
-            length: 0,
-        }
-    }
-
-    pub fn as_bytes(&self) -> &[u8]
-        ensures { result.now ≡ self.now }
-    {
-        &self.bytes[..self.length]
-    }
-
-    pub fn clear(&mut self)
-        ensures { self.new ≡ [] }
-    {
-        self.length = 0;
-    }
-
     pub fn push(&mut self, byte: u8)
         requires { length self.old + 1 ≤ N }
         ensures { self.new ≡ self.old ++ byte ∷ [] }
@@ -61,7 +22,7 @@ impl<const N: usize> Text<N> {
         ensures { self.new ≡ self.old ++ text.now }
     {
         let end = self.length + text.len();
-        // A slice first: no part of an array of N places is lent to be written to.
+        // A slice first: no part with a start is lent of an array of N places.
         let bytes = &mut self.bytes[..];
         bytes[self.length..end].copy_from_slice(text);
         self.length = end;

@@ -14,7 +14,7 @@ use Rattle.guarantee.specs.DemandTwo.{DemandTwo}
 use Rattle.guarantee.specs.DemandThree.{DemandThree}
 use Rattle.refusals.specs.declared.Refusal.{Refusal}
 use Rattle.station.specs.declared.Station.{Station}
-use Rattle.station.specs.declared.open.Opened.{Opened}
+use Rattle.station.specs.declared.bounds.Opened.{Opened}
 use Rattle.calls.specs.declared.Call.{Call}
 use Rattle.calls.specs.declared.Answer.{Answer}
 use Rattle.station.specs.View.{view, Valid}

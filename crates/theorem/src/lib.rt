@@ -7,7 +7,8 @@ ghost use Rattle.theorem.specs.Theorem.{MeetsOpen, MeetsApply, made};
 
 use calls::{Answer, Call};
 use refusals::Refusal;
-use station::open::{Asked, Opened};
+use station::bounds::Opened;
+use station::open::Asked;
 use station::{Done, Station};
 
 pub fn open(asked: Asked) -> Done<Result<Opened, Refusal>, Station>

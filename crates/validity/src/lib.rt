@@ -1,6 +1,7 @@
 // Whether the only feeder of a station is one whose image restore accepts: its settings, its charges, its plan.
 #![tactic(auto)]
 
+pub mod header;
 pub mod ranges;
 pub mod records;
 

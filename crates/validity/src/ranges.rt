@@ -1,48 +1,12 @@
-// Tests of plain numbers: the settings of a station, the fields, the rate and the times of a charge.
+// Tests of a charge: its fields, its rate and its times.
 ghost use Rattle.std.specs.Prelude.{◌≡◌, ◌+◌, ◌<◌, ◌≤◌};
 ghost use Rattle.charges.specs.Arrays.{charge_of};
-ghost use Rattle.layout.specs.Validity.{settings_ranged, fields_ranged, rate_right, times_right, charge_right};
-ghost use Rattle.validity.specs.Settled.{settings_valid, single};
+ghost use Rattle.layout.specs.Validity.{fields_ranged, rate_right, times_right, charge_right};
+ghost use Rattle.validity.specs.Settled.{single};
 
 use charges::Charge;
 use charges::ends::end_of;
-use profile::balance::nearest_hundreds;
 use station::only::One;
-
-// What block 0 of an image holds: N, c, r, clock, next ticket, number held and W.
-#[derive(Clone, Copy)]
-pub struct Header {
-    pub limit: u32,
-    pub percent: u32,
-    pub tail: u32,
-    pub clock: u32,
-    pub next: u32,
-    pub held: u32,
-    pub site: u32,
-}
-
-impl Header {
-    // N, c, r, clock, next ticket and W in range.
-    #[tactic(auto, unfolding(layout::specs::Validity::settings_ranged, layout::specs::Validity::between))]
-    fn settings_ranged(&self) -> bool
-        ensures { result ≡ settings_ranged self.now.limit self.now.percent self.now.tail self.now.clock self.now.next self.now.site }
-    {
-        (1..=60).contains(&self.limit)
-            && self.percent <= 100
-            && self.tail <= 5
-            && self.clock <= 1000000
-            && (1..=65536).contains(&self.next)
-            && (1..=720).contains(&self.site)
-    }
-
-    // "Meet neither refusal 3": D is not 0.
-    #[tactic(auto, using(crate::proofs::Ranging::product_fits), unfolding(crate::specs::Settled::settings_valid))]
-    pub fn settings_valid(&self) -> bool
-        ensures { result ≡ settings_valid self.now.limit self.now.percent self.now.tail self.now.clock self.now.next self.now.site }
-    {
-        self.settings_ranged() && 1 <= nearest_hundreds(self.percent * self.limit)
-    }
-}
 
 // Line, p, d and rate in range.
 #[tactic(auto, unfolding(layout::specs::Validity::fields_ranged, layout::specs::Validity::between))]

@@ -3,11 +3,6 @@
 
 mod show;
 
-use page::MOST_BYTES;
-use text::Text;
-
 fn main(rt: HostRuntime) {
-    let mut image = [0u8; 65536];
-    let mut out = Text::<{ MOST_BYTES }>::new();
-    show::show(rt.stdin(), rt.stdout(), &mut image, &mut out);
+    show::show(rt.stdin(), rt.stdout());
 }

@@ -1,17 +1,20 @@
 // The page of an image. Only reading and writing, of which no contract can speak, is outside the contract of `print_wall`.
-ghost use Rattle.std.specs.Prelude.{◌≡◌, ◌+◌, ◌≤◌, ◌++◌, length};
+ghost use Rattle.std.specs.Prelude.{◌≡◌, ◌≤◌, [], length};
 ghost use Rattle.page.specs.Pages.{wall};
 
 use image::restoring::restore;
 use page::{Listing, MOST_BYTES, NO_STATION};
-use std::io::{Read, Write};
+use std::io::Write;
 use std::rt::{Stdin, Stdout};
 use text::Text;
 
+// What is read at most: more than an image has.
+const LONGEST: usize = 65536;
+
 // All that is to be written, from all that was read.
-fn print_wall<const N: usize>(image: &[u8], out: &mut Text<N>)
-    requires { length out.old + MOST_BYTES ≤ N }
-    ensures { out.new ≡ out.old ++ wall image.now }
+fn print_wall(image: &[u8], out: &mut Text<MOST_BYTES>)
+    requires { out.old ≡ [] }
+    ensures { out.new ≡ wall image.now }
 {
     let restored = restore(image);
     if restored.answer.is_err() {
@@ -26,46 +29,35 @@ fn print_wall<const N: usize>(image: &[u8], out: &mut Text<N>)
     }
 }
 
-// Reads until the buffer is full or the input ends, and answers how many bytes came. A read that fails counts as the end of the
-// input.
-fn read_full(input: &mut Stdin, part: &mut [u8]) -> usize
-    ensures { result ≤ length part.new }
-{
-    let mut done = 0;
-    while done < part.len() {
-        let got = input.read(&mut part[done..]).unwrap_or(0);
-        if got == 0 {
+// Reads until the text is full or the input ends.
+fn read_full(input: &mut Stdin, text: &mut Text<LONGEST>) {
+    while text.as_bytes().len() < LONGEST {
+        if text.read_more(input) == 0 {
             break;
         }
-        done += got;
     }
-    done
 }
 
 // Reads on to the end of the input. A proved loop has to end, and nothing says that the input does: no run takes so many turns.
 fn read_on(input: &mut Stdin) {
-    let mut rest = [0u8; 4096];
+    let mut rest = Text::<4096>::new();
     for _ in 0..u64::MAX {
-        if input.read(&mut rest).unwrap_or(0) == 0 {
+        rest.clear();
+        if rest.read_more(input) == 0 {
             break;
         }
     }
 }
 
-// Where the input fills the buffer, which is longer than an image, it is refused whatever follows. A write that fails is passed over,
+// Where the input fills the text, which is longer than an image, it is refused whatever follows. A write that fails is passed over,
 // since nothing follows it.
-pub fn show<const N: usize>(
-    mut input: Stdin,
-    mut output: Stdout,
-    image: &mut [u8],
-    out: &mut Text<N>,
-)
-    requires { length out.old + MOST_BYTES ≤ N }
-{
-    let count = read_full(&mut input, image);
-    if count == image.len() {
+pub fn show(mut input: Stdin, mut output: Stdout) {
+    let mut image = Text::<LONGEST>::new();
+    read_full(&mut input, &mut image);
+    if image.as_bytes().len() == LONGEST {
         read_on(&mut input);
     }
-    print_wall(&image[..count], out);
+    let mut out = Text::<MOST_BYTES>::new();
+    print_wall(image.as_bytes(), &mut out);
     let _ = output.write_all(out.as_bytes());
 }

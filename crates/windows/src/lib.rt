@@ -8,7 +8,7 @@ use charges::loads::Loads;
 use profile::loads::{Draw, Profile};
 use std::ops::Range;
 
-// Adds those of the loads that are drawn from a minute of the window on.
+// Adds those of the loads that start in the window.
 pub fn add_started<const N: usize>(profile: &mut Profile<N>, loads: Loads<'_>, window: Range<u32>)
     requires { CanAddStarted profile.old N (loads_lent loads) window.start window.end }
     ensures { StartedAdded profile.old profile.new (loads_lent loads.entry) window.start window.end }

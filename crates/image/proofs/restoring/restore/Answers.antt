@@ -16,23 +16,23 @@ returns-then-not-is_undamaged c =
     restores_refused c.args.image.now 21 _ _ _ refl c.refused-then-not-is_undamaged.ensures (search rules)
     (refused_check c.args.image.now c.in-Some.ensures.cases.long (sym (rw same at c.is_undamaged.ensures) ∙ c.if-not-is_undamaged.true))
 
-pub returns-then-not-header_right : goal.returns-then-not-header_right
-returns-then-not-header_right c =
+pub returns-in_default-of : goal.returns-in_default-of
+returns-in_default-of c =
     let same = c.in-Some.ensures.cases.same in
-    restores_refused c.args.image.now 22 _ _ _ refl c.refused-then-not-header_right.ensures (search rules)
+    restores_refused c.args.image.now 22 _ _ _ refl c.refused-in_default-of.ensures (search rules)
     (contents_wrong c.args.image.now _ c.in-Some.ensures.cases.long (λ i. omega (arith, c.type_inv.image i)) (sym (rw same at c.is_undamaged.ensures) ∙ c.if-not-is_undamaged.false) (rw same at c.take_blocks.ensures)
-    (header_wrong _ (sym c.header_right.ensures ∙ c.if-not-header_right.true)))
+    (header_wrong _ c.in_default-of.ensures))
 
 pub returns-then-not-is_of : goal.returns-then-not-is_of
 returns-then-not-is_of c =
     let same = c.in-Some.ensures.cases.same in
     restores_refused c.args.image.now 22 _ _ _ refl c.refused-then-not-is_of.ensures (search rules)
     (contents_wrong c.args.image.now _ c.in-Some.ensures.cases.long (λ i. omega (arith, c.type_inv.image i)) (sym (rw same at c.is_undamaged.ensures) ∙ c.if-not-is_undamaged.false) (rw same at c.take_blocks.ensures)
-    (ap (is_from _) (sym c.read-one.ensures.state) ∙ sym c.is_of.ensures ∙ c.if-not-is_of.true))
+    (ap (is_from _) (sym (rw c.in-Some-of.ensures at c.read-one.ensures).state) ∙ sym c.is_of.ensures ∙ c.if-not-is_of.true))
 
 pub returns : goal.returns
 returns c =
     let same = c.in-Some.ensures.cases.same in
-    restores_accepted c.args.image.now _ _ c.in-Some.ensures.cases.long (rw same at c.take_blocks.ensures) c.read-one.ensures
+    restores_accepted c.args.image.now _ _ c.in-Some.ensures.cases.long (rw same at c.take_blocks.ensures) (rw c.in-Some-of.ensures at c.read-one.ensures)
     (contents_right c.args.image.now _ c.in-Some.ensures.cases.long (λ i. omega (arith, c.type_inv.image i)) (sym (rw same at c.is_undamaged.ensures) ∙ c.if-not-is_undamaged.false) (rw same at c.take_blocks.ensures)
-    (ap (is_from _) (sym c.read-one.ensures.state) ∙ sym c.is_of.ensures ∙ c.if-not-is_of.false))
+    (ap (is_from _) (sym (rw c.in-Some-of.ensures at c.read-one.ensures).state) ∙ sym c.is_of.ensures ∙ c.if-not-is_of.false))

@@ -7,7 +7,7 @@ use Rattle.lines.proofs.place.place_line.Given as goal
 
 abbrev pub invariant-loop-next : goal.invariant-loop-next
 invariant-loop-next g l =
-    (cap : Caps) → CapsShown l.caps l.task.beside.limits.site cap → LineSoFar cap l.task.beside l.task.charges.now l.line l.places l.profile l.by_place l.crowd l.from
+    (cap : Caps) → CapsShown l.task.caps.now l.task.beside.limits.site cap → LineSoFar cap l.task.beside l.task.charges.now l.line l.places l.profile l.by_place l.times l.from
 
 abbrev pub decreases-loop-next : goal.decreases-loop-next
 decreases-loop-next g l = length l.places

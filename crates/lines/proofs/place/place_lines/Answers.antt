@@ -9,7 +9,7 @@ pub loop-line-init : goal.loop-line-init
 loop-line-init g c = λ cap shown. lines_start c.requires.0 c.requires.1 refl refl
 
 pub loop-line-preserved : goal.loop-line-preserved
-loop-line-preserved g c = lines_same c.args.caps.now c.args.task.now c.place_line.ensures (omega arith)
+loop-line-preserved g c = lines_same c.args.task.now c.place_line.ensures (omega arith)
 
 pub returns : goal.returns
-returns g c = lines_same c.args.caps.now c.args.task.now c.loop-line.invariant (omega (arith, c.loop-line-test.false))
+returns g c = lines_same c.args.task.now c.loop-line.invariant (omega (arith, c.loop-line-test.false))

@@ -4,4 +4,4 @@ use Rattle.lines.specs.Lines.{LinesUnder}
 use Rattle.lines.proofs.place.place_lines.Given as goal
 
 abbrev pub invariant-loop-line : goal.invariant-loop-line
-invariant-loop-line g l = LinesUnder l.caps l.task (l.line - 1) l.profile l.by_place
+invariant-loop-line g l = LinesUnder l.task (l.line - 1) l.profile l.by_place

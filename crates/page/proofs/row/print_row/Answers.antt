@@ -2,8 +2,9 @@
 -- memory can have one of it.
 use mathlib.Core.List.{append_assoc}
 use borrow.Author.Rules.{rules}
+use borrow.Author.Tests.{lt-ltb, le-ltb}
 use native.Mathlib.Omega.{arith}
-use Rattle.page.specs.Lines.{row_of}
+use Rattle.page.specs.Lines.{row}
 use Rattle.page.proofs.Aligning.{ticket_digits, line_digits, start_digits, end_digits}
 use Rattle.page.proofs.row.print_row.Goals as goal
 
@@ -17,16 +18,18 @@ pub print_column-requires-3 : goal.print_column-requires-3
 print_column-requires-3 g c = (search rules, (rw c.from-3.ensures (start_digits c.requires.0), omega arith, omega arith))
 
 pub print_column-requires-4 : goal.print_column-requires-4
-print_column-requires-4 g c = (search rules, (end_digits c.requires.0, omega arith, omega arith))
+print_column-requires-4 g c =
+    let f = c.requires.0 in
+    (search rules, (rw c.end_of.ensures.0 (end_digits f _ (omega (arith, f.time_small, f.active_small))), omega arith, omega arith))
 
-pub returns-then-begun-clause-printed : goal.returns-then-begun-clause-printed
-unfolding row_of
-returns-then-begun-clause-printed g c =
-    rw (c.if-begun.true, c.print.ensures, c.print_column-4.ensures.printed, c.print_column-3.ensures.printed, c.print_column-2.ensures.printed, c.print_column.ensures.printed, c.from.ensures, c.from-2.ensures, c.from-3.ensures)
+pub returns-then-charge-clock-clause-printed : goal.returns-then-charge-clock-clause-printed
+unfolding row
+returns-then-charge-clock-clause-printed g c =
+    rw (c.print.ensures, c.print_column-4.ensures.printed, c.print_column-3.ensures.printed, c.print_column-2.ensures.printed, c.print_column.ensures.printed, c.from.ensures, c.from-2.ensures, c.from-3.ensures, c.end_of.ensures.0, lt-ltb c.args.charge.start c.args.clock c.if-charge-clock.true)
     (simp append_assoc)
 
-pub returns-else-begun-clause-printed : goal.returns-else-begun-clause-printed
-unfolding row_of
-returns-else-begun-clause-printed g c =
-    rw (c.if-begun.false, c.print-else-begun.ensures, c.print_column-4.ensures.printed, c.print_column-3.ensures.printed, c.print_column-2.ensures.printed, c.print_column.ensures.printed, c.from.ensures, c.from-2.ensures, c.from-3.ensures)
+pub returns-else-charge-clock-clause-printed : goal.returns-else-charge-clock-clause-printed
+unfolding row
+returns-else-charge-clock-clause-printed g c =
+    rw (c.print-else-charge-clock.ensures, c.print_column-4.ensures.printed, c.print_column-3.ensures.printed, c.print_column-2.ensures.printed, c.print_column.ensures.printed, c.from.ensures, c.from-2.ensures, c.from-3.ensures, c.end_of.ensures.0, le-ltb c.args.charge.start c.args.clock c.if-charge-clock.false)
     (simp append_assoc)

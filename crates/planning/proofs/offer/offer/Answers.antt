@@ -4,7 +4,7 @@ use native.Mathlib.Omega.{arith}
 use Rattle.std.proofs.lemmas.Result.{err_from_is_err_and}
 use Rattle.rules.specs.Calls.{offer}
 use Rattle.station.proofs.Views.{feeder_read}
-use Rattle.planning.proofs.Ready.{can_test}
+use Rattle.planning.proofs.Ready.{can_test, own_read, own_columns, ready}
 use Rattle.planning.proofs.Refusals.{gives_no_feeder, offer_refused}
 use Rattle.planning.proofs.Replanning.{offer_tested}
 use Rattle.planning.proofs.offer.offer.Goals as goal
@@ -19,8 +19,11 @@ returns-then-starts-waiting_count c =
     offer_refused _ c.in_ok-place.ensures.0 c.in_ok-place.ensures.1 _ (rw (feeder_read _ c.requires.formed c.in_ok-place.ensures.1 c.index-station-place.result) at c.waiting_count.ensures.0) (omega arith) c.requires c.if-starts-waiting_count.true
 
 pub tested-requires : goal.tested-requires
-tested-requires c = (can_test c.requires c.in_ok-place.ensures.1 c.surroundings-surroundings.ensures c.lent-beside.ensures (search), c.if-starts-waiting_count.false ∙ (rw (feeder_read _ c.requires.formed c.in_ok-place.ensures.1 c.index-station-place.result) at c.waiting_count.ensures.0))
+tested-requires c =
+    let w = can_test c.requires c.in_ok-place.ensures.1 c.surroundings-surroundings.ensures c.lent-beside.ensures refl in
+    (own_columns w _, (ready w _).listed, rw (w.beside.clock, own_read w _) (c.if-starts-waiting_count.false ∙ (rw (own_read w c.index-station-place.result) at c.waiting_count.ensures.0)))
 
 pub returns : goal.returns
 returns c =
-    offer_tested c.in_ok-place.ensures.0 c.in_ok-place.ensures.1 (rw (feeder_read _ c.requires.formed c.in_ok-place.ensures.1 c.index-station-place.result) at c.waiting_count.ensures.0) c.if-starts-waiting_count.false (omega arith) c.tested.ensures
+    offer_tested c.in_ok-place.ensures.0 (can_test c.requires c.in_ok-place.ensures.1 c.surroundings-surroundings.ensures c.lent-beside.ensures refl) _
+    (rw (feeder_read _ c.requires.formed c.in_ok-place.ensures.1 c.index-station-place.result) at c.waiting_count.ensures.0) c.if-starts-waiting_count.false (omega arith) c.tested.ensures

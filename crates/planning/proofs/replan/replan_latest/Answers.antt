@@ -3,7 +3,7 @@ use mathlib.Core.Path.{refl}
 use native.Mathlib.Omega.{arith}
 use Rattle.std.proofs.lemmas.Result.{err_from_is_err_and}
 use Rattle.rules.specs.Calls.{replan_latest}
-use Rattle.planning.proofs.Ready.{can_test, own_waiting, ready}
+use Rattle.planning.proofs.Ready.{can_test, own_columns, ready}
 use Rattle.planning.proofs.Refusals.{gives_no_feeder}
 use Rattle.planning.proofs.Replanning.{latest_tested}
 use Rattle.planning.proofs.replan.replan_latest.Goals as goal
@@ -19,9 +19,9 @@ latest-proposed-requires c = ready (can_test c.requires c.in_ok-place.ensures.1 
 pub replanned-requires : goal.replanned-requires
 replanned-requires c =
     let w = can_test c.requires c.in_ok-place.ensures.1 c.surroundings-surroundings.ensures c.lent-beside.ensures refl in
-    (w, rw (own_waiting w _) at c.latest-proposed.ensures.many)
+    (own_columns w _, (ready w _).listed, c.latest-proposed.ensures.many)
 
 pub returns : goal.returns
 returns c =
-    latest_tested c.in_ok-place.ensures.0 (can_test c.requires c.in_ok-place.ensures.1 c.surroundings-surroundings.ensures c.lent-beside.ensures refl)
-    c.replanned.ensures c.index-station-place.result c.latest-proposed.ensures (search) (search) (omega arith)
+    latest_tested c.in_ok-place.ensures.0 (can_test c.requires c.in_ok-place.ensures.1 c.surroundings-surroundings.ensures c.lent-beside.ensures refl) _
+    c.replanned.ensures c.latest-proposed.ensures (search) (search) (omega arith)

@@ -4,7 +4,7 @@ use native.Mathlib.Omega.{arith}
 use Rattle.std.proofs.lemmas.Result.{err_from_is_err_and}
 use Rattle.std.proofs.lemmas.Bool.Decides.{nat_tests}
 use Rattle.rules.specs.Calls.{replan_lines}
-use Rattle.planning.proofs.Ready.{can_test, own_waiting, ready}
+use Rattle.planning.proofs.Ready.{can_test, own_columns, ready}
 use Rattle.planning.proofs.Refusals.{gives_no_feeder, lines_refused}
 use Rattle.planning.proofs.Replanning.{lines_tested}
 use Rattle.planning.proofs.replan.replan_lines.Goals as goal
@@ -23,9 +23,9 @@ by_lines-made-requires c = ready (can_test c.requires c.in_ok-place.ensures.1 c.
 pub replanned-requires : goal.replanned-requires
 replanned-requires c =
     let w = can_test c.requires c.in_ok-place.ensures.1 c.surroundings-surroundings.ensures c.lent-beside.ensures refl in
-    (w, rw (own_waiting w _) at c.by_lines-made.ensures.many)
+    (own_columns w _, (ready w _).listed, c.by_lines-made.ensures.many)
 
 pub returns : goal.returns
 returns c =
-    lines_tested c.in_ok-place.ensures.0 (can_test c.requires c.in_ok-place.ensures.1 c.surroundings-surroundings.ensures c.lent-beside.ensures refl)
-    c.replanned.ensures c.args.allowance c.index-station-place.result c.by_lines-made.ensures (search) (search) (search) (grind (arith, nat_tests)) (grind (arith, nat_tests))
+    lines_tested c.in_ok-place.ensures.0 (can_test c.requires c.in_ok-place.ensures.1 c.surroundings-surroundings.ensures c.lent-beside.ensures refl) _
+    c.replanned.ensures c.args.allowance c.by_lines-made.ensures (search) (search) (search) (grind (arith, nat_tests)) (grind (arith, nat_tests))

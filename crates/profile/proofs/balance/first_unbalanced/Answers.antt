@@ -2,7 +2,7 @@ use mathlib.Core.Logic.{⊎_elim}
 use native.Mathlib.Omega.{arith}
 use Rattle.profile.proofs.Lines.{balanced_tests}
 use Rattle.profile.proofs.Levels.{same_or_not}
-use Rattle.profile.proofs.Balances.{steps_pass, first_minute_fails, compared_off, compared_all}
+use Rattle.profile.proofs.Balances.{steps_pass, first_off, compared_off, compared_all}
 use Rattle.profile.proofs.balance.first_unbalanced.Goals as goal
 
 pub loop-step-preserved : goal.loop-step-preserved
@@ -14,7 +14,7 @@ pub returns-then-bound-abs_diff : goal.returns-then-bound-abs_diff
 returns-then-bound-abs_diff c =
     record {
       answer =
-          first_minute_fails (balanced_tests c.args.bound) c.requires (omega (arith, c.loop-step-test.true))
+          first_off c.requires (omega (arith, c.loop-step-test.true))
           (compared_off c.loop-line.invariant (omega (arith, c.loop-line.auto.line)) (omega (arith, c.loop-line-test.true)) c.count-count.ensures c.count-other.ensures c.abs_diff.ensures (omega (arith, c.if-bound-abs_diff.true)))
           c.loop-step.invariant;
     }

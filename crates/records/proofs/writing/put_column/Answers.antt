@@ -6,5 +6,5 @@ use Rattle.records.proofs.writing.put_column.Goals as goal
 
 pub loop-byte-preserved : goal.loop-byte-preserved
 loop-byte-preserved c =
-    let e : c.args.from + c.loop-byte.byte + 1 ≡ c.args.from + (c.loop-byte.byte + 1) = omega arith in
-    λ f w r. rw e at (c.put_row.ensures.put f (row_among c.args.from c.loop-byte.byte w (omega arith) (omega arith) (omega arith)) (c.loop-byte.invariant f w r))
+    let e : c.args.field.from + c.loop-byte.byte + 1 ≡ c.args.field.from + (c.loop-byte.byte + 1) = omega arith in
+    λ f w r. rw e at (c.put_row.ensures.put f (row_among c.args.field.from c.loop-byte.byte w (omega arith) (omega arith) (omega arith)) (c.loop-byte.invariant f w r))

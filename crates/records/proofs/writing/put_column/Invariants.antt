@@ -6,6 +6,6 @@ use Rattle.records.proofs.writing.put_column.Given as goal
 
 abbrev pub invariant-loop-byte : goal.invariant-loop-byte
 invariant-loop-byte l = (f : ℕ → ℕ)
-    → ((k : ℕ) → k < l.width → RowOf f l.column (l.from + k) k)
-    → Begun f (record_place 0 l.from) l.initial.contents
-    → Begun f (record_place 0 (l.from + l.byte)) l.contents
+    → ((k : ℕ) → k < l.field.width → RowOf f l.column (l.field.from + k) k)
+    → Begun f (record_place 0 l.field.from) l.initial.contents
+    → Begun f (record_place 0 (l.field.from + l.byte)) l.contents

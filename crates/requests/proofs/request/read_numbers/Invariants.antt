@@ -7,4 +7,4 @@ use Rattle.requests.proofs.request.read_numbers.Given as goal
 abbrev pub invariant-loop-word : goal.invariant-loop-word
 invariant-loop-word l =
     (l.count ≡ length l.yielded)
-    × Reads (drop 1 (split 32 l.text)) l.takes.least l.takes.most l.initial.numbers l.numbers l.count
+    × Reads (drop 1 (split 32 l.text)) l.fn.takes l.initial.numbers l.numbers l.count

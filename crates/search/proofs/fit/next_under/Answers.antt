@@ -1,22 +1,26 @@
-use Prim.Native.Nat.{◌+◌, ◌-◌}
+-- `search::fit::next_under` meets its contract: every start is tested, since none ends behind the largest minute.
+use Prim.Native.Nat.{◌-◌}
 use native.Mathlib.Omega.{arith}
 use lib.ListN.{length}
+use Rattle.std.proofs.Common.{rules}
 use Rattle.profile.proofs.Edited.{minute_at}
-use Rattle.search.proofs.Rooms.{told_at, told_nothing, seek_below, seek_on, seek-done}
+use Rattle.search.specs.Caps.{room_under}
+use Rattle.search.proofs.Passings.{passing_least}
 use Rattle.search.proofs.Unders.{under_rests, under_earliest}
 use Rattle.search.proofs.fit.next_under.Goals as goal
 
-pub bounds-steps-i : goal.bounds-steps-i
-bounds-steps-i c =
-    seek_below c.requires.0.formed.rises (under_rests c.requires.0 c.requires.1 c.requires.2) c.loop-failing.invariant
-    (told_at _ _ _ _ _ _ c.first_failing.ensures c.in-Some.is)
+pub first_passing-requires-clause-settled : goal.first_passing-requires-clause-settled
+first_passing-requires-clause-settled c =
+    record {
+      passes = room_under c.args.steps.now c.args.caps.now c.args.draw.line c.args.draw.rate;
+      tests = λ s i u r e. search rules;
+      rests = under_rests c.requires.0 c.requires.1 c.requires.2;
+    }
 
-pub loop-failing-preserved : goal.loop-failing-preserved
-loop-failing-preserved c =
-    seek_on c.requires.0.formed.rises (under_rests c.requires.0 c.requires.1 c.requires.2) c.loop-failing.invariant
-    (told_at _ _ _ _ _ _ c.first_failing.ensures c.in-Some.is) (omega arith) (omega arith) (omega (arith, minute_at c.args.steps.now (c.in-Some.failing.step + 1)))
-
-pub returns-in_default : goal.returns-in_default
-returns-in_default c =
-    under_earliest _ (omega (arith, c.min-start.ensures, minute_at c.args.steps.now (length c.args.steps.now - 1)))
-    (seek-done c.loop-failing.invariant (omega arith) (omega arith) (told_nothing _ _ _ _ _ c.first_failing.ensures c.in_default.is))
+pub returns : goal.returns
+returns c =
+    let last = minute_at c.args.steps.now (length c.args.steps.now - 1) in
+    under_earliest _ (omega (arith, c.min-start.ensures, last))
+    (passing_least c.args.steps.now (omega (arith, c.min-start.ensures, last))
+    (c.first_passing.ensures.passing (room_under c.args.steps.now c.args.caps.now c.args.draw.line c.args.draw.rate) (λ s i u r e. search rules))
+    (omega (arith, c.first_passing.ensures.high)) (omega (arith, c.requires.0.ends_fit)))

@@ -9,4 +9,4 @@ use Rattle.search.proofs.walk.first_failing_by.Given as goal
 
 abbrev pub invariant-loop-i : goal.invariant-loop-i
 invariant-loop-i g l =
-    (f : ℕ → Bool) → Tells (goal.F-post g l.fails) l.steps l.until f → Walk f l.steps l.from l.until (l.step + length l.yielded)
+    (f : ℕ → Bool) → Tells (goal.F-post g l.fails) l.steps l.minutes.end f → Walk f l.steps l.minutes.start l.minutes.end (l.first + length l.yielded)

@@ -18,11 +18,11 @@ loop-i-preserved c =
     let s = c.args.self.now in
     let i = c.loop-i.i in
     let before = c.loop-i.invariant in
-    let here : i < s.count = among s c.requires.0 c.loop-i-test.true in
+    let here : i < s.count = among s c.requires.0 c.feeders-other-items.ensures c.loop-i-test.true in
     elim c.if-i-place.branch [
       | then-i-place w ↦
           let joined : w.append.new.self ≡ c.loop-i.rest ++ seen_from false (loads_of (charges_of (feeder_at s i).charges)) =
-          w.append.ensures ∙ rw (c.other-item.is ∙ among_read s c.loop-i-test.true here _) refl in (
+          w.append.ensures ∙ rw (c.other-item.is ∙ among_read s c.feeders-other-items.ensures c.loop-i-test.true here _) refl in (
             rw w.rest-is (others_join before.0 (λ e. w.if-i-place.true (omega (arith, e))) (omega (arith, here, view_length s)) (held_at_lem s i c.requires.0 here) joined),
             λ h. rw w.rest-is (omega (arith, before.1 (omega (arith, h, w.if-i-place.true)), (feeder_at s i).charges.few, length_gathered false c.loop-i.rest (feeder_at s i).charges joined)),
           )

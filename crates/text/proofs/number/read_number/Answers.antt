@@ -1,4 +1,5 @@
 use mathlib.Core.Path.{sym, ◌∙◌}
+use borrow.Author.Rules.{rules}
 use Prim.Native.Nat.{◌+◌, ◌-◌}
 use native.Mathlib.Omega.{arith}
 use lib.ListN.{get_or, drop}
@@ -24,6 +25,5 @@ loop-byte-preserved c =
 
 pub returns : goal.returns
 returns c =
-    c.or.ensures
-    ∙ settled c.loop-byte.value c.try_from.result c.try_from.ensures
+    settled c.loop-byte.value c.try_from.result c.map_err.result c.try_from.ensures (search rules)
     ∙ sym (c.loop-byte.invariant ∙ value_left c.loop-byte.value c.loop-byte.byte-index c.args.word.now c.loop-byte-test.false)

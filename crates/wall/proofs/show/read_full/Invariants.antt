@@ -1,10 +1,7 @@
--- No more bytes came than there are places; each turn leaves fewer places.
-use Prim.Native.Nat.{◌≤◌, ◌-◌}
+-- Each turn leaves fewer places.
+use Prim.Native.Nat.{◌-◌}
 use lib.ListN.{length}
 use Rattle.wall.proofs.show.read_full.Given as goal
 
-abbrev pub invariant-loop-done : goal.invariant-loop-done
-invariant-loop-done l = l.done ≤ length l.part
-
-abbrev pub decreases-loop-done : goal.decreases-loop-done
-decreases-loop-done l = length l.part - l.done
+abbrev pub decreases-loop-text : goal.decreases-loop-text
+decreases-loop-text l = 65536 - length l.text

@@ -1,21 +1,35 @@
-use mathlib.Core.Path.{ap, sym, ◌∙◌}
-use mathlib.Core.List.{append-nil}
+-- The four columns have the charges' numbers behind what was drawn before; the lines are 4 where the feeder is another.
+use mathlib.Core.Path.{ap}
+use mathlib.Core.Bool.{true, false}
 use native.Mathlib.Omega.{arith}
 use lib.ListN.{length}
 use Rattle.std.proofs.Common.{rules}
-use Rattle.charges.proofs.Drawing.{loads_length, joined_next, joined_all}
+use Rattle.charges.proofs.Drawing.{loads_length, copied, filled, joined}
+use Rattle.charges.proofs.drawn.Drawn.append.Goals.{then-own, else-own}
 use Rattle.charges.proofs.drawn.Drawn.append.Goals as goal
 
-pub loop-i-init : goal.loop-i-init
-loop-i-init c = let d = c.self.inside in (omega (arith, ap length c.self.view_is, loads_length d.held d.lines d.active_times d.starts d.rates), c.self.view_is ∙ sym (append-nil c.args.self.now))
-
-pub loop-i-preserved : goal.loop-i-preserved
-loop-i-preserved c =
-    let d = c.loop-i.self-inside in
-    let next = joined_next c.args.own c.args.charges.now c.loop-i.i c.args.self.now d.lines d.active_times d.starts d.rates d.held in (
-      omega arith,
-      next (search rules) (search rules) (search rules) (search rules) c.loop-i.invariant.1 (search rules) (search rules) (search rules) (search rules),
-    )
+pub slice_bounds-lines-end : goal.slice_bounds-lines-end
+slice_bounds-lines-end c = let d = c.self.inside in omega (arith, ap length c.self.view_is, loads_length d.held d.lines d.active_times d.starts d.rates)
 
 pub returns : goal.returns
-returns c = joined_all c.args.own c.args.charges.now c.loop-i.i c.args.self.now c.loop-i.invariant.1 (omega arith)
+returns c =
+    let d = c.self.inside in
+    let a = c.args.charges.now in
+    let k = d.held in
+    let n = a.held in
+    elim c.if-own.branch [
+      | then-own w ↦
+          rw (w.self-inside-is, ← c.self.view_is, w.if-own.true)
+          (joined true a k d.lines d.active_times d.starts d.rates
+          (copied k n d.lines (search rules) a.lines (search rules) (search rules))
+          (copied k n d.active_times (search rules) a.active_times (search rules) (search rules))
+          (copied k n d.starts (search rules) a.starts (search rules) (search rules))
+          (copied k n d.rates (search rules) a.rates (search rules) (search rules)))
+      | else-own w ↦
+          rw (w.self-inside-is, ← c.self.view_is, w.if-own.false)
+          (joined false a k d.lines d.active_times d.starts d.rates
+          (filled k n d.lines (search rules) 4 (search rules))
+          (copied k n d.active_times (search rules) a.active_times (search rules) (search rules))
+          (copied k n d.starts (search rules) a.starts (search rules) (search rules))
+          (copied k n d.rates (search rules) a.rates (search rules) (search rules)))
+    ]

@@ -10,17 +10,17 @@ pub chosen_at-requires-2 : goal.chosen_at-requires-2
 chosen_at-requires-2 c =
     let more : 1 ≤ length c.args.left.now.places.now = grind (arith, nat_tests) in
     let m = rw c.in_ok-start.was at c.next_start.ensures in
-    let r = there_range c.requires more c.narrowed-left.ensures.crowd m in
-    rw (c.narrowed-left.ensures.same.0, c.narrowed-left.ensures.same.1) (can_there c.requires more c.narrowed-left.ensures.crowd r.0 (omega (arith, r.1, c.requires.can_start.ends_fit)))
+    let r = there_range c.requires more c.narrowed-left.ensures m in
+    can_there c.requires more c.narrowed-left.ensures r.0 (omega (arith, r.1, c.requires.can_start.ends_fit))
 
-pub returns-in_err-place : goal.returns-in_err-place
-returns-in_err-place c =
+pub returns-in_err-position : goal.returns-in_err-position
+returns-in_err-position c =
     let more : 1 ≤ length c.args.left.now.places.now = grind (arith, nat_tests) in
     let m = rw c.in_ok-start.was at c.next_start.ensures in
-    absurd (taken_there c.requires more c.narrowed-left.ensures.crowd m (rw (c.in_err-place.was, c.narrowed-left.ensures.same.0, c.narrowed-left.ensures.same.1) at c.chosen_at-2.ensures))
+    absurd (taken_there c.requires more c.narrowed-left.ensures m (rw c.in_err-position.was at c.chosen_at-2.ensures))
 
 pub returns : goal.returns
 returns c =
     let more : 1 ≤ length c.args.left.now.places.now = grind (arith, nat_tests) in
     let m = rw c.in_ok-start.was at c.next_start.ensures in
-    next_there c.requires more c.narrowed-left.ensures.crowd m (rw (c.in_ok-place.was, c.narrowed-left.ensures.same.0, c.narrowed-left.ensures.same.1) at c.chosen_at-2.ensures)
+    next_there c.requires more c.narrowed-left.ensures m (rw c.in_ok-position.was at c.chosen_at-2.ensures)

@@ -5,7 +5,7 @@ use Rattle.priority.proofs.Choosing.{BestSoFar}
 use Rattle.priority.proofs.choice.Left.choose.Given as goal
 
 abbrev pub invariant-loop-j : goal.invariant-loop-j
-invariant-loop-j l = BestSoFar l.self.charges.now l.self.places.now l.self.crowd l.start l.runs.one l.runs.two l.best l.taken.time l.taken.weight l.from
+invariant-loop-j l = BestSoFar l.self l.start l.runs l.best l.taken l.from
 
 abbrev pub decreases-loop-j : goal.decreases-loop-j
 decreases-loop-j l = length l.self.places.now - l.from

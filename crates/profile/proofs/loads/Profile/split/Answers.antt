@@ -3,15 +3,15 @@ use mathlib.Core.Path.{◌≡◌, refl, sym, ◌∙◌, ap, subst}
 use native.Mathlib.Omega.{arith}
 use Prim.Native.Nat.{ℕ}
 use lib.ListN.{length, take, length-take}
-use Rattle.profile.specs.Steps.{minutes_of, In}
+use Rattle.profile.specs.Steps.{In}
 use Rattle.profile.specs.Shows.{Profile, Formed}
 use Rattle.profile.proofs.Edited.{minute_taken}
 use Rattle.profile.proofs.Both.{none_new, later_new, earlier_new, in_order, split_twice, both_put}
 use Rattle.profile.proofs.loads.Profile.split.Goals as goal
 
 -- the step found in the list that is lent is that of the profile
-found : {p q : Profile} {i t : ℕ} → p ≡ q → In (minutes_of p) (length p) i t → In (minutes_of q) (length q) i t
-found {p} {q} {i} {t} e h = subst (λ (p : Profile). In (minutes_of p) (length p) i t) e h
+found : {p q : Profile} {i t : ℕ} → p ≡ q → In p i t → In q i t
+found {p} {q} {i} {t} e h = subst (λ (p : Profile). In p i t) e h
 
 pub returns-then-self-i : goal.returns-then-self-i
 returns-then-self-i g c =

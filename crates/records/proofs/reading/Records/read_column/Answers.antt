@@ -13,14 +13,14 @@ join_row-requires c =
     let r = c.args.self.now in
     let v = c.loop-j.invariant in
     let contents = r.contents.now in
-    (omega arith, omega (arith, held_long contents r.few v.0 v.1), row_fits contents r.few v.0 v.1 c.requires.1 (omega arith))
+    (omega arith, omega (arith, held_long contents r.headed.few v.0 v.1), row_fits contents r.headed.few v.0 v.1 c.args.field.within.1 (omega arith))
 
 pub loop-j-preserved : goal.loop-j-preserved
 loop-j-preserved c =
     let r = c.args.self.now in
     let v = c.loop-j.invariant in
     let contents = r.contents.now in
-    (row_filled contents r.few v.0 v.1 _ c.join_row.ensures, rows_joined contents r.few v.0 v.1 _ c.join_row.ensures (omega arith))
+    (row_filled contents r.headed.few v.0 v.1 _ c.join_row.ensures, rows_joined contents r.headed.few v.0 v.1 _ c.join_row.ensures (omega arith))
 
 pub returns : goal.returns
 returns c = column_read c.args.self.now.contents.now c.loop-j.invariant.0 c.loop-j.invariant.1 (omega arith)
