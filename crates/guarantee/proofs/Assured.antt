@@ -1,7 +1,7 @@
 -- What calls and answers say of each order, in the words of demand 3.
 use mathlib.Core.Path.{◌≡◌, refl, sym, ap, subst, ◌∙◌}
 use Prim.Native.Nat.{ℕ, ◌≤◌}
-use mathlib.Core.Bool.{true, false, not}
+use mathlib.Core.Bool.{true, false, not, true≢false}
 use mathlib.Core.List.{List, [], ◌∷◌, map}
 use native.Mathlib.Omega.{arith}
 use lib.Dec.{eqb}
@@ -9,15 +9,17 @@ use lib.ListN.{length}
 use borrow.Author.Tests.{lt-ltb, le-ltb}
 use Rattle.rules.specs.Basics.{Each, keep, some}
 use Rattle.rules.specs.Load.{IsLine, last_until}
-use Rattle.rules.specs.Charge.{Charge, active_until, loads_of, has_ticket}
+use Rattle.rules.specs.Charge.{Charge, active_until, is_finished, loads_of, has_ticket}
 use Rattle.rules.specs.Site.{State, feeder_of, site_charges}
 use Rattle.rules.specs.Calls.{step}
+use Rattle.rules.proofs.Ranges.{fails}
 use Rattle.rules.proofs.Lists.{each_both, kept_pass, keep_each}
 use Rattle.guarantee.specs.Past.{Order, Past, is_withdrawn, staying_orders, withdrawn_orders, on_feeder, tail_of, load_of}
-use Rattle.guarantee.specs.DemandThree.{Kept, Gone, InTime, NoOther}
+use Rattle.guarantee.specs.DemandThree.{Kept, Gone, InTime, NoOther, NoOtherFound}
 use Rattle.guarantee.proofs.Each.{each_two, each_in, image_each, each_image, keep_image, some_image}
 use Rattle.guarantee.proofs.History.{Booked, order_in, orders_in, charges_in, is_on, booked_on, Fit}
 use Rattle.guarantee.proofs.Tickets.{is_ticket, times_sum, sum_ours}
+use Rattle.guarantee.proofs.Enquiries.{told_not_held}
 use Rattle.guarantee.proofs.Reports.{sum_reports, sum_begun}
 use Rattle.guarantee.proofs.Invariant.{tail-is, ceiling_of}
 use Rattle.guarantee.proofs.Staying.{some_kept, stays_not_withdrawn, withdrawn_none, none_begun, none_told}
@@ -101,15 +103,31 @@ module _ (s : State) (h : Past) (hs : List Booked) (known : Known s h hs) where
       (keep_each (Fit s h.clock) (is_on f) hs known.invariant.fit)
       (keep_each (λ x. Said h (held s h hs known) x.charge) (is_on f) hs (said s h hs known)))
 
-  pub only_ours : NoOther h
-  only_ours t j =
-      let q : sum_reports (is_ticket t) h.reports ≡ sum_begun (is_ticket t) h.clock (charges_in hs)
-      = known.invariant.reports (is_ticket t) in
+  -- a charge of the history is of an accepted order
+  history_ours :
+      (t : ℕ) → some (has_ticket t) (charges_in hs) ≡ true → some (λ (o : Order). eqb o.ticket t) h.orders ≡ true
+  history_ours t e =
       some_kept (λ (o : Order). eqb o.ticket t) (λ o. not (is_withdrawn h.withdrawn o)) h.orders
       (subst (λ (os : List Order). some (λ (o : Order). eqb o.ticket t) os ≡ true) known.invariant.orders
       (some_image order_in (λ (o : Order). eqb o.ticket t) hs
       ∙ sym (some_image (λ (x : Booked). x.charge) (has_ticket t) hs)
-      ∙ sum_ours t h.clock (charges_in hs) (omega (arith, times_sum h.reports t))))
+      ∙ e))
+
+  pub only_ours : NoOther h
+  only_ours t j =
+      let q : sum_reports (is_ticket t) h.reports ≡ sum_begun (is_ticket t) h.clock (charges_in hs)
+      = known.invariant.reports (is_ticket t) in
+      history_ours t (sum_ours t h.clock (charges_in hs) (omega (arith, times_sum h.reports t)))
+
+  pub only_ours_found : NoOtherFound step h
+  only_ours_found t e = enquiry_held s h hs known t ∙ told_not_held h.clock t (held s h hs known) none
+    where
+      none : some (has_ticket t) (held s h hs known) ≡ false
+      none =
+          fails (some (has_ticket t) (held s h hs known))
+          (λ p.
+          true≢false
+          (sym (history_ours t (some_kept (has_ticket t) (λ c. not (is_finished h.clock c)) (charges_in hs) p)) ∙ e))
 
   -- no charge of the history has a withdrawn ticket
   pub withdrawn_gone : Each (Gone step h) (withdrawn_orders h)

@@ -17,7 +17,7 @@ use Rattle.guarantee.proofs.Unmoved.{reported_unmoved}
 use Rattle.guarantee.proofs.History.{charges_in, booked_on, on_each_lem}
 use Rattle.guarantee.proofs.Bookings.{booked_in, booked_on_lem}
 use Rattle.guarantee.proofs.Beginnings.{station_known}
-use Rattle.guarantee.proofs.Assured.{orders_kept, orders_in_time, loads_history, loads_on_lem, only_ours, withdrawn_gone}
+use Rattle.guarantee.proofs.Assured.{orders_kept, orders_in_time, loads_history, loads_on_lem, only_ours, only_ours_found, withdrawn_gone}
 use Rattle.guarantee.proofs.Invariant.{Accepted, OwnOf}
 use Rattle.guarantee.proofs.Steps.{Reach, reach}
 use Rattle.guarantee.proofs.Saying.{said}
@@ -65,6 +65,7 @@ module _ (s : State) (calls : List Call) (v : ValidState s) where
         orders = orders_kept s (past step s calls) reached.now reached.known;
         gone = withdrawn_gone s (past step s calls) reached.now reached.known;
         no_other = only_ours s (past step s calls) reached.now reached.known;
+        no_other_found = only_ours_found s (past step s calls) reached.now reached.known;
         unmoved = unmoved_part;
       }
 
@@ -129,6 +130,7 @@ unused_three s calls v u =
       in_time =
           orders_in_time s (past step s calls) (reached s calls v).now (reached s calls v).known (rw u.charges);
       no_other = d.no_other;
+      no_other_found = d.no_other_found;
       unmoved = d.unmoved;
     }
 

@@ -1,5 +1,5 @@
 -- Demand 3 as one claim about the list of calls (docs/RULES.md, section 6): from an opening, and from any other station.
-use Rattle.std.specs.Prelude.{◌≡◌, ℕ, ◌+◌, ◌≤◌, ◌<◌, true, List, ◌++◌, eqb}
+use Rattle.std.specs.Prelude.{◌≡◌, ℕ, ◌+◌, ◌≤◌, ◌<◌, true, false, List, ◌++◌, eqb}
 use Rattle.rules.specs.Basics.{Each, some}
 use Rattle.rules.specs.Load.{IsLine}
 use Rattle.rules.specs.Site.{State, feeder_of}
@@ -43,6 +43,11 @@ InTime gives h o = end_of gives h o ≤ last_minute 0 h.orders + total_time h.ta
 abbrev pub NoOther : Past → Type 0
 NoOther h = (t : ℕ) → 1 ≤ times_reported h.reports t → some (λ (o : Order). eqb o.ticket t) h.orders ≡ true
 
+-- "No ticket but theirs": and none but theirs is found by an enquiry.
+abbrev pub NoOtherFound : Gives → Past → Type 0
+NoOtherFound gives h =
+    (t : ℕ) → some (λ (o : Order). eqb o.ticket t) h.orders ≡ false → enquiry gives h t ≡ refused 15
+
 -- "No start before the clock has ever changed." Claimed of every list this follows from `reported` after each first
 -- part, since reports are only added (`reported_unmoved` in proofs/Unmoved.antt); of one list it says more.
 abbrev pub NoneMoved : Gives → State → List Call → Type 0
@@ -74,6 +79,7 @@ pub record DemandThree (gives : Gives) (s : State) (calls : List Call) : Type 0 
   pub gone : Each (Gone gives (past gives s calls)) (withdrawn_orders (past gives s calls))
   pub in_time : Each (InTime gives (past gives s calls)) (staying_orders (past gives s calls))
   pub no_other : NoOther (past gives s calls)
+  pub no_other_found : NoOtherFound gives (past gives s calls)
   pub unmoved : NoneMoved gives s calls
 
 -- "from its clock on"
@@ -100,4 +106,5 @@ pub record DemandThreeFrom (gives : Gives) (s : State) (calls : List Call) : Typ
   pub orders : Each (Kept gives (past gives s calls)) (staying_orders (past gives s calls))
   pub gone : Each (Gone gives (past gives s calls)) (withdrawn_orders (past gives s calls))
   pub no_other : NoOther (past gives s calls)
+  pub no_other_found : NoOtherFound gives (past gives s calls)
   pub unmoved : NoneMoved gives s calls
