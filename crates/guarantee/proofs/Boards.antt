@@ -1,11 +1,11 @@
 -- What the board shows is what enquiries say.
 use mathlib.Core.Path.{◌≡◌, refl, sym, ap, ◌∙◌}
-use Prim.Native.Nat.{ℕ, zero, suc, max, ◌≤◌, ◌<◌}
+use Prim.Native.Nat.{ℕ, zero, suc, max, ◌≤◌}
 use mathlib.Core.Bool.{Bool, true, false, ◌||◌}
 use mathlib.Core.List.{List, [], ◌∷◌, map}
 use native.Mathlib.Omega.{arith}
 use lib.Dec.{leb, eqb}
-use lib.ListN.{length, get_or}
+use lib.ListN.{get_or}
 use borrow.Author.Tests.{leb-true, leb-false, le-leb, lt-leb}
 use Rattle.rules.specs.Basics.{keep, some, Each, first_of}
 use Rattle.rules.specs.Charge.{Charge, is_begun}
@@ -17,8 +17,8 @@ use Rattle.rules.proofs.Tables.{none_first_of}
 use Rattle.rules.proofs.OnTheBoard.{place_shown}
 use Rattle.rules.proofs.Sites.{by_place}
 use Rattle.rules.proofs.Distinct.{each_joined}
-use Rattle.guarantee.specs.DemandOne.{NoneApplies}
 use Rattle.guarantee.specs.DemandTwo.{shown_by, highest, BoardShown}
+use Rattle.guarantee.specs.Follows.{BoardsShowEnquiries}
 use Rattle.guarantee.proofs.Each.{each_in}
 use Rattle.guarantee.proofs.Enquiries.{enquiry_told}
 
@@ -71,11 +71,7 @@ looked_highest asked (c ∷ cs) e = rw (some_highest c.ticket asked e.0, looked_
 -- A board
 
 -- what stands at the place of a ticket is what an enquiry of it says
-pub place_enquired :
-    (s : State) (asked list : List ℕ) (i : ℕ)
-    → NoneApplies (refusals s (board asked list))
-    → i < length asked
-    → get_or (step s (board asked list)).list i 0 ≡ shown_by (step s (enquire (get_or asked i 0))).answer
+pub place_enquired : BoardsShowEnquiries
 place_enquired s asked list i q h =
     rw (none_first_of (refusals s (board asked list)) q)
     (place_shown s asked list i h

@@ -19,6 +19,7 @@ use Rattle.rules.proofs.Validity.{opening_valid, step_valid, order_found}
 use Rattle.guarantee.specs.Past.{is_refused, Past, beginning, extended, after}
 use Rattle.guarantee.specs.Demands.{reached}
 use Rattle.guarantee.specs.DemandOne.{FirstIs, NoneApplies, RefusedBy, AnswerTo, DemandOne, DemandOneOpening}
+use Rattle.guarantee.specs.Follows.{OwnAnswersAreNoRefusals}
 use Rattle.guarantee.proofs.Tables.{first_of_is, is_first_of, is_numbered}
 
 -- What a table makes of a call
@@ -61,7 +62,7 @@ refused_by rows kept list r numbered plain = go (first_of rows) refl
         }
 
 -- an answer of a call's own kind is no refusal
-pub answer_not_refused : (c : Call) (a : Answer) → AnswerTo c a → is_refused a ≡ false
+pub answer_not_refused : OwnAnswersAreNoRefusals
 answer_not_refused (preview f line p d rate) a (s, e) = rw e
 answer_not_refused (commit f line p d rate shown) a (t, e) = rw e
 answer_not_refused (move target list) a (n, m, e) = rw e

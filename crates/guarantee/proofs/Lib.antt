@@ -1,5 +1,6 @@
 pub mod Each
 pub mod Unmoved
+pub mod Example
 pub mod Counted
 pub mod Tables
 pub mod History

@@ -9,23 +9,13 @@ use lib.ListN.{length}
 use borrow.Author.Tests.{eq-eqb, ne_eqb}
 use Rattle.rules.specs.Basics.{Each}
 use Rattle.rules.specs.Load.{Load, active, draws, count, drawn, IsLine}
-use Rattle.rules.specs.Site.{State}
-use Rattle.rules.specs.Calls.{Call, step}
-use Rattle.rules.specs.Valid.{ValidState}
+use Rattle.rules.specs.Calls.{step}
 use Rattle.rules.proofs.Ranges.{either_way, below_or_not}
 use Rattle.rules.proofs.Sites.{whole_beside}
 use Rattle.guarantee.proofs.Assured.{orders_placed}
 use Rattle.guarantee.proofs.DemandThree.{reached}
-use Rattle.guarantee.specs.Past.{Order, past, staying_orders, on_feeder, load_of, count_in, site_in}
-
--- the sum of what k numbers from a on have
-abbrev pub sum_over : (ℕ → ℕ) → ℕ → ℕ → ℕ
-sum_over g zero a = 0
-sum_over g (suc k) a = g a + sum_over g k (suc a)
-
--- the sum over the lines of a feeder
-abbrev pub over_lines : (ℕ → ℕ) → ℕ
-over_lines g = sum_over g 3 1
+use Rattle.guarantee.specs.Past.{Order, past, staying_orders, on_feeder, load_of}
+use Rattle.guarantee.specs.Counts.{sum_over, over_lines, SiteIsTheSum}
 
 sum_same : (g h : ℕ → ℕ) (k a : ℕ) → ((i : ℕ) → a ≤ i → h i ≡ g i) → sum_over h k a ≡ sum_over g k a
 sum_same g h zero a e = refl
@@ -80,10 +70,7 @@ module _ (n : ℕ) (load : Order → Load) (t : ℕ) where
       (λ i d. rw (ne_eqb o.feeder i (λ q. d (sym q))))))
 
 -- "the weighted count of all lines in a minute", after every list of calls
-pub site_sum :
-    (s : State) (calls : List Call) (v : ValidState s) (t : ℕ)
-    → let h = past step s calls in
-    site_in step h t ≡ sum_over (λ f. over_lines (λ l. count_in step h f l t)) (length s.feeders) 1
+pub site_sum : SiteIsTheSum
 site_sum s calls v t =
     sum_lines (length s.feeders) (load_of step (past step s calls)) t (staying_orders (past step s calls))
     (orders_placed s (past step s calls) (reached s calls v).now (reached s calls v).known)

@@ -23,6 +23,7 @@ use Rattle.rules.proofs.Sites.{last_seen, until_append, lines_own}
 use Rattle.rules.proofs.Holding.{last_site}
 use Rattle.guarantee.specs.DemandOne.{FirstIs, NoneApplies}
 use Rattle.guarantee.specs.DemandTwo.{Unbroken, Better, Taken, cause_of}
+use Rattle.guarantee.specs.Follows.{ChargesAreUnbroken, BetterStarts, TakingFollows}
 use Rattle.guarantee.proofs.Each.{each_in}
 use Rattle.guarantee.proofs.Tables.{first_of_is}
 use Rattle.guarantee.proofs.Orders.{plan_sound_lem, sound_plan, own_lines}
@@ -38,7 +39,7 @@ unbroken c t = (
   (λ p. and_both (leb c.start t) (ltb t (active_until c)) (le-leb c.start t p.0) (lt-ltb t (active_until c) p.1)),
 )
 
-pub each_unbroken : (cs : List Charge) → Each Unbroken cs
+pub each_unbroken : ChargesAreUnbroken
 each_unbroken [] = tt
 each_unbroken (c ∷ cs) = (unbroken c, each_unbroken cs)
 
@@ -108,10 +109,6 @@ same_starts ss us e = cc
 pub none_apart : (cause : ℕ) (us : List ℕ) → none cause ≡ starts us → ⊥
 none_apart cause us e = let q : ◌≡◌ {A = ℕ} 0 1 = cc in omega arith
 
--- a list of starts that is better
-abbrev pub BetterStarts : State → ℕ → Proposal → Type 0
-BetterStarts s f p = (ss : List ℕ) × (p ≡ starts ss) × Better s f ss (restarted s.clock (charges_on s f) ss)
-
 -- the cause is 0 exactly for one, since no proposal comes without starts and without a cause
 cause_better :
     (s : State)
@@ -156,8 +153,8 @@ module _
             absurd (refused_not_taken (suc i)
             (subst (λ (a : Answer). Taken a) ((number (suc i)).1 (first_of_is i (refusals s call) e)) t))
 
-    pub taken_follows : Taken r.answer ↔ (NoneApplies (refusals s call) × BetterStarts s f p)
-    taken_follows = (
+    taken_exactly : Taken r.answer ↔ (NoneApplies (refusals s call) × BetterStarts s f p)
+    taken_exactly = (
       taken_better,
       (λ b. (
         _,
@@ -168,3 +165,7 @@ module _
             ((cause_better s valid f (named b.0) p some).1 b.1),
       )),
     )
+
+pub taken_follows : TakingFollows
+taken_follows s valid f call named p some rounds r number answer =
+    taken_exactly s valid f call named p some rounds r number answer

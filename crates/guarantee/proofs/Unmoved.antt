@@ -6,10 +6,10 @@ use mathlib.Core.List.{List, [], ◌∷◌, ◌++◌, append_assoc, append-nil}
 use native.Mathlib.Omega.{arith}
 use lib.Dec.{eqb}
 use Rattle.rules.specs.Basics.{Each}
-use Rattle.rules.specs.Site.{State}
 use Rattle.rules.specs.Calls.{Result, Call}
 use Rattle.guarantee.specs.Past.{Gives, Order, Report, Past, learnt, beginning, extended, after, past, staying_orders, times_reported, reported_start, start_in, enquiry, start_of}
-use Rattle.guarantee.specs.DemandThree.{Unmoved, NoneMoved}
+use Rattle.guarantee.specs.DemandThree.{Unmoved}
+use Rattle.guarantee.specs.Follows.{ReportedStartsStay}
 use Rattle.guarantee.proofs.Each.{each_in}
 
 -- a first part, then the rest
@@ -42,24 +42,18 @@ first_report (r ∷ rs) new t x y h = go (eqb r.ticket t) h (first_report rs new
     go false u ih = ih (omega arith)
 
 -- `unmoved` follows from `reported` after each first part, of every station, right or wrong
-module _ (gives : Gives) (s : State) (calls : List Call) where
-  unmoved_order :
-      (here : Past) (rest : List Call) (o : Order)
-      → (start_of gives here o < here.clock → times_reported here.reports o.ticket ≡ 1)
-      → Unmoved gives here (after gives here rest) o
-  unmoved_order here rest o once j =
-      let new = reports_added gives rest here in
-      ap (λ (rs : List Report). reported_start rs o.ticket (start_in (enquiry gives (after gives here rest) o.ticket))) new.1
-      ∙ first_report here.reports new.0 o.ticket _ _ (omega (arith, once (omega (arith, j))))
+unmoved_order :
+    (gives : Gives) (here : Past) (rest : List Call) (o : Order)
+    → (start_of gives here o < here.clock → times_reported here.reports o.ticket ≡ 1)
+    → Unmoved gives here (after gives here rest) o
+unmoved_order gives here rest o once j =
+    let new = reports_added gives rest here in
+    ap (λ (rs : List Report). reported_start rs o.ticket (start_in (enquiry gives (after gives here rest) o.ticket))) new.1
+    ∙ first_report here.reports new.0 o.ticket _ _ (omega (arith, once (omega (arith, j))))
 
-  pub reported_unmoved :
-      ((part rest : List Call)
-      → calls ≡ part ++ rest
-      → Each (λ o. start_of gives (past gives s part) o < (past gives s part).clock → times_reported (past gives s part).reports o.ticket ≡ 1)
-      (staying_orders (past gives s part)))
-      → NoneMoved gives s calls
-  reported_unmoved once part rest e =
-      subst (λ (z : List Call). Each (Unmoved gives (past gives s part) (past gives s z)) (staying_orders (past gives s part))) (sym e)
-      (subst (λ (g : Past). Each (Unmoved gives (past gives s part) g) (staying_orders (past gives s part)))
-      (sym (after-append gives part rest (beginning s)))
-      (each_in (unmoved_order (past gives s part) rest) (staying_orders (past gives s part)) (once part rest e)))
+pub reported_unmoved : ReportedStartsStay
+reported_unmoved gives s calls once part rest e =
+    subst (λ (z : List Call). Each (Unmoved gives (past gives s part) (past gives s z)) (staying_orders (past gives s part))) (sym e)
+    (subst (λ (g : Past). Each (Unmoved gives (past gives s part) g) (staying_orders (past gives s part)))
+    (sym (after-append gives part rest (beginning s)))
+    (each_in (unmoved_order gives (past gives s part) rest) (staying_orders (past gives s part)) (once part rest e)))

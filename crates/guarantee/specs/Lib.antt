@@ -3,4 +3,7 @@ pub mod DemandOne
 pub mod DemandTwo
 pub mod DemandThree
 pub mod Demands
+pub mod Follows
+pub mod Counts
 pub mod Example
+pub mod Examples
