@@ -1,64 +1,25 @@
--- The lists of calls in force, tried on events, with what is right worked out by hand.
-use mathlib.Core.Path.{◌≡◌, refl}
-use mathlib.Core.List.{[], ◌∷◌}
-use lib.ListN.{replicate}
-use Rattle.rules.specs.Site.{feeder_of}
-use Rattle.rules.specs.Calls.{settings, Asked, Call, commit, move, enquire, opening}
-use Rattle.rules.specs.Entry.{one_feeder}
+-- The lists of calls in force, computed on events (specs/Cases.antt).
+use mathlib.Core.Path.{refl}
+use Rattle.rules.specs.Calls.{opening}
 use Rattle.layout.specs.Reading.{restore_refusal}
-use Rattle.restarts.specs.Events.{opens, made, saves, restores, brings, an_opening, a_refused_restore, in_force}
-use Rattle.restarts.specs.Restarts.{opened, stands, wrote_none, shows_all}
+use Rattle.restarts.specs.Cases.{CallsAfterTheSaveFallOut, LaterSaveIsStillThere, RefusedRestoreBeginsAnew, SeveralAreNotSaved, OpeningsOnTheBus}
 
--- a first charge on line 1, and a second one behind it
-abbrev first_order : Call
-first_order = commit 1 1 10 60 1 0
-
-abbrev second_order : Call
-second_order = commit 1 1 10 60 1 10
-
-abbrev later_move : Call
-later_move = move 5 (replicate 360 7)
-
-abbrev one : Asked
-one = one_feeder 1 100 0
-
--- two feeders
-abbrev two : Asked
-two = record { count = 2; site = 720; settings = settings 1 100 0 ∷ settings 2 50 2 ∷ [] }
-
--- an order, save 0, another order and a clock move, save 1; then save 0 is restored, and an enquiry made: the second order and the
--- move fall out
-pub restored_first :
-    in_force one
-    (made first_order ∷ saves ∷ made second_order ∷ made later_move ∷ saves ∷ restores 0 ∷ made (enquire 1) ∷ [])
-    ≡ record { beginning = an_opening one; calls = first_order ∷ enquire 1 ∷ [] }
+pub restored_first : CallsAfterTheSaveFallOut
 unfolding opening
 restored_first = refl
 
--- save 1 is restored after save 0 was
-pub restored_second :
-    in_force one
-    (made first_order ∷ saves ∷ made second_order ∷ saves ∷ restores 0 ∷ made later_move ∷ restores 1 ∷ made (enquire 1) ∷ [])
-    ≡ record { beginning = an_opening one; calls = first_order ∷ second_order ∷ enquire 1 ∷ [] }
+pub restored_second : LaterSaveIsStillThere
 unfolding opening
 restored_second = refl
 
--- a list that is no image is refused: a new list begins, with the fresh station of 1, 100 and r = 0, and save 0 is still there
-pub refused_restore :
-    (in_force (one_feeder 2 50 2) (made first_order ∷ saves ∷ brings [] ∷ made first_order ∷ [])
-    ≡ record { beginning = a_refused_restore; calls = first_order ∷ [] })
-    × (in_force (one_feeder 2 50 2) (made first_order ∷ saves ∷ brings [] ∷ made first_order ∷ restores 0 ∷ [])
-    ≡ record { beginning = an_opening (one_feeder 2 50 2); calls = first_order ∷ [] })
-    × ((stands (one_feeder 2 50 2) (made later_move ∷ brings [] ∷ [])).clock ≡ 0)
-    × ((feeder_of (stands (one_feeder 2 50 2) (made later_move ∷ brings [] ∷ [])) 1).limit ≡ 1)
-    × ((stands (one_feeder 2 50 2) (made later_move ∷ brings [] ∷ [])).site ≡ 720)
+pub refused_restore : RefusedRestoreBeginsAnew
 unfolding restore_refusal opening
 refused_restore = (refl, refl, refl, refl, refl)
 
--- of two feeders nothing is saved: save 0 is that of the station opened then
-pub several_not_saved :
-    (in_force two (made first_order ∷ saves ∷ opens one ∷ made second_order ∷ saves ∷ made later_move ∷ restores 0 ∷ [])
-    ≡ record { beginning = an_opening one; calls = second_order ∷ [] })
-    × (shows_all (opened two) (saves ∷ []) ≡ wrote_none 22 ∷ [])
+pub several_not_saved : SeveralAreNotSaved
 unfolding opening
 several_not_saved = (refl, refl)
+
+pub opened_on_the_bus : OpeningsOnTheBus
+unfolding opening
+opened_on_the_bus = (refl, refl, refl)

@@ -4,4 +4,6 @@ pub mod Feeders
 pub mod Elsewhere
 pub mod Together
 pub mod Restarts
+pub mod Claims
 pub mod OnTheBus
+pub mod Refusals

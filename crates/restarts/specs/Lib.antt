@@ -1,3 +1,9 @@
 pub mod Events
 pub mod Restarts
 pub mod Bus
+pub mod Claims
+pub mod Elsewhere
+pub mod OrdersElsewhere
+pub mod RestoreAndSave
+pub mod Cases
+pub mod CasesElsewhere
