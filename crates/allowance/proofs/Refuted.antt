@@ -8,20 +8,21 @@ use Rattle.rules.specs.Priority.{fading, weights, weight_of, first_fit, picked}
 use Rattle.rules.specs.Replan.{place_on, round, rounds_from, by_lines}
 use Rattle.rules.specs.Judgement.{judged}
 use Rattle.rules.specs.Calls.{planned, Result, opening, committing, moving}
-use Rattle.allowance.specs.Allowance.{Spent, replans, plays, LargerAllowance}
-use Rattle.allowance.specs.Wrong.{tail_left_out, not_placed_anew, lowered_to_the_count, charges_limited, rounds_told, with_tails, first_caps, second_caps, station_h}
+use Rattle.allowance.specs.Allowance.{Spent}
+use Rattle.allowance.specs.Wrong.{charges_limited, first_caps, second_caps, station_h}
+use Rattle.allowance.specs.Excluded.{TailHasToBeUnderTheCap, ChargesHaveToBePlacedAnew, CapsHaveToFall, AllowanceLimitsNoCharges, AllowanceTellsNoRounds}
 
 -- `lower`: both charges of line 1 go to 1 again, and the cap is 1 in minute 12 already
-pub tail_left_out_lem : LargerAllowance replans tail_left_out with_tails 1 → ⊥
+pub tail_left_out_lem : TailHasToBeUnderTheCap
 unfolding limited balanced within_site sound earliest first_unbalanced fading weights weight_of first_fit picked place_on opening committing moving
 tail_left_out_lem d = let h : 1 < 1 = d.lower second_caps 1 12 1 refl in omega arith
 
-pub not_placed_anew_lem : LargerAllowance replans not_placed_anew with_tails 1 → ⊥
+pub not_placed_anew_lem : ChargesHaveToBePlacedAnew
 unfolding limited balanced within_site sound earliest first_unbalanced fading weights weight_of first_fit picked place_on opening committing moving
 not_placed_anew_lem d = let h : 1 < 1 = d.lower second_caps 1 12 1 refl in omega arith
 
 -- `lower`: the count of 2 is the cap
-pub lowered_to_the_count_lem : LargerAllowance replans lowered_to_the_count with_tails 1 → ⊥
+pub lowered_to_the_count_lem : CapsHaveToFall
 unfolding limited balanced within_site sound earliest first_unbalanced fading weights weight_of first_fit picked place_on opening committing moving
 lowered_to_the_count_lem d = let h : 2 < 2 = d.lower first_caps 1 12 2 refl in omega arith
 
@@ -29,7 +30,7 @@ not_spent : Spent (planned 7 5 5 1) → ⊥
 not_spent (b, a, n, e) = let z : ◌≡◌ {A = ℕ} 7 2 = cc in omega arith
 
 -- `same`: with 1 only ticket 1 is placed, and it keeps its start
-pub charges_limited_lem : LargerAllowance charges_limited plays station_h 1 → ⊥
+pub charges_limited_lem : AllowanceLimitsNoCharges
 unfolding limited balanced within_site sound earliest first_unbalanced fading weights weight_of first_fit picked place_on round rounds_from by_lines judged opening committing
 charges_limited_lem d =
     let told : (charges_limited station_h 1 1).answer ≡ planned 7 5 5 1 = refl in
@@ -39,7 +40,7 @@ charges_limited_lem d =
     omega arith
 
 -- `same`: one round with 1, two with 2
-pub rounds_told_lem : LargerAllowance rounds_told plays station_h 1 → ⊥
+pub rounds_told_lem : AllowanceTellsNoRounds
 unfolding limited balanced within_site sound earliest opening committing
 rounds_told_lem d =
     let h : planned 7 5 5 2 ≡ planned 7 5 5 1

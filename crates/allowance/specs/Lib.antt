@@ -1,2 +1,5 @@
 pub mod Allowance
 pub mod Wrong
+pub mod Larger
+pub mod Cases
+pub mod Excluded
