@@ -11,7 +11,8 @@ use lib.Seq.{get_or-set_same, get_or-set_other}
 use borrow.Author.Tests.{eqb-true, ne_eqb}
 use Rattle.layout.specs.Bytes.{number_at}
 use Rattle.layout.specs.Image.{weighed, check_of}
-use Rattle.layout.specs.Reading.{in_block, checked, restore_refusal}
+use Rattle.layout.specs.Reading.{in_block, checked}
+use Rattle.layout.specs.LawsOfRestoring.{ChangeInBlockIsFound, ChangeOfAcceptedIsFound}
 use Rattle.rules.proofs.Ranges.{below_or_not}
 use Rattle.layout.proofs.Listing.{every_at, every_not}
 use Rattle.layout.proofs.Numbers.{number_same}
@@ -94,17 +95,12 @@ module _
     unfolding checked
     change_unchecked = ne_eqb (check_of (in_block after b)) (number_at (in_block after b) 508 4) found
 
-    pub change_found : restore_refusal (set xs (512 * b + i) v) ≡ 21
-    change_found =
-        refused_check after (length-set xs (512 * b + i) v ∙ size) (every_not (checked after) 9 b block change_unchecked)
+pub change_found : ChangeInBlockIsFound
+change_found xs b i v size block place right changed =
+    refused_check (after xs b i v size block place right changed) (length-set xs (512 * b + i) v ∙ size)
+    (every_not (checked (after xs b i v size block place right changed)) 9 b block (change_unchecked xs b i v size block place right changed))
 
--- any byte of an accepted image, so of every saved one
-pub accepted_change_found :
-    (xs : List ℕ) (k v : ℕ)
-    → restore_refusal xs ≡ 0
-    → k < 4608
-    → (v ≡ get_or xs k 0 → ⊥)
-    → restore_refusal (set xs k v) ≡ 21
+pub accepted_change_found : ChangeOfAcceptedIsFound
 accepted_change_found xs k v e h n =
     let w : 512 * (k / 512) + k % 512 ≡ k = omega arith in
     let a : Accepted xs = accepted xs e in

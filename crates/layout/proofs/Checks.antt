@@ -5,6 +5,7 @@ use native.Mathlib.Omega.{arith}
 use native.Mathlib.Numerals.{add-one}
 use native.Mathlib.Nat.{mul-le-mul}
 use Rattle.layout.specs.Image.{weighed, check_of}
+use Rattle.layout.specs.LawsOfPlaces.{ChecksFit}
 use Rattle.layout.proofs.Cases.{largest_check}
 
 pub weighed_none : (f : ℕ → ℕ) → weighed f 0 ≡ 0
@@ -49,7 +50,7 @@ unfolding check_of
 check_zero f h = weighed_zero f 508 h
 
 -- no check of bytes is above the largest, so that 32 bits hold every check
-pub check_most : (f : ℕ → ℕ) → ((i : ℕ) → i < 508 → f i < 256) → check_of f ≤ 32967930
+pub check_most : ChecksFit
 unfolding check_of
 check_most f h = omega (arith, weighed_most f (λ i. 255) 508 (λ i l. omega (arith, h i l)), check_is (λ i. 255) ∙ largest_check)
 

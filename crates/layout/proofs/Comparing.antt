@@ -5,16 +5,15 @@ use mathlib.Core.Bool.{Bool, true, false, cond, ◌&&◌}
 use mathlib.Core.List.{List}
 use native.Mathlib.Omega.{arith}
 use native.Mathlib.Numerals.{add-one}
-use lib.ListN.{length, get_or}
+use lib.ListN.{get_or}
 use lib.Seq.{ext_get_or}
 use borrow.Author.Tests.{eq-eqb, eqb-true}
-use Rattle.rules.specs.Site.{State}
 use Rattle.rules.proofs.Ranges.{and_left, and_right, and_both}
 use Rattle.layout.specs.Lists.{every}
 use Rattle.layout.specs.Image.{image_of}
 use Rattle.layout.specs.Reading.{in_block, restoring}
 use Rattle.layout.specs.Blocks.{failing, same_at, same_block, differing}
-use Rattle.layout.specs.Saving.{saving}
+use Rattle.layout.specs.LawsOfSaving.{AtMostNineDiffer, NoneDiffersOfEqual, UnchangedRewritesNone, NoBlockLeavesPrevious}
 use Rattle.layout.proofs.Listing.{every_all, every_at}
 use Rattle.layout.proofs.Imaging.{image_length}
 use Rattle.layout.proofs.Refusing.{saving_written, accepted}
@@ -57,7 +56,7 @@ failing_every f (suc n) h = go (f n) refl h (failing_every f n)
 
 -- Blocks
 
-pub differing_most : (xs ys : List ℕ) → differing xs ys ≤ 9
+pub differing_most : AtMostNineDiffer
 unfolding differing
 differing_most xs ys = failing_most (same_block xs ys) _ 9 (omega arith)
 
@@ -77,8 +76,7 @@ each_block : (xs ys : List ℕ) → differing xs ys ≡ 0 → (b : ℕ) → b < 
 unfolding differing
 each_block xs ys e b h = every_at (same_block xs ys) _ (failing_every (same_block xs ys) _ e) b (omega arith)
 
--- 0 blocks: the images are equal
-pub equal_images : (xs ys : List ℕ) → length xs ≡ 4608 → length ys ≡ 4608 → differing xs ys ≡ 0 → xs ≡ ys
+pub equal_images : NoneDiffersOfEqual
 equal_images xs ys p q e =
     ext_get_or 0 xs ys (p ∙ sym q)
     (λ k h. place k (omega arith) (block_place xs ys (k / 512) (k % 512) (each_block xs ys e (k / 512) (omega arith)) (omega arith)))
@@ -88,23 +86,11 @@ equal_images xs ys p q e =
 
 -- Saving
 
--- "an accepted image saves to itself": a call that leaves the station as it is answers 0 blocks
-pub accepted_same :
-    (xs list : List ℕ)
-    → (restoring xs).refusal ≡ 0
-    → length list ≡ 4608
-    → saving (restoring xs).state xs list ≡ record { refusal = 0; blocks = 0; image = xs }
+pub accepted_same : UnchangedRewritesNone
 accepted_same xs list e h =
     saving_written (restoring xs).state xs list (restoring_one xs) (accepted xs e).size h ∙ rw (accepted_saves xs e, none_differs xs)
 
--- 0 blocks answered: what is written is the previous image
-pub none_written :
-    (s : State) (previous list : List ℕ)
-    → length s.feeders ≡ 1
-    → length previous ≡ 4608
-    → length list ≡ 4608
-    → (saving s previous list).blocks ≡ 0
-    → (saving s previous list).image ≡ previous
+pub none_written : NoBlockLeavesPrevious
 none_written s previous list one h l e =
     let w = saving_written s previous list one h l in
     let d : differing previous (image_of s) ≡ 0 = sym (ap (λ r. r.blocks) w) ∙ e in

@@ -12,13 +12,14 @@ use Rattle.rules.specs.Load.{limited, balanced, within_site, sound}
 use Rattle.rules.specs.Site.{State}
 use Rattle.rules.specs.Valid.{ValidState}
 use Rattle.rules.proofs.Ranges.{fails, below_or_not}
-use Rattle.layout.specs.Lists.{listed, every}
+use Rattle.layout.specs.Lists.{every}
 use Rattle.layout.specs.Bytes.{number_at}
 use Rattle.layout.specs.Image.{only, check_of, image_of}
 use Rattle.layout.specs.Validity.{between, settings_ranged, bound_right, fields_ranged, rate_right, times_right, charge_right, ticket_right, record_right, is_valid}
-use Rattle.layout.specs.Reading.{in_block, header_at, state_in, checked, is_of, restore_refusal, restoring}
-use Rattle.layout.specs.Saving.{saving}
+use Rattle.layout.specs.Reading.{in_block, header_at, state_in, checked, is_of, restore_refusal}
 use Rattle.layout.specs.CasesOfImages.{small, two_feeders}
+use Rattle.layout.specs.LawsOfRestoring.{WithoutSiteLimitIsRefused}
+use Rattle.layout.specs.LawsOfCases.{zeros, ZerosAreRefused, TwoFeedersAreNotSaved, SmallIsRestored}
 use Rattle.layout.proofs.Listing.{length-listed, get_d_listed, every_all}
 use Rattle.layout.proofs.Numbers.{number_same}
 use Rattle.layout.proofs.Checks.{check_zero}
@@ -28,7 +29,7 @@ use Rattle.layout.proofs.Validity.{valid_by_test}
 use Rattle.layout.proofs.Refusing.{saving_several, refused_contents, not_refused, one_read, accepted}
 use Rattle.layout.proofs.RoundTrip.{restored_saved}
 
-pub small_restored : restoring (image_of small) ≡ record { refusal = 0; state = small }
+pub small_restored : SmallIsRestored
 unfolding every between settings_ranged bound_right fields_ranged rate_right times_right charge_right ticket_right record_right is_valid limited balanced within_site sound
 small_restored = restored_saved small refl (valid_by_test small refl refl)
 
@@ -43,9 +44,6 @@ not_valid_refused xs l c n =
     refused_contents xs l c (fails (is_of xs (state_in xs)) (λ e. n (accepted xs (not_refused xs l c e)).valid))
 
 -- All zero bytes
-
-abbrev pub zeros : List ℕ
-zeros = listed (λ k. 0) 4608
 
 size : length zeros ≡ 4608
 size = length-listed (λ k. 0) 4608
@@ -73,7 +71,7 @@ limit_zero : (only (state_in zeros)).limit ≡ 0
 unfolding state_in header_at
 limit_zero = number_zero (λ i. get_or zeros i 0) 0 zero_at
 
-pub zeros_refused : restore_refusal zeros ≡ 22
+pub zeros_refused : ZerosAreRefused
 zeros_refused =
     not_valid_refused zeros size zeros_checked
     (λ v. omega (arith, (v.settings 1 (first-is (state_in zeros) (one_read zeros))).limit_low, limit_zero))
@@ -84,11 +82,11 @@ old_zero : (s : State) → s.site ≡ 0 → (state_in (image_of s)).site ≡ 0
 unfolding state_in
 old_zero s e = header_number s 24 (omega arith) ∙ rw e refl
 
-pub old_refused : (s : State) → s.site ≡ 0 → restore_refusal (image_of s) ≡ 22
+pub old_refused : WithoutSiteLimitIsRefused
 old_refused s e =
     not_valid_refused (image_of s) (image_length s) (all_checked s) (λ v. omega (arith, v.site_low, old_zero s e))
 
 -- Two feeders, and lists of the right size
 
-pub two_not_saved : saving two_feeders zeros zeros ≡ record { refusal = 22; blocks = 0; image = zeros }
+pub two_not_saved : TwoFeedersAreNotSaved
 two_not_saved = saving_several two_feeders zeros zeros (λ e. omega (arith, e)) size size

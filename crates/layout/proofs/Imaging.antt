@@ -12,25 +12,26 @@ use Rattle.layout.specs.Bytes.{byte_of, number_at, packed}
 use Rattle.layout.specs.Arrangement.{per_block, number_of, place_of}
 use Rattle.layout.specs.Image.{only, held_at, header_of, fields_of, record_byte, numbered, content, check_of, byte_at, image_of}
 use Rattle.layout.specs.Reading.{in_block, in_record, header_at, field_at, checked, same, same_place}
+use Rattle.layout.specs.LawsOfPlaces.{EachPlaceHasItsByte}
 use Rattle.layout.proofs.Listing.{length-listed, get_d_listed, every_all}
 use Rattle.layout.proofs.Numbers.{four, number_same}
 use Rattle.layout.proofs.Checks.{check_same, check_small}
 use Rattle.layout.proofs.Laying.{number_fits, record_back, byte_back, place_fits, place_block, place_in_block, block_inside, block_counted, parts_of_number}
 use Rattle.layout.proofs.Contents.{record_held, numbered_in, content_header, content_records, byte_counted, byte_content, byte_of_check, content_small}
 
+pub image_at : EachPlaceHasItsByte
+unfolding image_of
+image_at s k h = get_d_listed (byte_at s) 4608 k h
+
 module _ (s : State) where
   pub image_length : length (image_of s) ≡ 4608
   unfolding image_of
   image_length = length-listed (byte_at s) 4608
 
-  pub image_at : (k : ℕ) → k < 4608 → get_or (image_of s) k 0 ≡ byte_at s k
-  unfolding image_of
-  image_at k h = get_d_listed (byte_at s) 4608 k h
-
   pub in_header : (i : ℕ) → i < 508 → get_or (image_of s) i 0 ≡ packed (header_of s) i
   in_header i h =
       let e : 512 * 0 + i ≡ i = omega arith in
-      image_at i (omega arith) ∙ (rw e at (byte_content s 0 i h)) ∙ content_header s i
+      image_at s i (omega arith) ∙ (rw e at (byte_content s 0 i h)) ∙ content_header s i
 
   pub in_record_lem : (q j : ℕ) → q < 200 → j < 20 → in_record (image_of s) q j ≡ record_byte s q j
   in_record_lem q j h l =
@@ -38,7 +39,7 @@ module _ (s : State) where
       let f : z < 4000 = number_fits q j h l in
       let m : place_of z % 512 ≡ z % per_block = place_in_block z f in
       let w : per_block * (1 + z / per_block - 1) + z % per_block ≡ z = omega (arith, parts_of_number z) in
-      image_at (place_of z) (place_fits z f)
+      image_at s (place_of z) (place_fits z f)
       ∙ byte_counted s (place_of z) (omega (arith, block_counted z))
       ∙ rw (place_block z f, m) (content_records s (1 + z / per_block) (z % per_block) (λ e. omega arith) (block_inside z))
       ∙ ap (numbered s) w
@@ -65,12 +66,12 @@ module _ (s : State) where
   -- Its checks are right
 
   in_block_lem : (b i : ℕ) → b < 9 → i < 508 → in_block (image_of s) b i ≡ content s b i
-  in_block_lem b i h l = image_at (512 * b + i) (omega arith) ∙ byte_content s b i l
+  in_block_lem b i h l = image_at s (512 * b + i) (omega arith) ∙ byte_content s b i l
 
   check_bytes : (b i : ℕ) → b < 9 → 508 ≤ i → i < 512 → in_block (image_of s) b i ≡ byte_of (i - 508) (check_of (content s b))
   check_bytes b i h p q =
       let e : i ≡ 508 + (i - 508) = omega arith in
-      image_at (512 * b + i) (omega arith)
+      image_at s (512 * b + i) (omega arith)
       ∙ ap (λ j. byte_at s (512 * b + j)) e
       ∙ byte_of_check s b (i - 508) (omega arith)
 

@@ -1,8 +1,9 @@
 -- Where the bytes of the records lie: each number has one place, and each place behind block 0 one number.
 use mathlib.Core.Path.{◌≡◌, ap, sym, ◌∙◌}
-use Prim.Native.Nat.{ℕ, ◌+◌, ◌-◌, ◌*◌, ◌/◌, ◌%◌, ◌≤◌, ◌<◌}
+use Prim.Native.Nat.{ℕ, ◌+◌, ◌*◌, ◌/◌, ◌%◌, ◌≤◌, ◌<◌}
 use native.Mathlib.Omega.{arith}
 use Rattle.layout.specs.Arrangement.{per_block, number_of, record_of, byte_in, place_of}
+use Rattle.layout.specs.LawsOfPlaces.{number_at_place, EachByteHasAPlace, EachNumberHasAByte, PlacesAreApart}
 
 module _ (q j : ℕ) (record-fits : q < 200) (byte_fits : j < 20) where
   pub number_fits : number_of q j < 4000
@@ -45,25 +46,13 @@ parts_of_number z = omega arith
 -- The bytes of the records and the places are matched one to one: every byte has a place, which gives back its record and its number
 -- in it, and every number below 4,000 is that of one byte.
 
--- the number that lies at a place behind block 0
-abbrev pub number_at_place : ℕ → ℕ
-number_at_place p = per_block * (p / 512 - 1) + p % 512
-
-pub record Arranged (q j : ℕ) : Type 0 where
-  pub behind_header : 512 ≤ place_of (number_of q j)
-  pub inside : place_of (number_of q j) < 4608
-  pub before_check : place_of (number_of q j) % 512 < 508
-  pub number_back : number_at_place (place_of (number_of q j)) ≡ number_of q j
-  pub record_undone : record_of (number_at_place (place_of (number_of q j))) ≡ q
-  pub byte_undone : byte_in (number_at_place (place_of (number_of q j))) ≡ j
-
 pub place-back : (z : ℕ) → z < 4000 → number_at_place (place_of z) ≡ z
 place-back z h = omega (arith, place_block z h, place_in_block z h, parts_of_number z)
 
 place_behind : (z : ℕ) → 512 ≤ place_of z
 place_behind z = omega arith
 
-pub arranged : (q j : ℕ) → q < 200 → j < 20 → Arranged q j
+pub arranged : EachByteHasAPlace
 arranged q j h l =
     let f : number_of q j < 4000 = number_fits q j h l in
     let e : number_at_place (place_of (number_of q j)) ≡ number_of q j = place-back (number_of q j) f in
@@ -77,18 +66,11 @@ arranged q j h l =
     }
 
 -- and the other way: a number below 4,000 is that of a record and a byte
-pub each_number : (z : ℕ) → z < 4000 → (record_of z < 200) × (byte_in z < 20) × (number_of (record_of z) (byte_in z) ≡ z)
+pub each_number : EachNumberHasAByte
 each_number z h = (record_inside z h, byte_inside z h, number_of_parts z)
 
 -- no two bytes have one place
-pub places_apart :
-    (q j p i : ℕ)
-    → q < 200
-    → j < 20
-    → p < 200
-    → i < 20
-    → place_of (number_of q j) ≡ place_of (number_of p i)
-    → (q ≡ p) × (j ≡ i)
+pub places_apart : PlacesAreApart
 places_apart q j p i a b c d e =
     let x = arranged q j a b in
     let y = arranged p i c d in (

@@ -17,8 +17,9 @@ use Rattle.layout.specs.Lists.{every}
 use Rattle.layout.specs.Image.{image_of}
 use Rattle.layout.specs.Validity.{is_valid}
 use Rattle.layout.specs.Reading.{state_in, sized, checked, same_place, same, is_of, restore_rows, restore_refusal, restoring}
-use Rattle.layout.specs.Blocks.{differing}
 use Rattle.layout.specs.Saving.{save_refusal, saving}
+use Rattle.layout.specs.LawsOfRestoring.{RefusedIsFresh}
+use Rattle.layout.specs.LawsOfSaving.{ImageIsWritten, SeveralAreRefused, OtherSizeIsRefused}
 use Rattle.layout.proofs.Listing.{every_at}
 use Rattle.layout.proofs.Imaging.{image_length}
 use Rattle.layout.proofs.Validity.{valid_by_test}
@@ -31,34 +32,23 @@ same_equal xs ys p q e =
 
 -- Saving
 
-module _ (s : State) (previous list : List ℕ) where
-  pub saving_written :
-      length s.feeders ≡ 1
-      → length previous ≡ 4608
-      → length list ≡ 4608
-      → saving s previous list ≡ record { refusal = 0; blocks = differing previous (image_of s); image = image_of s }
-  unfolding save_refusal saving
-  saving_written one h l =
-      rw (eq-eqb (length previous) 4608 h, eq-eqb (length list) 4608 l, eq-eqb (length s.feeders) 1 one)
+pub saving_written : ImageIsWritten
+unfolding save_refusal saving
+saving_written s previous list one h l =
+    rw (eq-eqb (length previous) 4608 h, eq-eqb (length list) 4608 l, eq-eqb (length s.feeders) 1 one)
 
-  -- "saving several feeders"
-  pub saving_several :
-      (length s.feeders ≡ 1 → ⊥)
-      → length previous ≡ 4608
-      → length list ≡ 4608
-      → saving s previous list ≡ record { refusal = 22; blocks = 0; image = list }
-  unfolding save_refusal saving
-  saving_several n h l =
-      rw (eq-eqb (length previous) 4608 h, eq-eqb (length list) 4608 l, ne_eqb (length s.feeders) 1 n)
+pub saving_several : SeveralAreRefused
+unfolding save_refusal saving
+saving_several s previous list n h l =
+    rw (eq-eqb (length previous) 4608 h, eq-eqb (length list) 4608 l, ne_eqb (length s.feeders) 1 n)
 
-  -- either list of another size, and then it does not matter how many feeders there are
-  pub saving_refused :
-      (length previous ≡ 4608 → length list ≡ 4608 → ⊥) → saving s previous list ≡ record { refusal = 20; blocks = 0; image = list }
-  unfolding save_refusal saving
-  saving_refused n = rw (fails (sized previous && sized list) (λ e. n (size previous (and_left _ (sized list) e)) (size list (and_right (sized previous) _ e))))
-    where
-      size : (xs : List ℕ) → sized xs ≡ true → length xs ≡ 4608
-      size xs e = eqb-true (length xs) 4608 e
+pub saving_refused : OtherSizeIsRefused
+unfolding save_refusal saving
+saving_refused s previous list n =
+    rw (fails (sized previous && sized list) (λ e. n (size previous (and_left _ (sized list) e)) (size list (and_right (sized previous) _ e))))
+  where
+    size : (xs : List ℕ) → sized xs ≡ true → length xs ≡ 4608
+    size xs e = eqb-true (length xs) 4608 e
 
 module _ (xs : List ℕ) where
   -- Each refusal of restoring
@@ -129,8 +119,8 @@ module _ (xs : List ℕ) where
   pub accepted_state : restore_refusal xs ≡ 0 → (restoring xs).state ≡ state_in xs
   accepted_state e = rw e
 
-  pub refused_state : (restore_refusal xs ≡ 0 → ⊥) → (restoring xs).state ≡ fresh least
-  refused_state n = rw (ne_eqb (restore_refusal xs) 0 n)
+pub refused_state : RefusedIsFresh
+refused_state xs n = rw (ne_eqb (restore_refusal xs) 0 n)
 
 pub fresh_valid : ValidState (fresh least)
 unfolding opening

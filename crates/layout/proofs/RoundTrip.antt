@@ -12,11 +12,11 @@ use Rattle.rules.specs.Site.{State}
 use Rattle.rules.specs.Calls.{fresh, least}
 use Rattle.rules.specs.Valid.{ValidState}
 use Rattle.rules.proofs.Ranges.{and_both, fails}
-use Rattle.layout.specs.Lists.{every}
 use Rattle.layout.specs.Image.{image_of}
 use Rattle.layout.specs.Validity.{is_valid}
-use Rattle.layout.specs.Reading.{state_in, checked, same, is_of, restore_refusal, restoring}
-use Rattle.layout.specs.Saving.{saving}
+use Rattle.layout.specs.Reading.{state_in, same, is_of, restore_refusal, restoring}
+use Rattle.layout.specs.LawsOfRestoring.{ExactlyTheseAreAccepted, OthersAreRefused, ImageDeterminesStation, RestoredIsValid, RestoredHasOneFeeder}
+use Rattle.layout.specs.LawsOfSaving.{SavedIsRestored, WrittenIsRestored, AcceptedSavesToItself}
 use Rattle.layout.proofs.Imaging.{image_length, all_checked, same_self}
 use Rattle.layout.proofs.Validity.{test_of_valid}
 use Rattle.layout.proofs.Refusing.{saving_written, refused_contents, not_refused, accepted, accepted_state, fresh_valid}
@@ -33,21 +33,15 @@ module _ (s : State) (one : length s.feeders ≡ 1) (v : ValidState s) where
   image_accepted =
       not_refused (image_of s) (image_length s) (all_checked s) (ap (is_of (image_of s)) (state_back s one v) ∙ image_is_of)
 
-  -- "Saving and restoring give the same station"
-  pub restored_saved : restoring (image_of s) ≡ record { refusal = 0; state = s }
-  restored_saved = rw (image_accepted, state_back s one v)
+pub restored_saved : SavedIsRestored
+restored_saved s one v = rw (image_accepted s one v, state_back s one v)
 
-  pub saved_restored :
-      (previous list : List ℕ)
-      → length previous ≡ 4608
-      → length list ≡ 4608
-      → restoring (saving s previous list).image ≡ record { refusal = 0; state = s }
-  saved_restored previous list h l = rw (saving_written s previous list one h l) restored_saved
+pub saved_restored : WrittenIsRestored
+saved_restored s one v previous list h l = rw (saving_written s previous list one h l) (restored_saved s one v)
 
 -- Restored, then saved
 
--- "an accepted image saves to itself"
-pub accepted_saves : (xs : List ℕ) → (restoring xs).refusal ≡ 0 → image_of (restoring xs).state ≡ xs
+pub accepted_saves : AcceptedSavesToItself
 accepted_saves xs e = ap image_of (accepted_state xs e) ∙ (accepted xs e).saved
 
 -- What restoring gives is valid, whatever the list: calls may follow. It has one feeder.
@@ -59,42 +53,24 @@ module _ (xs : List ℕ) where
       go zero f = f refl
       go (suc n) f = rw (ne_eqb (suc n) 0 (λ e. omega arith)) b
 
-  pub restoring_valid : ValidState (restoring xs).state
-  restoring_valid = either ValidState (λ e. (accepted xs e).valid) fresh_valid
+pub restoring_valid : RestoredIsValid
+restoring_valid xs = either xs ValidState (λ e. (accepted xs e).valid) fresh_valid
 
-  pub restoring_one : length (restoring xs).state.feeders ≡ 1
-  restoring_one = either (λ s. length s.feeders ≡ 1) (λ e. (accepted xs e).one) refl
+pub restoring_one : RestoredHasOneFeeder
+restoring_one xs = either xs (λ s. length s.feeders ≡ 1) (λ e. (accepted xs e).one) refl
 
 -- Exactly the images of valid stations of one feeder
 
-pub record ImageOfValid (xs : List ℕ) : Type 0 where
-  pub station : State
-  pub one : length station.feeders ≡ 1
-  pub valid : ValidState station
-  pub is_image : xs ≡ image_of station
-
--- "Restore accepts exactly the images of stations ..", with no condition on the list
-pub accepted_exactly :
-    (xs : List ℕ) → ((restoring xs).refusal ≡ 0 → ImageOfValid xs) × (ImageOfValid xs → (restoring xs).refusal ≡ 0)
+pub accepted_exactly : ExactlyTheseAreAccepted
 accepted_exactly xs = (
   (λ e. record { station = state_in xs; one = (accepted xs e).one; valid = (accepted xs e).valid; is_image = sym (accepted xs e).saved }),
   (λ i. ap restore_refusal i.is_image ∙ image_accepted i.station i.one i.valid),
 )
 
--- "22, contents": every other image of the right size with right checks, so one byte of "all else" that is not zero too
-pub others_refused :
-    (xs : List ℕ) → length xs ≡ 4608 → every (checked xs) 9 ≡ true → (ImageOfValid xs → ⊥) → (restoring xs).refusal ≡ 22
+pub others_refused : OthersAreRefused
 others_refused xs l c n =
     refused_contents xs l c
     (fails (is_of xs (state_in xs)) (λ e. n ((accepted_exactly xs).0 (not_refused xs l c e))))
 
--- two valid stations with the same image are one
-pub image_determines :
-    (s t : State)
-    → length s.feeders ≡ 1
-    → length t.feeders ≡ 1
-    → ValidState s
-    → ValidState t
-    → image_of s ≡ image_of t
-    → s ≡ t
+pub image_determines : ImageDeterminesStation
 image_determines s t p q v w e = sym (state_back s p v) ∙ ap state_in e ∙ state_back t q w

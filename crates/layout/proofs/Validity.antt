@@ -15,6 +15,7 @@ use Rattle.rules.specs.Valid.{ValidSettings, ValidPlan, IsFeeder, ValidState}
 use Rattle.rules.proofs.Lists.{each_map}
 use Rattle.layout.specs.Image.{only}
 use Rattle.layout.specs.Validity.{between, settings_ranged, bound_right, record_right, is_valid}
+use Rattle.layout.specs.LawsOfRestoring.{TestIsValidity}
 use Rattle.layout.proofs.Listing.{every_all}
 use Rattle.layout.proofs.Single.{first-is, is_first, ends_only, ends_most}
 use Rattle.layout.proofs.Judging.{two_hold, six_hold, between_low, between_high, is_between, RightCharge}
@@ -90,5 +91,5 @@ module _ (s : State) (one : length s.feeders ≡ 1) where
       plan : ValidPlan s.site s.clock s.next (only s)
       plan = v.plan 1 (first-is s one)
 
-  pub valid_exactly : (is_valid s ≡ true → ValidState s) × (ValidState s → is_valid s ≡ true)
-  valid_exactly = (valid_by_test, test_of_valid)
+pub valid_exactly : TestIsValidity
+valid_exactly s one = (valid_by_test s one, test_of_valid s one)

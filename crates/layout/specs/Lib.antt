@@ -8,3 +8,7 @@ pub mod Blocks
 pub mod Saving
 pub mod CasesOfImages
 pub mod CasesOfValidity
+pub mod LawsOfPlaces
+pub mod LawsOfRestoring
+pub mod LawsOfSaving
+pub mod LawsOfCases

@@ -7,7 +7,8 @@ use Rattle.layout.specs.Lists.{every}
 use Rattle.layout.specs.Image.{image_of}
 use Rattle.layout.specs.Validity.{between, settings_ranged, bound_right, fields_ranged, rate_right, times_right, charge_right, ticket_right, record_right, is_valid}
 use Rattle.layout.proofs.Validity.{valid_by_test}
-use Rattle.layout.proofs.Examples.{zeros, zeros_refused}
+use Rattle.layout.specs.LawsOfCases.{zeros}
+use Rattle.layout.proofs.Examples.{zeros_refused}
 use Rattle.page.specs.Lines.{no_station}
 use Rattle.page.specs.Pages.{pages_of, wall}
 use Rattle.page.specs.Cases.{station_e}
