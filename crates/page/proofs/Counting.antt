@@ -1,12 +1,13 @@
 -- How many pages there are: enough for the charges held, at least one, and no more than that.
 use mathlib.Core.Path.{◌≡◌}
 use mathlib.Core.Logic.{⊎_elim}
-use Prim.Native.Nat.{ℕ, ◌+◌, ◌-◌, ◌*◌, ◌/◌, ◌≤◌, ◌<◌, max}
+use Prim.Native.Nat.{ℕ, ◌+◌, ◌/◌, max}
 use native.Mathlib.Omega.{arith}
 use borrow.Author.Tests.{eq-eqb, ne_eqb}
 use Rattle.std.specs.Int.{div_ceil}
 use Rattle.rules.proofs.Ranges.{below_or_not}
 use Rattle.page.specs.Pages.{page_count}
+use Rattle.page.specs.LawsOfPages.{PagesHaveRoom, ThereIsAPage, NoPageIsSpare}
 
 module _ (held : ℕ) where
   pub one_page : held ≡ 0 → page_count held ≡ 1
@@ -25,19 +26,20 @@ module _ (held : ℕ) where
       (λ h. let e = one_page (omega arith) in omega (arith, e))
       (below_or_not 0 held)
 
-  pub pages_enough : held ≤ 24 * page_count held
-  unfolding page_count
-  pages_enough = ⊎_elim (λ h. rw (ne_eqb held 0 (λ e. omega arith)) (omega arith)) (λ h. omega arith) (below_or_not 0 held)
+pub pages_enough : PagesHaveRoom
+unfolding page_count
+pages_enough held =
+    ⊎_elim (λ h. rw (ne_eqb held 0 (λ e. omega arith)) (omega arith)) (λ h. omega arith) (below_or_not 0 held)
 
-  pub pages_some : 1 ≤ page_count held
-  unfolding page_count
-  pages_some =
-      ⊎_elim (λ h. rw (ne_eqb held 0 (λ e. omega arith)) (omega arith)) (λ h. rw (eq-eqb held 0 (omega arith)) (omega arith)) (below_or_not 0 held)
+pub pages_some : ThereIsAPage
+unfolding page_count
+pages_some held =
+    ⊎_elim (λ h. rw (ne_eqb held 0 (λ e. omega arith)) (omega arith)) (λ h. rw (eq-eqb held 0 (omega arith)) (omega arith)) (below_or_not 0 held)
 
-  pub pages_needed : 2 ≤ page_count held → 24 * (page_count held - 1) < held
-  unfolding page_count
-  pages_needed =
-      ⊎_elim
-      (λ h. rw (ne_eqb held 0 (λ e. omega arith)) (λ k. omega arith))
-      (λ h. rw (eq-eqb held 0 (omega arith)) (λ k. absurd (omega arith)))
-      (below_or_not 0 held)
+pub pages_needed : NoPageIsSpare
+unfolding page_count
+pages_needed held =
+    ⊎_elim
+    (λ h. rw (ne_eqb held 0 (λ e. omega arith)) (λ k. omega arith))
+    (λ h. rw (eq-eqb held 0 (omega arith)) (λ k. absurd (omega arith)))
+    (below_or_not 0 held)

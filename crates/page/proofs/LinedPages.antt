@@ -8,13 +8,12 @@ use native.Mathlib.Omega.{arith}
 use lib.ListN.{length, get_or}
 use Rattle.rules.specs.Basics.{Each}
 use Rattle.rules.specs.Charge.{Charge}
-use Rattle.rules.specs.Site.{State}
-use Rattle.rules.specs.Valid.{ValidState}
 use Rattle.rules.proofs.Ranges.{below_or_not}
 use Rattle.layout.specs.Image.{no_charge, only}
 use Rattle.layout.proofs.Rising.{each_place}
-use Rattle.page.specs.Pages.{texts, row_at, rows, page, page_count, pages, pages_of}
+use Rattle.page.specs.Pages.{texts, row_at, rows, page, page_count, pages}
 use Rattle.page.specs.Lined.{ChargeFits, Lined, no_line, one_more}
+use Rattle.page.specs.LawsOfPages.{PagesAreLines}
 use Rattle.page.proofs.Lining.{heading_lined, blank_lined, row_lined}
 use Rattle.page.proofs.Paging.{row_held, row_unused}
 use Rattle.page.proofs.Walling.{valid_fits}
@@ -46,7 +45,5 @@ module _ (clock : ℕ) (cs : List Charge) (f : Each ChargeFits cs) where
   unfolding pages
   pages_lined = texts_lined (page clock cs) 25 (page_count (length cs)) page_lined
 
--- the pages of a station: 25 lines each
-pub station_lined :
-    (s : State) → length s.feeders ≡ 1 → ValidState s → Lined (page_count (length (only s).charges) * 25) (pages_of s)
+pub station_lined : PagesAreLines
 station_lined s one v = pages_lined s.clock (only s).charges (valid_fits s one v)

@@ -12,6 +12,7 @@ use Rattle.text.specs.Numbers.{decimal}
 use Rattle.page.specs.Lines.{at_left, column, columns, ticket_word, line_word, start_word, end_word, state_word, heading, state_of, row, blank, no_station_words, no_station}
 use Rattle.page.specs.declared.row.TheConstants.{NO_STATION}
 use Rattle.page.specs.Lined.{ChargeFits, Character, Lined, no_line, one_more}
+use Rattle.page.specs.LawsOfPages.{NoStationIsALine}
 use Rattle.page.proofs.Aligning.{length_column, length_left, ticket_digits, line_digits, start_digits, end_digits}
 use Rattle.page.proofs.Characters.{decimal_shown, column_shown, left_shown, characters}
 
@@ -79,8 +80,7 @@ blank_lined =
     line_lined [] [] [] [] []
     (record { long = (omega arith, omega arith, omega arith, omega arith, omega arith); shown = (tt, tt, tt, tt, tt) })
 
--- "A refused image prints only the row .., without a heading": one line
-pub no_station_lined : Lined 1 no_station
+pub no_station_lined : NoStationIsALine
 no_station_lined = one_line (at_left 37 no_station_words) refl (characters (at_left 37 no_station_words) refl)
 
 -- as the code has it, for who prints it

@@ -11,6 +11,7 @@ use Rattle.rules.proofs.Ranges.{below_or_not}
 use Rattle.page.specs.Lines.{heading}
 use Rattle.page.specs.Pages.{texts, row_at, rows, page, page_count, pages}
 use Rattle.page.specs.Lined.{ChargeFits, Lined, StandsAt, line_of_row}
+use Rattle.page.specs.LawsOfPages.{RowsRise}
 use Rattle.page.proofs.Lining.{heading_lined}
 use Rattle.page.proofs.LinedPages.{lined_join, texts_lined, row_at_lined, page_lined}
 
@@ -74,6 +75,5 @@ module _ (clock : ℕ) (cs : List Charge) (fits : Each ChargeFits cs) where
       regrouped a h all before line rest after e =
           rw (e, append_assoc a (h ++ before) (line ++ (rest ++ after)), append_assoc h before (line ++ (rest ++ after)), append_assoc h (before ++ (line ++ rest)) after, append_assoc before (line ++ rest) after, append_assoc line rest after)
 
--- rows that follow each other stand so
-pub rows_rise : (q r : ℕ) → q < r → line_of_row q < line_of_row r
+pub rows_rise : RowsRise
 rows_rise q r h = omega arith

@@ -18,6 +18,7 @@ use Rattle.std.specs.Prelude.{Result, Ok}
 use Rattle.page.specs.Lines.{heading, row, blank}
 use Rattle.page.specs.Pages.{row_at, page_count, pages_of}
 use Rattle.page.specs.Lined.{ChargeFits, Lined, StandsAt, line_of_row}
+use Rattle.page.specs.LawsOfPages.{EachChargeHasItsRow, ticket_in, TicketStandsOnce}
 use Rattle.page.proofs.Counting.{pages_enough}
 use Rattle.page.proofs.Paging.{row_held, row_unused}
 use Rattle.page.proofs.Walling.{valid_fits}
@@ -25,7 +26,7 @@ use Rattle.page.proofs.Lining.{heading_lined}
 use Rattle.page.proofs.LinedPages.{row_at_lined}
 use Rattle.page.proofs.Rowing.{heading_stands, row_stands}
 use Rattle.page.proofs.Standing.{same_line}
-use Rattle.page.proofs.TicketsShown.{ticket_in, row_ticket, heading_none, blank_none, not_a_ticket}
+use Rattle.page.proofs.TicketsShown.{row_ticket, heading_none, blank_none, not_a_ticket}
 
 -- Tickets rise with the places
 
@@ -41,6 +42,10 @@ tickets_rise i (c ∷ cs) e zero (suc r) h k = ticket_from (suc c.ticket) cs e.1
 tickets_rise i (c ∷ cs) e (suc q) zero h k = absurd (omega arith)
 tickets_rise i (c ∷ cs) e (suc q) (suc r) h k = tickets_rise (suc c.ticket) cs e.1 q r (omega arith) (omega arith)
 
+pub charge_stands : EachChargeHasItsRow
+charge_stands s one v q h =
+    rw (row_held s.clock (only s).charges q h) at (row_stands s.clock (only s).charges (valid_fits s one v) q (omega (arith, pages_enough (length (only s).charges))))
+
 -- Of the lines of a station's pages
 
 module _ (s : State) (one : length s.feeders ≡ 1) (v : ValidState s) where
@@ -49,11 +54,6 @@ module _ (s : State) (one : length s.feeders ≡ 1) (v : ValidState s) where
 
   fits_place : (q : ℕ) → q < length (only s).charges → ChargeFits (held_at s q)
   fits_place q h = each_place ChargeFits (only s).charges fits q h
-
-  -- the row of each charge held, in ticket order
-  pub charge_stands : (q : ℕ) → q < length (only s).charges → StandsAt (line_of_row q) (row s.clock (held_at s q)) (pages_of s)
-  charge_stands q h =
-      rw (row_held s.clock (only s).charges q h) at (row_stands s.clock (only s).charges fits q (omega (arith, pages_enough (length (only s).charges))))
 
   same_place : (q r : ℕ) → q < length (only s).charges → r < length (only s).charges → (held_at s q).ticket ≡ (held_at s r).ticket → q ≡ r
   same_place q r h k e =
@@ -97,7 +97,9 @@ module _ (s : State) (one : length s.feeders ≡ 1) (v : ValidState s) where
         same_line j l (row_at_lined s.clock (only s).charges fits place) t (at_row p) ∙ row_unused s.clock (only s).charges place b in
         absurd (not_a_ticket (held_at s q).ticket (sym w ∙ ap ticket_in o ∙ blank_none))
 
-    -- a line that shows the ticket of charge q is its row
-    pub shown_once : (line : List ℕ) → Lined 1 line → StandsAt j line (pages_of s) → ticket_in line ≡ Ok (held_at s q).ticket → j ≡ line_of_row q
-    shown_once line l t w =
-        ⊎_elim (λ p. line_of p line l t w (below_or_not place (length (only s).charges))) (λ p. absurd (at_heading (omega arith) line l t w)) (below_or_not 0 (j % 25))
+pub shown_once : TicketStandsOnce
+shown_once s one v q h j inside line l t w =
+    ⊎_elim
+    (λ p. line_of s one v q h j inside p line l t w (below_or_not (place s one v q h j inside) (length (only s).charges)))
+    (λ p. absurd (at_heading s one v q h j inside (omega arith) line l t w))
+    (below_or_not 0 (j % 25))

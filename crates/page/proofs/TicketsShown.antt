@@ -1,10 +1,8 @@
 -- The ticket that a line shows: that of its charge in a row, and none in the heading and an unused row.
 use mathlib.Core.Path.{◌≡◌, refl, sym, ap, ◌∙◌}
-use mathlib.Core.Bool.{cond}
 use mathlib.Core.List.{List, [], ◌∷◌, ◌++◌, append_assoc}
 use Prim.Native.Nat.{ℕ, zero, suc, ◌-◌, ◌≤◌}
 use native.Mathlib.Omega.{arith}
-use lib.Dec.{eqb}
 use lib.ListN.{length, take}
 use lib.Seq.{take-append_seam}
 use borrow.Author.Tests.{ne_eqb}
@@ -17,15 +15,9 @@ use Rattle.std.specs.Prelude.{Result, Ok, Err}
 use Rattle.text.proofs.Values.{read_back}
 use Rattle.page.specs.Lines.{spaces, at_right, at_left, column, columns, heading, state_of, row, blank}
 use Rattle.page.specs.Lined.{ChargeFits}
+use Rattle.page.specs.LawsOfPages.{after_spaces, ticket_in}
 use Rattle.page.proofs.Aligning.{length_right, ticket_digits}
 use Rattle.page.proofs.Characters.{digits_each}
-
-abbrev after_spaces : List ℕ → List ℕ
-after_spaces [] = []
-after_spaces (b ∷ bs) = cond (eqb b 32) (after_spaces bs) (b ∷ bs)
-
-abbrev pub ticket_in : List ℕ → Result ℕ NumberError
-ticket_in line = number_of (after_spaces (take 6 line))
 
 no_spaces : (xs : List ℕ) → Each (λ b. 48 ≤ b) xs → after_spaces xs ≡ xs
 no_spaces [] e = refl

@@ -12,9 +12,9 @@ use lib.Dec.{ltb, eqb}
 use lib.ListN.{length, drop, get_or, length-append, drop_of_length-le}
 use lib.Seq.{drop-cons}
 use Rattle.rules.proofs.Ranges.{below_or_not}
-use Rattle.std.specs.Fmt.{decimal as printed}
 use Rattle.std.proofs.lemmas.Fmt.{decimal_by_steps}
 use Rattle.text.specs.Numbers.{is_digit, value_from, number_of, digits_within, decimal}
+use Rattle.text.specs.LawsOfNumbers.{PrintedIsReadBack, LibraryPrintsDigits, TwentyDigitsSuffice}
 use Rattle.text.specs.declared.number.NumberError.{NumberError}
 use Rattle.text.specs.declared.number.NumberError.TheVariants.{NotANumber, TooLarge}
 use Rattle.std.specs.Prelude.{Result, Ok, Err}
@@ -106,7 +106,7 @@ decimal_more n h k =
     more_digits 19 n h ∙ rw (enough 18 (n / 10) (omega arith))
 
 -- they are what the library prints
-pub same_digits : (n : ℕ) → n < 2 ^ 64 → printed n ≡ decimal n
+pub same_digits : LibraryPrintsDigits
 same_digits n h =
     decimal_by_steps
     (λ m ds. m < 2 ^ 64 → ds ≡ decimal m)
@@ -123,7 +123,7 @@ length_digits (suc k) n =
     (λ h. rw (le-ltb n 10 h, length-append) (omega (arith, length_digits k (n / 10))))
     (below_or_not n 10)
 
-pub length_decimal : (n : ℕ) → length (decimal n) ≤ 20
+pub length_decimal : TwentyDigitsSuffice
 length_decimal n = length_digits 20 n
 
 -- the digits of n are worth n
@@ -152,8 +152,7 @@ digits_some (suc k) n bs =
     (λ h. rw (more_digits (suc k) n h, append_assoc (digits_within (suc k) (n / 10)) ((48 + n % 10) ∷ []) bs) (digits_some k (n / 10) ((48 + n % 10) ∷ bs)))
     (below_or_not n 10)
 
--- a number of 32 bits that is printed is read back as that number
-pub read_back : (n : ℕ) → n < 2 ^ 32 → number_of (decimal n) ≡ Ok n
+pub read_back : PrintedIsReadBack
 unfolding value_from
 read_back n h =
     rw (← append-nil (decimal n), digits_some 19 n [], digits_worth 20 n [] (omega arith), lt-ltb n 4294967296 h)

@@ -7,9 +7,19 @@ mod number;
 mod part;
 mod printer;
 
+ghost use Rattle.text.specs.LawsOfNumbers.{PrintedIsReadBack, LibraryPrintsDigits, TwentyDigitsSuffice};
+
 pub use number::{NumberError, read_number};
 pub use part::split_once;
 use std::marker::Model;
+
+/// A number that is printed is read back as that number, and is printed as the library prints it.
+#[tactic(auto, using(crate::proofs::Values::read_back, crate::proofs::Values::same_digits, crate::proofs::Values::length_decimal))]
+pub fn numbers_read_back()
+    ensures read_back { PrintedIsReadBack }
+    ensures library { LibraryPrintsDigits }
+    ensures twenty_digits { TwentyDigitsSuffice }
+{}
 
 // Bytes that were read or printed, in a fixed place of N bytes.
 #[derive(Drop)]
