@@ -16,9 +16,10 @@ use Rattle.rules.proofs.Lists.{each_map}
 use Rattle.rules.proofs.Tables.{NoneHolds}
 use Rattle.rules.proofs.Granted.{refusals_none, order_granted, withdraw_granted}
 use Rattle.earlier.specs.Single.{alone, tested_before, start_for_before, refusals_before, granted_before, step_before, NamesOne}
-use Rattle.earlier.proofs.Rates.{rates, rates_in_loads, rates_kept, rates_most}
-use Rattle.earlier.proofs.OnePlans.{limits_alone, sound_is, earliest_is, latest_is, lines_is}
-use Rattle.earlier.proofs.OneTest.{WithTail, judged_is}
+use Rattle.earlier.proofs.Rates.{rates_in_loads, rates_kept, rates_most}
+use Rattle.earlier.specs.LawsOfBefore.{limits_alone, rates, WithTail}
+use Rattle.earlier.proofs.OnePlans.{sound_is, earliest_is, latest_is, lines_is}
+use Rattle.earlier.proofs.OneTest.{judged_is}
 
 pub or-false : (a : Bool) → a || false ≡ a
 or-false true = refl

@@ -1,28 +1,24 @@
--- N14: with one feeder and W 720 every answer is as before. From an opening of one feeder every list of calls that name it gives what it
+-- With one feeder and W 720 every answer is as before. From an opening of one feeder every list of calls that name it gives what it
 -- gave before, call by call: answers, stations and lists.
 use mathlib.Core.Path.{◌≡◌, refl, sym, ap, subst, ◌∙◌}
 use Prim.Native.Nat.{ℕ, zero, suc}
 use mathlib.Core.Bool.{Bool, true, false, cond, ◌||◌}
 use mathlib.Core.List.{List, [], ◌∷◌}
 use lib.Dec.{ltb, eqb}
-use Rattle.rules.specs.Basics.{Each, Found, at, nothing, first_of, some}
+use Rattle.rules.specs.Basics.{Found, at, nothing, first_of, some}
 use Rattle.rules.specs.Charge.{has_ticket, without_ticket}
 use Rattle.rules.specs.Replan.{Proposal, starts, none, latest, Replanned, by_lines}
 use Rattle.rules.specs.Judgement.{judged}
 use Rattle.rules.specs.Site.{Feeder, State, charges_on, holding}
 use Rattle.rules.specs.Entry.{one_feeder}
-use Rattle.rules.specs.Calls.{bound_of, Result, answering, opening, fresh, least, open_refusals, Call, preview, commit, move, offer, replan_latest, replan_lines, enquire, board, withdraw, lent, refusals, draw_for, start_for, previewed_at, previewing, committing, moving, decided, tested, offering, replanning_latest, replanning_lines, enquiring, boarding, withdrawing, granted, step, run}
+use Rattle.rules.specs.Calls.{bound_of, Result, answering, opening, fresh, least, open_refusals, Call, preview, commit, move, offer, replan_latest, replan_lines, enquire, board, withdraw, lent, refusals, draw_for, start_for, previewed_at, previewing, committing, moving, decided, tested, offering, replanning_latest, replanning_lines, enquiring, boarding, withdrawing, granted, step}
 use Rattle.rules.specs.Valid.{ValidState}
 use Rattle.rules.proofs.Validity.{opening_valid, step_valid}
-use Rattle.earlier.specs.Single.{alone, step_before, run_before, opening_before, NamesOne}
-use Rattle.earlier.proofs.OnePlans.{limits_alone}
+use Rattle.earlier.specs.Single.{alone, step_before, run_before, NamesOne}
+use Rattle.earlier.specs.LawsOfBefore.{Alone, OpeningOfOneIsSame, OneFeederGivesTheSame, FromOpeningOfOne, limits_alone}
 use Rattle.earlier.proofs.OneCall.{or-false, step_is}
 
 -- The feeder stays alone
-
--- a site of one feeder under W 720
-abbrev Alone : State → Type 0
-Alone s = (g : Feeder) × (s ≡ alone g s.clock s.next)
 
 answering_alone : (i : ℕ) (s : State) (list : List ℕ) (r : Result) → Alone s → Alone r.state → Alone (answering i s list r).state
 answering_alone zero s list r a b = b
@@ -65,8 +61,7 @@ module _ (g : Feeder) (k n : ℕ) where
 
 -- Lists of calls
 
-pub run_is :
-    (s : State) (calls : List Call) → Alone s → ValidState s → Each NamesOne calls → run s calls ≡ run_before s calls
+pub run_is : OneFeederGivesTheSame
 run_is s [] a v h = refl
 run_is s (c ∷ calls) (g, e) v h =
     ap (λ (rest : List Result). step s c ∷ rest) (run_is (step s c).state calls stays (step_valid s c v) h.1)
@@ -82,9 +77,9 @@ run_is s (c ∷ calls) (g, e) v h =
 
 -- From the opening
 
-pub opening-is : (n c r : ℕ) → opening (one_feeder n c r) ≡ opening_before n c r
+pub opening_is : OpeningOfOneIsSame
 unfolding opening
-opening-is n c r =
+opening_is n c r =
     rw (
       or-false (ltb n 1 || ltb 60 n),
       or-false (ltb 100 c),
@@ -96,11 +91,7 @@ opened_alone : (n c r : ℕ) → Alone (opening (one_feeder n c r)).state
 unfolding opening
 opened_alone n c r = answering_alone (first_of (open_refusals (one_feeder n c r))) (fresh least) [] _ (_, refl) (_, refl)
 
--- "With one feeder and W 720 every answer is as before."
-pub old_answers :
-    (n c r : ℕ) (calls : List Call)
-    → Each NamesOne calls
-    → run (opening (one_feeder n c r)).state calls ≡ run_before (opening_before n c r).state calls
+pub old_answers : FromOpeningOfOne
 old_answers n c r calls h =
     run_is (opening (one_feeder n c r)).state calls (opened_alone n c r) (opening_valid (one_feeder n c r)) h
-    ∙ ap (λ (x : Result). run_before x.state calls) (opening-is n c r)
+    ∙ ap (λ (x : Result). run_before x.state calls) (opening_is n c r)

@@ -7,7 +7,7 @@ use native.Mathlib.Omega.{arith}
 use lib.Dec.{leb}
 use borrow.Author.Tests.{le-leb}
 use Rattle.rules.specs.Basics.{throughout, first}
-use Rattle.rules.specs.Load.{Load, Draw, load_from, count, counts, last_until, Limits, limits, limited, balanced, whole_of, within_site, from_on, sound}
+use Rattle.rules.specs.Load.{Load, Draw, load_from, count, counts, last_until, limited, balanced, whole_of, within_site, from_on, sound}
 use Rattle.rules.specs.Charge.{Charge, starting, draw_of, loads_of, begun_charges, waiting_charges, latest_start_before}
 use Rattle.rules.specs.Search.{added, earliest, Caps, first_unbalanced}
 use Rattle.rules.specs.Priority.{fits_at, without_ticket}
@@ -17,9 +17,10 @@ use Rattle.rules.proofs.Lists.{each_map}
 use Rattle.rules.proofs.Counts.{within_all}
 use Rattle.rules.proofs.Sorting.{sorted_rearranged}
 use Rattle.earlier.specs.Single.{sound_before, earliest_before, fits_before, latest_before, after_before, round_before, by_lines_before}
+use Rattle.earlier.specs.LawsOfBefore.{limits_alone, rates}
 use Rattle.earlier.proofs.Alike.{all_alike}
 use Rattle.earlier.proofs.AlikeLines.{lines_alike}
-use Rattle.earlier.proofs.Rates.{rates_in, rates, whole_most, rates_in_append, rates_in_loads, rates_append, rates_parts, rates_without, lines_to, lines_most, rates_rearranged}
+use Rattle.earlier.proofs.Rates.{rates_in, whole_most, rates_in_append, rates_in_loads, rates_append, rates_parts, rates_without, lines_to, lines_most, rates_rearranged}
 
 and-true : (a : Bool) → a && true ≡ a
 and-true true = refl
@@ -32,10 +33,6 @@ within xs h t = within_all 720 (counts xs t) (omega (arith, whole_most xs t))
 
 pub limit_is : (n : ℕ) (xs : List Load) → rates_in xs ≤ 720 → (t : ℕ) → limited n (counts xs t) && within_site 720 (counts xs t) ≡ limited n (counts xs t)
 limit_is n xs h t = rw (within xs h t) (and-true (limited n (counts xs t)))
-
--- what one feeder keeps to
-abbrev pub limits_alone : Feeder → Limits
-limits_alone g = limits g.limit g.bound 720 []
 
 module _ (g : Feeder) (k : ℕ) where
   pub sound_is : (xs : List Load) → rates_in xs ≤ 720 → sound (limits_alone g) k xs ≡ sound_before g k xs

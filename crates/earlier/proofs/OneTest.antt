@@ -11,16 +11,11 @@ use Rattle.rules.specs.Basics.{Each, first_of, some}
 use Rattle.rules.specs.Load.{counts, last_until, balanced, from_on}
 use Rattle.rules.specs.Charge.{Charge, starting, loads_of, is_begun, last_end, lateness}
 use Rattle.rules.specs.Judgement.{restarted, judged}
-use Rattle.rules.specs.Site.{Feeder}
 use Rattle.rules.proofs.Ranges.{same_test}
 use Rattle.rules.proofs.Restarts.{each_restarted}
-use Rattle.earlier.specs.Single.{judged_before}
-use Rattle.earlier.proofs.Rates.{rates_in, rates, rates_in_loads, rates_restarted}
-use Rattle.earlier.proofs.OnePlans.{limits_alone, limit_is}
-
--- a charge draws r minutes after its end
-abbrev pub WithTail : ℕ → Charge → Type 0
-WithTail r c = c.active_time ≡ c.time + r
+use Rattle.earlier.specs.LawsOfBefore.{WithTail, CauseOfOneIsSame}
+use Rattle.earlier.proofs.Rates.{rates_in, rates_in_loads, rates_restarted}
+use Rattle.earlier.proofs.OnePlans.{limit_is}
 
 last_tail :
     (r : ℕ) (c : Charge) (cs : List Charge)
@@ -60,12 +55,7 @@ later_ends r (c ∷ cs) (d ∷ ds) e f h =
         (λ q. lt-ltb a b (omega (arith, ltb-true (a + r) (b + r) q)))
         (λ q. lt-ltb (a + r) (b + r) (omega (arith, ltb-true a b q)))
 
-pub judged_is :
-    (g : Feeder) (k : ℕ)
-    → rates g.charges ≤ 720
-    → Each (WithTail g.tail) g.charges
-    → (ss : List ℕ)
-    → judged (limits_alone g) k g.charges ss ≡ judged_before g k ss
+pub judged_is : CauseOfOneIsSame
 unfolding judged
 judged_is g k few tails ss =
     let new : List Charge = restarted k g.charges ss in

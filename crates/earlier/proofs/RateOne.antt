@@ -1,4 +1,4 @@
--- N4: with every rate 1 the rules are the earlier ones: calls that state no other rate give what they gave before, whole lists of
+-- With every rate 1 the rules are the earlier ones: calls that state no other rate give what they gave before, whole lists of
 -- them from any valid site that holds charges of rate 1.
 use mathlib.Core.Path.{◌≡◌, refl, ap, ◌∙◌}
 use Prim.Native.Nat.{ℕ, zero, suc}
@@ -11,9 +11,10 @@ use Rattle.rules.specs.Charge.{loads_of, seen, has_ticket}
 use Rattle.rules.specs.Replan.{Proposal, starts, none, latest, Replanned, by_lines}
 use Rattle.rules.specs.Judgement.{judged}
 use Rattle.rules.specs.Site.{State, feeder_of, charges_on, site_charges, others_of, limits_of}
-use Rattle.rules.specs.Calls.{Result, answering, Call, preview, commit, move, offer, replan_latest, replan_lines, enquire, board, withdraw, no_such_feeder, feeder_with, refusals, draw_for, start_for, previewed_at, previewing, committing, moving, decided, tested, offering, replanning_latest, replanning_lines, enquiring, boarding, withdrawing, step, run}
+use Rattle.rules.specs.Calls.{Result, answering, Call, preview, commit, move, offer, replan_latest, replan_lines, enquire, board, withdraw, no_such_feeder, feeder_with, refusals, draw_for, start_for, previewed_at, previewing, committing, moving, decided, tested, offering, replanning_latest, replanning_lines, enquiring, boarding, withdrawing, step}
 use Rattle.rules.specs.Valid.{IsFeeder, ValidState}
 use Rattle.earlier.specs.Unrated.{tested_before, start_for_before, step_before, run_before, AtRateOne, StatesOne}
+use Rattle.earlier.specs.LawsOfBefore.{RateOneGivesTheSame}
 use Rattle.rules.proofs.Lists.{each_append, keep_each}
 use Rattle.rules.proofs.Granted.{feeder_granted}
 use Rattle.rules.proofs.Restarts.{each_restarted}
@@ -141,12 +142,7 @@ step_one s (withdraw ticket) h e =
 
 -- Lists of calls
 
-pub run_is :
-    (s : State) (calls : List Call)
-    → ValidState s
-    → AtRateOne (site_charges s)
-    → Each StatesOne calls
-    → run s calls ≡ run_before s calls
+pub run_is : RateOneGivesTheSame
 run_is s [] v e h = refl
 run_is s (c ∷ calls) v e h =
     ap (λ (rest : List Result). step s c ∷ rest) (run_is (step s c).state calls (step_valid s c v) (step_one s c h.0 e) h.1)

@@ -12,6 +12,7 @@ use Rattle.rules.specs.Load.{Load, counts, whole_of}
 use Rattle.rules.specs.Charge.{Charge, starting, loads_of, is_begun, begun_charges, waiting_charges, has_ticket, without_ticket}
 use Rattle.rules.specs.Replan.{of_line}
 use Rattle.rules.specs.Judgement.{restarted}
+use Rattle.earlier.specs.LawsOfBefore.{rates}
 use Rattle.rules.proofs.Lists.{each_map}
 use Rattle.rules.proofs.Sorting.{Inserted, here, later, Rearranged, none, more}
 use Rattle.rules.proofs.Counts.{whole_draws}
@@ -19,10 +20,6 @@ use Rattle.rules.proofs.Counts.{whole_draws}
 abbrev pub rates_in : List Load → ℕ
 rates_in [] = 0
 rates_in (x ∷ xs) = x.rate + rates_in xs
-
-abbrev pub rates : List Charge → ℕ
-rates [] = 0
-rates (c ∷ cs) = c.rate + rates cs
 
 -- no more is drawn in a minute
 pub whole_most : (xs : List Load) (t : ℕ) → whole_of (counts xs t) ≤ rates_in xs

@@ -1,4 +1,4 @@
--- N7: with r = 0 every answer is the old one. From an opening with r 0 on each feeder every list of calls gives what it gave before, call
+-- With r = 0 every answer is the old one. From an opening with r 0 on each feeder every list of calls gives what it gave before, call
 -- by call: answers, stations and lists.
 use mathlib.Core.Path.{◌≡◌, refl, ap, ◌∙◌}
 use Prim.Native.Nat.{ℕ, zero, suc, ◌-◌}
@@ -12,11 +12,12 @@ use Rattle.rules.specs.Charge.{Charge, unfinished_charges, has_ticket}
 use Rattle.rules.specs.Replan.{Proposal, starts, none, latest, by_lines}
 use Rattle.rules.specs.Judgement.{judged}
 use Rattle.rules.specs.Site.{State, feeder_of, charges_on, limits_of, with_charges, holding}
-use Rattle.rules.specs.Calls.{Settings, Asked, settings_read, fresh_feeder, Result, answering, fresh, least, open_refusals, opening, Call, preview, commit, move, offer, replan_latest, replan_lines, enquire, board, withdraw, feeder_with, refusals, draw_for, start_for, previewed_at, previewing, committing, moving, decided, tested, offering, replanning_latest, replanning_lines, enquiring, boarding, withdrawing, step, run}
+use Rattle.rules.specs.Calls.{Settings, Asked, settings_read, fresh_feeder, Result, answering, fresh, least, open_refusals, opening, Call, preview, commit, move, offer, replan_latest, replan_lines, enquire, board, withdraw, feeder_with, refusals, draw_for, start_for, previewed_at, previewing, committing, moving, decided, tested, offering, replanning_latest, replanning_lines, enquiring, boarding, withdrawing, step}
 use Rattle.rules.proofs.Lists.{each_append, keep_each}
 use Rattle.rules.proofs.Restarts.{each_restarted}
 use Rattle.rules.proofs.Validity.{fresh_joined}
-use Rattle.earlier.specs.Untailed.{run_before, opening_before, AsksNoTail, WithoutTails}
+use Rattle.earlier.specs.Untailed.{run_before, AsksNoTail, WithoutTails}
+use Rattle.earlier.specs.LawsOfBefore.{OpeningWithoutTailsIsSame, WithoutTailsGiveTheSame, FromOpeningWithoutTails}
 use Rattle.earlier.proofs.Feeders.{each_on, each_holding, each_moved, feeder_each, each_set, each_feeders}
 use Rattle.earlier.proofs.UntailedCalls.{AtItsEnd, NoTail, no_longer, step_is}
 
@@ -84,7 +85,7 @@ step_stays s (withdraw ticket) w =
 
 -- Lists of calls
 
-pub run_is : (s : State) (calls : List Call) → WithoutTails s → run s calls ≡ run_before s calls
+pub run_is : WithoutTailsGiveTheSame
 run_is s [] w = refl
 run_is s (c ∷ calls) w =
     ap (λ (rest : List Result). step s c ∷ rest) (run_is (step s c).state calls (step_stays s c w))
@@ -96,9 +97,9 @@ no_tail_above : (xs : List Settings) → Each (λ x. x.tail ≡ 0) xs → some (
 no_tail_above [] e = refl
 no_tail_above (x ∷ xs) e = rw (le-ltb 5 x.tail (omega (arith, e.0)), no_tail_above xs e.1)
 
-pub opening-is : (a : Asked) → AsksNoTail a → opening a ≡ opening_before a
+pub opening_is : OpeningWithoutTailsIsSame
 unfolding opening
-opening-is a h = rw (no_tail_above (settings_read a) h)
+opening_is a h = rw (no_tail_above (settings_read a) h)
 
 fresh_tails : (xs : List Settings) → Each (λ x. x.tail ≡ 0) xs → Each NoTail (map fresh_feeder xs)
 fresh_tails [] e = tt
@@ -112,11 +113,7 @@ unfolding opening
 opened_without a h =
     answering_stays (first_of (open_refusals a)) (fresh least) [] _ (fresh_without least (refl, tt)) (fresh_without a h)
 
--- "With r = 0 every answer is the old one."
-pub old_answers :
-    (a : Asked) (calls : List Call)
-    → AsksNoTail a
-    → run (opening a).state calls ≡ run_before (opening_before a).state calls
+pub old_answers : FromOpeningWithoutTails
 old_answers a calls h =
     run_is (opening a).state calls (opened_without a h)
-    ∙ ap (λ (r : Result). run_before r.state calls) (opening-is a h)
+    ∙ ap (λ (r : Result). run_before r.state calls) (opening_is a h)
