@@ -20,6 +20,7 @@ use Rattle.session.specs.declared.turn.Wants.{Wants}
 use Rattle.session.specs.declared.turn.Wants.TheVariants.{Bytes, Room as Space, Nothing}
 use Rattle.session.specs.declared.turn.Session.{Session}
 use Rattle.session.specs.Turns.{ends, over, Standing, Turned, Chain, opened, turned, EveryChain, Reached}
+use Rattle.session.specs.LawsOfChains.{EndedRequestsAreAnswered, WholeInputIsAnswered}
 use Rattle.session.proofs.Turning.{not_both}
 use Rattle.session.proofs.Sessions.{finish, first-first, feed_append, console_fed}
 
@@ -108,6 +109,12 @@ every_chain read written s held c =
           ∙ ap (λ (x : List ℕ). record { state = view s.station; kept = held; text = x }) (append-nil written);
       whole = λ e. k.whole (ap over e);
     }
+
+pub ended_answered : EndedRequestsAreAnswered
+ended_answered read written s held c = (every_chain read written s held c).so_far
+
+pub whole_answered : WholeInputIsAnswered
+whole_answered read written s held c = (every_chain read written s held c).whole
 
 -- no turn yet: the session begins with the least station, and nothing is held
 pub reached_first : {s : Session} {held : List ℕ} {q : Station} → FreshLeast q → s.station ≡ q → s.wants ≡ Bytes → held ≡ [] → Reached s held

@@ -3,3 +3,4 @@ pub mod Sessions
 pub mod Serving
 pub mod Turning
 pub mod Chains
+pub mod SmallRun

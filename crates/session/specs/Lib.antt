@@ -1,3 +1,3 @@
 pub mod Session
 pub mod Turns
-pub mod Cases
+pub mod LawsOfChains

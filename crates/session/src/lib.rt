@@ -3,3 +3,19 @@
 #![tactic(auto)]
 
 pub mod turn;
+
+ghost use Rattle.session.specs.LawsOfChains.{EndedRequestsAreAnswered, WholeInputIsAnswered, SmallRunIsAnswered};
+
+/// Turns one after another, whatever was read for each, answer all that was read: at any time every request that has ended, and at the
+/// end of the input the whole of it.
+#[tactic(auto, using(crate::proofs::Chains::ended_answered, crate::proofs::Chains::whole_answered))]
+pub fn every_chain()
+    ensures so_far { EndedRequestsAreAnswered }
+    ensures whole { WholeInputIsAnswered }
+{}
+
+/// Four requests worked out by hand: one that is refused, two that are passed over, and a last one without a line feed.
+#[tactic(auto, using(crate::proofs::SmallRun::small_run))]
+pub fn worked_run()
+    ensures { SmallRunIsAnswered }
+{}
