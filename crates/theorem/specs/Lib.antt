@@ -1,1 +1,2 @@
 pub mod Theorem
+pub mod Determined

@@ -4,11 +4,11 @@
 -- `apply` or, where the station is lent, `make` (crates/calls/src/lib.rt), any calls with any numbers and any lists, each on the station
 -- that the last one left. `MeetsOpen` below is the contract of `open`, and `MeetsApply` that of the other two: src/lib.rt calls them, and
 -- the checker has proved there that what they give meets these. Nothing else is asked of the code.
-use Rattle.std.specs.Prelude.{◌≡◌, ℕ, List, [], ◌∷◌, map, Result}
+use Rattle.std.specs.Prelude.{◌≡◌, ℕ, true, List, [], ◌∷◌, map, Result}
 use Rattle.rules.specs.Basics.{Each}
 use Rattle.rules.specs.Calls as rules
 use Rattle.rules.specs.Calls.{Asked, opening, run, step}
-use Rattle.guarantee.specs.Past.{Past, beginning, extended, past}
+use Rattle.guarantee.specs.Past.{Past, beginning, extended, past, is_refused}
 use Rattle.guarantee.specs.DemandOne.{DemandOne, DemandOneOpening}
 use Rattle.guarantee.specs.DemandTwo.{DemandTwo}
 use Rattle.guarantee.specs.DemandThree.{DemandThree}
@@ -19,7 +19,7 @@ use Rattle.calls.specs.declared.Call.{Call}
 use Rattle.calls.specs.declared.Answer.{Answer}
 use Rattle.station.specs.View.{view, Valid}
 use Rattle.station.specs.Opened.{open_answer, Opens}
-use Rattle.calls.specs.Applied.{call_of, list_after, answer_of, Applies}
+use Rattle.calls.specs.Applied.{call_of, list_after, answer_of, lends, ListStays, Applies}
 
 -- One call made through `apply` or `make`: what was passed in, and what came back.
 pub record Made : Type 0 where
@@ -81,14 +81,21 @@ known h (m ∷ ms) = known (extended h (call_made m) (given m)) ms
 
 -- What is proved of an opening that asks for x and gave `answer` and `first`, and of the calls made then.
 pub record Guaranteed (x : Asked) (answer : Result Opened Refusal) (first : Station) (calls : List Made) : Type 0 where
+  -- the calls begin with the station that was asked for, or with the one beside a refusal
+  pub began : view first ≡ (opening x).state
   -- every station of the chain is valid, so that what the next call asks is always met
   pub first_valid : Valid first
   pub valid : Each (λ m. Valid m.station) calls
   -- every answer and every list is that of the rules
   pub opened : open_answer answer ≡ (opening x).answer
   pub answers : map given calls ≡ run (opening x).state (map call_made calls)
-  -- and so is what any further call would give: `step` below is what the program does
+  -- and a list for writing that a call does not take stays
+  pub stays : Each (λ m. ListStays (lends m.call) m.list m.written) calls
+  -- so is what any further call would give: `step` below is what the program does
   pub next : (m : Made) → MeetsApply (left first calls) m → given m ≡ step (view (left first calls)) (call_made m)
+  -- and where it is refused, it leaves the very station, every place of its arrays
+  pub unchanged :
+      (m : Made) → MeetsApply (left first calls) m → is_refused (answer_of m.answer) ≡ true → m.station ≡ left first calls
   -- what demand 3 reads off a list of calls is what was seen of these
   pub seen : known (beginning (view first)) calls ≡ past step (view first) (map call_made calls)
   -- Demand 1, of the opening and of every call made to the station that is left

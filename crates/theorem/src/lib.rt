@@ -3,7 +3,8 @@
 
 ghost use Rattle.station.specs.View.{Valid};
 ghost use Rattle.station.specs.Opened.{asked_of};
-ghost use Rattle.theorem.specs.Theorem.{MeetsOpen, MeetsApply, made};
+ghost use Rattle.theorem.specs.Theorem.{MeetsOpen, MeetsApply, made, Theorem};
+ghost use Rattle.theorem.specs.Determined.{ViewDetermines};
 
 use calls::{Answer, Call};
 use refusals::Refusal;
@@ -40,3 +41,15 @@ pub fn make(
 {
     calls::make(station, call, numbers, list)
 }
+
+/// Whatever is asked for at the opening, and whatever calls are then made, each on the station that the
+/// last one left: every answer and every list is the one of the rules, and what they promise holds.
+pub fn theorem()
+    ensures { Theorem }
+{}
+
+/// Two stations that show the same are the same: nothing of a station is hidden from the rules.
+#[tactic(auto, using(crate::proofs::Determined::view_determines))]
+pub fn view_determines()
+    ensures { ViewDetermines }
+{}
