@@ -10,8 +10,7 @@ use Rattle.rules.specs.Site.{State, no_feeder}
 use Rattle.rules.proofs.Ranges.{below_or_not}
 use Rattle.charges.proofs.Holding.{charges_same}
 use Rattle.station.specs.declared.Feeder.{Feeder}
-use Rattle.station.specs.declared.Station.{Station}
-use Rattle.station.specs.View.{feeder_view, outside, feeder_at, view, Formed}
+use Rattle.station.specs.View.{feeder_view, outside, feeder_at}
 use Rattle.station.proofs.Views.{view_length, view_at}
 use Rattle.theorem.specs.Determined.{ViewDetermines}
 

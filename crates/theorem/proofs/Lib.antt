@@ -1,2 +1,9 @@
 pub mod Chains
 pub mod Determined
+pub mod Carried
+pub mod EveryAnswer
+pub mod EveryMinute
+pub mod EveryEnquiry
+pub mod EveryOrder
+pub mod EveryTicket
+pub mod EveryWithdrawal

@@ -1,2 +1,9 @@
 pub mod Theorem
 pub mod Determined
+pub mod AfterCalls
+pub mod EveryAnswer
+pub mod EveryMinute
+pub mod EveryEnquiry
+pub mod EveryOrder
+pub mod EveryTicket
+pub mod EveryWithdrawal

@@ -1,6 +1,13 @@
 // The calls of which the theorem in specs/Theorem.antt speaks: the checker holds it here to the contracts of `open`, `apply` and `make`.
 #![tactic(auto)]
 
+pub mod every_answer;
+pub mod every_enquiry;
+pub mod every_minute;
+pub mod every_order;
+pub mod every_ticket;
+pub mod every_withdrawal;
+
 ghost use Rattle.station.specs.View.{Valid};
 ghost use Rattle.station.specs.Opened.{asked_of};
 ghost use Rattle.theorem.specs.Theorem.{MeetsOpen, MeetsApply, made, Theorem};
