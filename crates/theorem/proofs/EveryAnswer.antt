@@ -1,13 +1,7 @@
 -- Of answers, lists and stations.
 use Rattle.theorem.specs.AfterCalls.{ForAnyCalls}
-use Rattle.theorem.specs.EveryAnswer.{OpeningByTheRules, AnswersByTheRules, NextByTheRules, StationsValid, OtherListsStay, RefusedLeavesTheStation}
+use Rattle.theorem.specs.EveryAnswer.{AnswersByTheRules, NextByTheRules, StationsValid, OtherListsStay, RefusedLeavesTheStation}
 use Rattle.theorem.proofs.Chains.{theorem}
-use mathlib.Core.List.{[]}
-
-pub opening_by_the_rules : OpeningByTheRules
-opening_by_the_rules x answer first opens =
-    let g = theorem x answer first opens [] tt in
-    record { answer_is = g.opened; station_is = g.began }
 
 pub answers_by_the_rules : ForAnyCalls AnswersByTheRules
 answers_by_the_rules x answer first opens calls chain = (theorem x answer first opens calls chain).answers

@@ -1,9 +1,11 @@
+pub mod Carried
 pub mod Chains
 pub mod Determined
-pub mod Carried
 pub mod EveryAnswer
-pub mod EveryMinute
+pub mod EveryCall
 pub mod EveryEnquiry
+pub mod EveryMinute
+pub mod EveryOpening
 pub mod EveryOrder
 pub mod EveryTicket
 pub mod EveryWithdrawal

@@ -1,25 +1,12 @@
 -- That every answer and every list is that of the rules, whatever was asked for and whatever calls were made.
-use Rattle.std.specs.Prelude.{◌≡◌, true, map, Result}
+use Rattle.std.specs.Prelude.{◌≡◌, true, map}
 use Rattle.rules.specs.Basics.{Each}
-use Rattle.rules.specs.Calls.{Asked, opening, run, step}
+use Rattle.rules.specs.Calls.{opening, run, step}
 use Rattle.guarantee.specs.Past.{is_refused}
-use Rattle.refusals.specs.declared.Refusal.{Refusal}
-use Rattle.station.specs.declared.Station.{Station}
-use Rattle.station.specs.declared.bounds.Opened.{Opened}
 use Rattle.station.specs.View.{view, Valid}
-use Rattle.station.specs.Opened.{open_answer}
 use Rattle.calls.specs.Applied.{answer_of, lends, ListStays}
-use Rattle.theorem.specs.Theorem.{Made, MeetsOpen, MeetsApply, call_made, given, left}
+use Rattle.theorem.specs.Theorem.{Made, MeetsApply, call_made, given, left}
 use Rattle.theorem.specs.AfterCalls.{About}
-
--- The opening answers as the rules do, and gives the station that they give.
-pub record OpenedByTheRules (x : Asked) (answer : Result Opened Refusal) (first : Station) : Type 0 where
-  pub answer_is : open_answer answer ≡ (opening x).answer
-  pub station_is : view first ≡ (opening x).state
-
-abbrev pub OpeningByTheRules : Type 0
-OpeningByTheRules =
-    (x : Asked) (answer : Result Opened Refusal) (first : Station) → MeetsOpen x answer first → OpenedByTheRules x answer first
 
 -- Every answer, every list and every station that is shown is that of the rules, one call after another.
 abbrev pub AnswersByTheRules : About

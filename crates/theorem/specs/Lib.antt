@@ -1,9 +1,11 @@
-pub mod Theorem
-pub mod Determined
 pub mod AfterCalls
+pub mod Determined
 pub mod EveryAnswer
-pub mod EveryMinute
+pub mod EveryCall
 pub mod EveryEnquiry
+pub mod EveryMinute
+pub mod EveryOpening
 pub mod EveryOrder
 pub mod EveryTicket
 pub mod EveryWithdrawal
+pub mod Theorem

@@ -1,12 +1,11 @@
 // Of the answers, the lists and the stations, after any calls.
 
 ghost use Rattle.theorem.specs.AfterCalls.{ForAnyCalls};
-ghost use Rattle.theorem.specs.EveryAnswer.{OpeningByTheRules, AnswersByTheRules, NextByTheRules, StationsValid, OtherListsStay, RefusedLeavesTheStation};
+ghost use Rattle.theorem.specs.EveryAnswer.{AnswersByTheRules, NextByTheRules, StationsValid, OtherListsStay, RefusedLeavesTheStation};
 
 /// Every answer and every list is that of the rules, and so is what any further call gives. Every station is
 /// valid, a list that a call does not write stays, and a refused call leaves the very station.
 pub fn every_answer()
-    ensures opening { OpeningByTheRules }
     ensures answers { ForAnyCalls AnswersByTheRules }
     ensures next { ForAnyCalls NextByTheRules }
     ensures valid { ForAnyCalls StationsValid }

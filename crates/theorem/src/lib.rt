@@ -2,8 +2,10 @@
 #![tactic(auto)]
 
 pub mod every_answer;
+pub mod every_call;
 pub mod every_enquiry;
 pub mod every_minute;
+pub mod every_opening;
 pub mod every_order;
 pub mod every_ticket;
 pub mod every_withdrawal;

@@ -1,10 +1,9 @@
-use Rattle.theorem.proofs.EveryAnswer.{opening_by_the_rules, answers_by_the_rules, next_by_the_rules, stations_valid, other_lists_stay, refused_leaves}
+use Rattle.theorem.proofs.EveryAnswer.{answers_by_the_rules, next_by_the_rules, stations_valid, other_lists_stay, refused_leaves}
 use Rattle.theorem.proofs.every_answer.every_answer.Goals as goal
 
 pub returns : goal.returns
 returns c =
     record {
-      opening = opening_by_the_rules;
       answers = answers_by_the_rules;
       next = next_by_the_rules;
       valid = stations_valid;

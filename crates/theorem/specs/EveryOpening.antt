@@ -1,0 +1,32 @@
+-- What an opening gives, whatever it asks for: N, c and r of each feeder, how many feeders, and W.
+use Rattle.std.specs.Prelude.{◌↔◌, ◌≡◌, ℕ, true, false, map, Result}
+use Rattle.rules.specs.Calls.{Asked, Answer, refused, opened, fresh, least, open_refusals}
+use Rattle.guarantee.specs.Past.{is_refused}
+use Rattle.guarantee.specs.DemandOne.{FirstIs}
+use Rattle.refusals.specs.declared.Refusal.{Refusal}
+use Rattle.station.specs.declared.Station.{Station}
+use Rattle.station.specs.declared.bounds.Opened.{Opened}
+use Rattle.station.specs.View.{view}
+use Rattle.station.specs.Opened.{open_answer}
+use Rattle.theorem.specs.Theorem.{MeetsOpen}
+
+-- it holds of every opening: of what was asked for, of the answer, and of the station that it gave
+abbrev pub OfEveryOpening : (Asked → Answer → Station → Type 0) → Type 0
+OfEveryOpening Holds =
+    (x : Asked) (answer : Result Opened Refusal) (first : Station) → MeetsOpen x answer first → Holds x (open_answer answer) first
+
+-- An opening is refused with a number exactly when that is the number of the first condition of its table that applies.
+abbrev pub OpeningRefusedByTheTable : Type 0
+OpeningRefusedByTheTable =
+    OfEveryOpening (λ x told first. (k : ℕ) → (told ≡ refused k) ↔ FirstIs (open_refusals x) k)
+
+-- Beside a refused one stands the fresh station of one feeder, N 1, c 100 and r 0, under W 720.
+abbrev pub LeastBesideARefusal : Type 0
+LeastBesideARefusal = OfEveryOpening (λ x told first. is_refused told ≡ true → view first ≡ fresh least)
+
+-- One that is not refused answers D of each feeder, and gives the station that was asked for: each feeder up to the count with its N, c, D and
+-- r, W, clock 0, next ticket 1, and no charges.
+abbrev pub OpenedAsAsked : Type 0
+OpenedAsAsked =
+    OfEveryOpening (λ x told first.
+    is_refused told ≡ false → (told ≡ opened (map (λ g. g.bound) (fresh x).feeders)) × (view first ≡ fresh x))

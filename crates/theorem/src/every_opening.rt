@@ -1,0 +1,11 @@
+// What every opening gives.
+
+ghost use Rattle.theorem.specs.EveryOpening.{OpeningRefusedByTheTable, LeastBesideARefusal, OpenedAsAsked};
+
+/// An opening is refused with the first number of its table that applies, and beside it stands the least
+/// station; one that is not refused gives the station that was asked for.
+pub fn every_opening()
+    ensures refused { OpeningRefusedByTheTable }
+    ensures beside { LeastBesideARefusal }
+    ensures opened { OpenedAsAsked }
+{}
