@@ -2,25 +2,27 @@
 use Prim.Native.Nat.{ℕ, ◌+◌, ◌-◌, ◌≤◌}
 use mathlib.Core.Path.{◌≡◌, refl, sym, ◌∙◌, ap}
 use mathlib.Core.Bool.{Bool, true, false, not}
-use mathlib.Core.List.{[]}
+use mathlib.Core.List.{List, []}
 use native.Mathlib.Omega.{arith}
 use lib.ListN.{length}
-use Rattle.std.specs.Prelude.{Option, Some, None}
+use Rattle.std.specs.Prelude.{Option, Some, None, Result, Ok, Err, IfOk, IfErr}
 use Rattle.std.specs.Bool.{then_some}
-use Rattle.rules.specs.Load.{counts, sound_counts}
+use Rattle.std.specs.Result.{result_err}
+use Rattle.rules.specs.Load.{Load, counts, sound_counts}
 use Rattle.rules.specs.Search.{added}
-use Rattle.rules.specs.Candidate.{tested_by}
-use Rattle.rules.proofs.TestedStarts.{tested_fails, tested_passes, tested_same, looked_bounds, counts_own}
+use Rattle.rules.specs.Candidate.{tested_by, candidate}
+use Rattle.rules.proofs.TestedStarts.{tested_fails, tested_passes, tested_same, counts_own}
 use Rattle.profile.specs.Steps.{counts_of, In}
-use Rattle.profile.specs.Shows.{Profile, draw_of, line_of, levels}
+use Rattle.profile.specs.Shows.{Profile, draw_of, line_of, levels, Shows}
 use Rattle.profile.specs.declared.loads.Draw.{Draw}
 use Rattle.profile.specs.declared.steps.Step.{Step}
 use Rattle.profile.proofs.Lines.{sound_tests}
 use Rattle.search.specs.Numbers.{limits_beside, with_draw}
 use Rattle.search.specs.Rooms.{Visit, FailsIn, FirstFailing}
-use Rattle.search.specs.Candidates.{tested_of, fits_in, TestedAs, TestShows, CanFit}
+use Rattle.search.specs.Candidates.{fits_in, EachFits, FailsFirst, TestShows, CanFit}
 use Rattle.search.specs.declared.limits.Limits.{Limits}
 use Rattle.search.specs.declared.walk.Failing.{Failing}
+use Rattle.search.proofs.Rooms.{told_at, told_nothing}
 use Rattle.search.proofs.Sounds.{alone_sound}
 use Rattle.search.proofs.Within.{step_with}
 
@@ -47,30 +49,25 @@ module _ {p : Profile} (y : Limits) (a : Draw) where
             fails = λ v k h. here_is g v h;
           }
 
-  -- the first failing minute is the last that the rules' test looks at, and where there is none that looks at all
-  pub test_told :
-      {start until : ℕ} {r : Option Failing} → until ≡ start + a.time → FirstFailing (fits_in p y a) p start until r → TestedAs p y a start r
-  test_told {start} {r = None} all h =
-      record {
-        first = rw (← all) h;
-        same = sym (tested_passes (fits_in p y a) a.time start (λ v c d. h v c (omega arith)));
-      }
-  test_told {start} {r = Some m} all x =
-      record {
-        first = rw (← all) x;
-        same =
-            ap (λ (v : ℕ). record { fits = false; looked = v }) (omega arith)
-            ∙ sym (tested_fails (fits_in p y a) a.time start m.minute
-            (record {
-              low = x.low;
-              high = omega (arith, x.high);
-              passed = x.passed;
-              fails = x.fails m.minute (omega arith) x.inside;
-            }));
-      }
+-- what the walk's answer says
 
-pub tested_first : {p : Profile} {y : Limits} {a : Draw} {start : ℕ} {r : Option Failing} → TestedAs p y a start r → FirstFailing (fits_in p y a) p start (start + a.time) r
-tested_first h = h.first
+pub told_first :
+    (p : Profile) (y : Limits) (a : Draw) {start until : ℕ} {r : Option Failing} {m : Failing} → until ≡ start + a.time → r ≡ Some m
+    → FirstFailing (fits_in p y a) p start until r → FailsFirst p y a start m
+told_first p y a {start} all e h = rw (← all) (told_at (fits_in p y a) p start _ _ _ h e)
+
+pub told_each :
+    (p : Profile) (y : Limits) (a : Draw) {start until : ℕ} {r : Option Failing} → until ≡ start + a.time → r ≡ None
+    → FirstFailing (fits_in p y a) p start until r → EachFits p y a start
+told_each p y a {start} all e h = rw (← all) (told_nothing (fits_in p y a) p start _ _ h e)
+
+-- the walk's answer, by which a search goes on
+pub failing_first :
+    (p : Profile) (y : Limits) (a : Draw) (start : ℕ) (v : Result Unit Failing)
+    → IfOk v (λ _. EachFits p y a start) → IfErr v (λ m. FailsFirst p y a start m)
+    → FirstFailing (fits_in p y a) p start (start + a.time) (result_err v)
+failing_first p y a start (Ok u) fits next = fits
+failing_first p y a start (Err m) fits next = next
 
 -- in the last step the charge is alone
 pub fits_rests :
@@ -79,19 +76,37 @@ fits_rests {p} {y} {a} can t h = step_with p y a t h ∙ alone_sound [] (λ l. l
 
 -- What the answer says of the loads that a profile shows
 
-pub test_shows : {p : Profile} {y : Limits} {a : Draw} {start : ℕ} {r : Option Failing} → TestedAs p y a start r → TestShows p y a start r
-test_shows {p} {y} {a} {start} h clock loads others s le =
-    h.same
-    ∙ tested_same (fits_in p y a) _ a.time start
-    (λ t i j.
-    sound_tests (limits_beside y others) (with_draw (levels p t) a) (counts (added loads (draw_of a) start) t)
-    (λ l k. omega (arith, s.counted l k t (omega arith), counts_own (limits_beside y others) clock loads (draw_of a) start t i j l)))
+module _ {p : Profile} (y : Limits) (a : Draw) {start : ℕ} where
+  -- the rules' test of the loads is that of the levels
+  levels_tested :
+      (clock : ℕ) (loads others : List Load) → Shows p clock loads → clock ≤ start
+      → candidate (limits_beside y others) loads (draw_of a) start ≡ tested_by (fits_in p y a) a.time start
+  levels_tested clock loads others s le =
+      sym
+      (tested_same (fits_in p y a) _ a.time start
+      (λ t i j.
+      sound_tests (limits_beside y others) (with_draw (levels p t) a) (counts (added loads (draw_of a) start) t)
+      (λ l k. omega (arith, s.counted l k t (omega arith), counts_own (limits_beside y others) clock loads (draw_of a) start t i j l))))
 
--- the number of minutes looked at, at least 1 and no more than the active ones
-pub looked_within :
-    {p : Profile} {y : Limits} {a : Draw} {start : ℕ} {r : Option Failing} → TestedAs p y a start r → 1 ≤ a.time
-    → (1 ≤ (tested_of a.time start r).looked) × ((tested_of a.time start r).looked ≤ a.time)
-looked_within {p} {y} {a} {start} {r} h some =
-    let b = looked_bounds (fits_in p y a) a.time start some in
-    let e : (tested_of a.time start r).looked ≡ (tested_by (fits_in p y a) a.time start).looked = ap (λ x. x.looked) h.same in
-    (omega (arith, b.0), omega (arith, b.1))
+  -- the first failing minute is the last that it looks at
+  pub first_shows :
+      (m : Failing) → FailsFirst p y a start m → {looked : ℕ} → looked ≡ m.minute - start + 1
+      → TestShows p y a start (record { verdict = Err m; looked = looked })
+  first_shows m x e clock loads others s le =
+      levels_tested clock loads others s le
+      ∙ tested_fails (fits_in p y a) a.time start m.minute
+      (record {
+        low = x.low;
+        high = x.high;
+        passed = x.passed;
+        fails = x.fails m.minute (omega arith) x.inside;
+      })
+      ∙ ap (λ (v : ℕ). record { fits = false; looked = v }) (omega arith)
+
+  -- where no minute fails it looks at all
+  pub each_shows :
+      EachFits p y a start → {looked : ℕ} → looked ≡ a.time → TestShows p y a start (record { verdict = Ok _; looked = looked })
+  each_shows h e clock loads others s le =
+      levels_tested clock loads others s le
+      ∙ tested_passes (fits_in p y a) a.time start h
+      ∙ ap (λ (v : ℕ). record { fits = true; looked = v }) (omega arith)
