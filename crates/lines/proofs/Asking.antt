@@ -8,17 +8,19 @@ use lib.Dec.{ltb}
 use borrow.Author.Tests.{eq-eqb, ne_eqb, lt-ltb, le-ltb}
 use Rattle.std.specs.declared.option.Option.TheVariants.{Some, None}
 use Rattle.rules.specs.Basics.{at, nothing, Each}
-use Rattle.rules.specs.Load.{Load, count, counts}
+use Rattle.rules.specs.Load.{Load, IsLine, count, counts}
 use Rattle.rules.specs.Charge.{Charge, loads_of}
 use Rattle.rules.specs.Search.{Caps, first_unbalanced}
 use Rattle.rules.specs.Replan.{starts, none, largest_line, smallest_line, placed_active, ends, lowers, after_round, round, standing}
 use Rattle.rules.proofs.Lists.{each_right}
+use Rattle.rules.proofs.Rounds.{largest_line_lem}
 use Rattle.rules.proofs.Counts.{count-append}
 use Rattle.charges.specs.declared.Charges.{Charges}
 use Rattle.charges.specs.Arrays.{charges_of}
 use Rattle.profile.specs.declared.steps.Step.{Step}
 use Rattle.profile.specs.Steps.{counts_of}
-use Rattle.profile.specs.Shows.{Profile, level_of, Rated}
+use Rattle.profile.specs.Shows.{Profile, level_of, levels, Rated}
+use Rattle.profile.proofs.Lines.{line_one, line_two, line_three}
 use Rattle.planner.specs.Starts.{WaitingStarts}
 use Rattle.planner.specs.declared.Beside.{Beside}
 use Rattle.planner.specs.Ready.{terms_of}
@@ -26,22 +28,28 @@ use Rattle.planner.specs.Placed.{plan_of, AllPlaced}
 use Rattle.planner.proofs.Placing.{placed_active_lem}
 use Rattle.lines.specs.Lines.{lines_placed}
 use Rattle.lines.specs.Rounds.{asked_in}
-use Rattle.lines.proofs.Extremes.{largest_count, smallest_count}
+use Rattle.lines.proofs.Extremes.{largest_alike, largest_count, smallest_count}
 
--- Seen from the step
+-- Seen from the step of the minute
 
-module _ (s : Step) (base : Profile) (bound : ℕ) {line x y : ℕ} (e : line ≡ largest_line (counts_of s)) (ex : x ≡ max s.one (max s.two s.three))
-    (ey : y ≡ level_of base line s.minute) where
-  large : counts_of s line ≡ x
-  large = ap (counts_of s) e ∙ largest_count (counts_of s) ∙ sym ex
+module _ (p base : Profile) (t bound : ℕ) (s : Step) (counted : (l : ℕ) → IsLine l → counts_of s l ≡ level_of p l t) {line x y : ℕ}
+    (e : line ≡ largest_line (counts_of s)) (ex : x ≡ max s.one (max s.two s.three)) (ey : y ≡ level_of base line t) where
+  is_large : line ≡ largest_line (levels p t)
+  is_large = e ∙ largest_alike (counts_of s) (levels p t) counted
 
-  pub asked_none : x ≡ y → None ≡ asked_in s base bound
-  asked_none same = rw (← e, large, ← ey, eq-eqb x y same)
+  large : level_of p line t ≡ x
+  large = sym (counted line (rw e (largest_line_lem (counts_of s)).line)) ∙ ap (counts_of s) e ∙ largest_count (counts_of s) ∙ sym ex
+
+  pub asked_none : x ≡ y → None ≡ asked_in p base t bound
+  asked_none same = rw (← is_large, large, ← ey, eq-eqb x y same)
 
   pub asked_lowers :
-      {low minute cap : ℕ} → (x ≡ y → ⊥) → low ≡ min s.one (min s.two s.three) → minute ≡ s.minute → cap ≡ low + bound
-      → Some (record { line = line; minute = minute; cap = cap }) ≡ asked_in s base bound
-  asked_lowers ne el em ec = rw (ec, em, el ∙ sym (smallest_count (counts_of s)), ← e, large, ← ey, ne_eqb x y ne)
+      {low minute cap : ℕ} → (x ≡ y → ⊥) → low ≡ min s.one (min s.two s.three) → minute ≡ t → cap ≡ low + bound
+      → Some (record { line = line; minute = minute; cap = cap }) ≡ asked_in p base t bound
+  asked_lowers {low} ne el em ec = rw (ec, em, ← small, ← is_large, large, ← ey, ne_eqb x y ne)
+    where
+      small : level_of p (smallest_line (levels p t)) t ≡ low
+      small = omega (arith, el, smallest_count (levels p t), counted 1 line_one, counted 2 line_two, counted 3 line_three)
 
 -- As the rules have it
 

@@ -9,9 +9,7 @@ use Rattle.rules.specs.Search.{Caps}
 use Rattle.charges.specs.declared.Charges.{Charges}
 use Rattle.charges.specs.Arrays.{charges_of}
 use Rattle.charges.specs.Starts.{Starts}
-use Rattle.profile.specs.Steps.{counts_of}
-use Rattle.profile.specs.Shows.{Profile, level_of, first_minute, Formed, most_drawn}
-use Rattle.profile.specs.declared.steps.Step.{Step}
+use Rattle.profile.specs.Shows.{Profile, level_of, levels, first_minute, Formed, most_drawn}
 use Rattle.search.specs.declared.caps.Lowering.{Lowering}
 use Rattle.search.specs.Caps.{CapsShown}
 use Rattle.planner.specs.declared.cause.Cause.{Cause}
@@ -30,18 +28,20 @@ abbrev pub outcome : Round → rules.Outcome
 outcome (Break p) = ends (proposal_of p)
 outcome (Continue x) = lowers x.line x.minute x.cap
 
--- what the first minute of a step asks for, beside the profile of what stands alone
-abbrev pub asked_in : Step → Profile → ℕ → Option Lowering
-asked_in s base bound =
-    cond (eqb (counts_of s (largest_line (counts_of s))) (level_of base (largest_line (counts_of s)) s.minute))
+-- what minute t of a plan asks for, where its profile is p and that of what stands alone is base
+abbrev pub asked_in : Profile → Profile → ℕ → ℕ → Option Lowering
+asked_in p base t bound =
+    cond (eqb (level_of p (largest_line (levels p t)) t) (level_of base (largest_line (levels p t)) t))
     None
-    (Some (record { line = largest_line (counts_of s); minute = s.minute; cap = counts_of s (smallest_line (counts_of s)) + bound }))
+    (Some (record { line = largest_line (levels p t); minute = t; cap = level_of p (smallest_line (levels p t)) t + bound }))
 
--- the profile has the minute, and the counts are small
-pub record Comparable (s : Step) (base : Profile) (bound : ℕ) : Type 0 where
+-- both profiles have the minute, and the counts are small
+pub record Comparable (p base : Profile) (t bound : ℕ) : Type 0 where
+  pub planned : Formed p
   pub formed : Formed base
-  pub low : first_minute base ≤ s.minute
-  pub small : (l : ℕ) → IsLine l → counts_of s l ≤ most_drawn
+  pub begun : first_minute p ≤ t
+  pub low : first_minute base ≤ t
+  pub small : (l : ℕ) → IsLine l → level_of p l t ≤ most_drawn
   pub bound_most : bound ≤ 60
 
 -- each of n waiting charges has a start in what is proposed; of a lowering the minute is a number of 32 bits, and the cap is not below the bound

@@ -15,7 +15,7 @@ use planner::standing::add_standing;
 use planner::starts::waiting_starts;
 use profile::balance::{first_unbalanced, largest_line, level};
 use profile::loads::Profile;
-use profile::steps::Step;
+use profile::steps::{Step, place};
 use queues::by_latest_start;
 use search::caps::{LineCaps, Lowering};
 use std::ops::ControlFlow;
@@ -30,14 +30,14 @@ pub struct Replanned {
     pub rounds: u32,
 }
 
-// What the first minute of an unbalanced step asks for: a lower cap for the line with the largest count, if a placed charge draws there,
+// What the first unbalanced minute of a plan asks for: a lower cap for the line with the largest count, if a placed charge draws there,
 // and so the count is not that of what stands.
-fn unbalanced_in(step: Step, standing: &[Step], bound: u32) -> Option<Lowering>
-    requires { Comparable step standing.now bound }
-    ensures { result ≡ asked_in step standing.now bound }
+fn unbalanced_in(minute: u32, plan: &[Step], standing: &[Step], bound: u32) -> Option<Lowering>
+    requires { Comparable plan.now standing.now minute bound }
+    ensures { result ≡ asked_in plan.now standing.now minute bound }
 {
+    let step = plan[place(plan, minute)];
     let line = largest_line(step);
-    let minute = step.minute;
     let drawn = level(standing, line, minute);
     if step.largest() == drawn {
         return None;
@@ -55,11 +55,11 @@ fn play<const N: usize>(plan: &mut Profile<N>, standing: &Profile<N>, task: &Tas
     plan.copy(standing);
     let by_place = place_lines(plan, task);
     let bound = task.beside.limits.bound;
-    let Some(step) = first_unbalanced(plan.steps(), bound) else {
+    let Some(minute) = first_unbalanced(plan.steps(), bound) else {
         let starts = waiting_starts(task.charges, task.beside.clock, &by_place);
         return ControlFlow::Break(Ok(starts));
     };
-    match unbalanced_in(step, standing.steps(), bound) {
+    match unbalanced_in(minute, plan.steps(), standing.steps(), bound) {
         Some(lowering) => ControlFlow::Continue(lowering),
         // No placed charge is to blame.
         None => ControlFlow::Break(Err(Cause::NoStart)),

@@ -8,9 +8,8 @@ use Rattle.rules.specs.Load.{Load, last_until, Limits, limit_at, balance_at, sou
 use Rattle.rules.specs.Search.{first_unbalanced}
 use Rattle.rules.proofs.Ranges.{and_left, and_right, and_both, fails, throughout_at, throughout_all}
 use Rattle.std.specs.Prelude.{Option, Some, None, is_some, Result, Ok, Err, is_ok}
-use Rattle.profile.specs.Shows.{Profile, Shows}
-use Rattle.profile.specs.Balance.{WithinLimit, Unbalanced, found_in}
-use Rattle.profile.specs.declared.steps.Step.{Step}
+use Rattle.profile.specs.Shows.{Profile, Shows, found_at}
+use Rattle.profile.specs.Balance.{WithinLimit, Unbalanced}
 use Rattle.planner.proofs.Causes.{none_unbalanced, some_unbalanced}
 use Rattle.planner.specs.declared.cause.Cause.{Cause}
 use Rattle.planner.specs.declared.cause.Cause.TheVariants.{NoStart, AllowanceSpent, StartBelowClock, EndsLater, AboveLimit, AboveBound, LatenessNotSmaller}
@@ -69,20 +68,20 @@ module _ (y : Limits) (clock : ℕ) (xs : List Load) {p : Profile} (shows : Show
   pub loads_above : within ≡ false → 5 ≡ broken y clock xs
   loads_above e = rw (kept ∙ e)
 
-  module _ (first : Option Step) (found_by : Unbalanced p y.bound first) where
-    found : first_unbalanced y clock xs ≡ found_in first
+  module _ (first : Option ℕ) (found_by : Unbalanced p y.bound first) where
+    found : first_unbalanced y clock xs ≡ found_at first
     found = found_by clock xs y.limit y.site y.others shows
 
     pub loads_unbalanced : within ≡ true → is_some first ≡ true → 6 ≡ broken y clock xs
     loads_unbalanced e h = go first refl h
       where
-        go : (o : Option Step) → first ≡ o → is_some o ≡ true → 6 ≡ broken y clock xs
-        go (Some x) m s = rw (kept ∙ e, some_unbalanced y clock xs x.minute (found ∙ ap found_in m))
+        go : (o : Option ℕ) → first ≡ o → is_some o ≡ true → 6 ≡ broken y clock xs
+        go (Some x) m s = rw (kept ∙ e, some_unbalanced y clock xs x (found ∙ ap found_at m))
         go None m s = absurd (true≢false (sym s))
 
     pub loads_kept : within ≡ true → is_some first ≡ false → 0 ≡ broken y clock xs
     loads_kept e h = go first refl h
       where
-        go : (o : Option Step) → first ≡ o → is_some o ≡ false → 0 ≡ broken y clock xs
+        go : (o : Option ℕ) → first ≡ o → is_some o ≡ false → 0 ≡ broken y clock xs
         go (Some x) m s = absurd (true≢false s)
-        go None m s = rw (kept ∙ e, none_unbalanced y clock xs (found ∙ ap found_in m))
+        go None m s = rw (kept ∙ e, none_unbalanced y clock xs (found ∙ ap found_at m))

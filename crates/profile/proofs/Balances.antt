@@ -1,6 +1,6 @@
 -- The walks over the steps for limit and balance, and what their answers say of the loads that a profile shows.
 use Prim.Native.Nat.{ℕ, ◌+◌, ◌-◌, ◌%◌, ◌≤◌, ◌<◌, max, min}
-use mathlib.Core.Path.{◌≡◌, sym, ◌∙◌, ap, subst}
+use mathlib.Core.Path.{◌≡◌, sym, ◌∙◌, ap}
 use mathlib.Core.Bool.{Bool, true, false, not, ◌&&◌, true≢false}
 use mathlib.Core.List.{List, []}
 use mathlib.Core.Logic.{⊎_elim}
@@ -8,7 +8,7 @@ use native.Mathlib.Omega.{arith}
 use borrow.Author.Tests.{leb-true, le-leb}
 use lib.Dec.{leb}
 use lib.ListN.{length, get_or}
-use Rattle.std.specs.Prelude.{Option, Some, None, MatchBool}
+use Rattle.std.specs.Prelude.{Option, Some, None, IfSome, IfNone, MatchBool}
 use Rattle.std.specs.Int.{abs_diff}
 use Rattle.std.specs.List.{AllWithin, HoldsAt}
 use Rattle.rules.specs.Load.{Load, limits, IsLine, whole_of, limited, within_site, balanced, last_until, limit_at, balance_at, from_on}
@@ -18,11 +18,10 @@ use Rattle.rules.proofs.Counts.{limited_at, limited_all, within_at, within_all, 
 use Rattle.profile.specs.declared.steps.Step.{Step}
 use Rattle.profile.specs.Steps.{In, minutes_of, counts_of, empty_step}
 use Rattle.profile.specs.Minutes.{Passes, Fails, FirstFails}
-use Rattle.profile.specs.Shows.{Profile, line_of, level_of, levels, first_minute, Formed, Shows}
-use Rattle.profile.specs.Balance.{limited_in, balanced_in, PassesIf, OffIn, OffIf, FirstUnbalanced, found_in, LimitKept, Unbalanced, WithinLimit}
-use Rattle.profile.proofs.Levels.{level_in, at_step, rising_le, step_of, step_from, level_test}
+use Rattle.profile.specs.Shows.{Profile, levels, first_minute, Formed, Shows}
+use Rattle.profile.specs.Balance.{limited_in, balanced_in, PassesIf, LimitKept, Unbalanced, WithinLimit}
+use Rattle.profile.proofs.Levels.{at_step, rising_le, step_of, step_from, level_test}
 use Rattle.profile.proofs.Lines.{Respects, limits_tests, balanced_tests, each_line, line_one, line_two, line_three}
-use Rattle.profile.proofs.Edited.{minute_at}
 use Rattle.profile.proofs.Shown.{shown_test}
 
 -- A test of the steps, for any test of the counts of the lines
@@ -78,19 +77,13 @@ minutes_pass {test} {p} r same f h = go r h
     go true h = steps_pass same f (λ j b. h j (empty_step 0) (omega arith) b)
     go false h = step_fails same f h.1 (h.2 (empty_step 0))
 
--- the first step out of balance tells the first minute that is
+-- the minute of the first step out of balance is the first minute that is
 pub first_off :
-    {p : Profile} {bound i : ℕ} → Formed p → i < length p → balanced bound (counts_of (get_or p i (empty_step 0))) ≡ false →
-    ((j : ℕ) → j < i → balanced bound (counts_of (get_or p j (empty_step 0))) ≡ true) → OffIn p bound (get_or p i (empty_step 0))
-first_off {p} {bound} {i} f below off before =
-    record {
-      first =
-          subst (λ (t : ℕ). FirstFails (balanced_in p bound) (first_minute p) t) (minute_at p i)
-          (first_step_fails (balanced_tests bound) f below off before);
-      counted = λ l.
-          sym (level_in p (line_of p l) (at_step p i f.rises below))
-          ∙ ap (level_of p l) (minute_at p i);
-    }
+    {p : Profile} (bound : ℕ) {i minute : ℕ} → Formed p → i < length p → balanced bound (counts_of (get_or p i (empty_step 0))) ≡ false →
+    ((j : ℕ) → j < i → balanced bound (counts_of (get_or p j (empty_step 0))) ≡ true) → minute ≡ get_or (minutes_of p) i 0 →
+    FirstFails (balanced_in p bound) (first_minute p) minute
+first_off {p} bound {i} f below off before e =
+    rw e (first_step_fails (balanced_tests bound) f below off before)
 
 -- What a step tells of itself
 
@@ -203,26 +196,24 @@ limit_shows {p} {limit} {site} {r} k clock loads bound others s = go r k.answer
         ∙ sym (limit_at_lem s limit site h.minute from)
         ∙ h.fails)))
 
-pub unbalanced_shows : {p : Profile} {bound : ℕ} {r : Option Step} → FirstUnbalanced p bound r → Unbalanced p bound r
+pub unbalanced_shows :
+    {p : Profile} (bound : ℕ) (r : Option ℕ) → IfSome r (λ t. FirstFails (balanced_in p bound) (first_minute p) t) →
+    IfNone r (Passes (balanced_in p bound) (first_minute p)) → Unbalanced p bound r
 unfolding first_unbalanced
-unbalanced_shows {p} {bound} {r} k clock loads limit site others s = go r k.answer
-  where
-    go : (r : Option Step) → OffIf p bound r → first_unbalanced (limits limit bound site others) clock loads ≡ found_in r
-    go (Some x) h =
-        let t : ℕ = x.minute in
-        let from : clock ≤ t = omega (arith, s.starts, h.first.low) in
-        let bad : balance_at (limits limit bound site others) loads t ≡ false = sym (balance_at_lem s bound t from) ∙ h.first.fails in
-        first-is (λ t. not (balance_at (limits limit bound site others) loads t)) (last_until loads - clock) clock t
-        (record {
-          low = from;
-          high =
-              ⊎_elim
-              (λ lt. omega (arith, from))
-              (λ ge. absurd (true≢false (sym (balance_past (limits limit bound site others) loads t ge) ∙ bad)))
-              (below_or_not t (last_until loads));
-          here = ap not bad;
-          least = λ u a b. ap not (sym (balance_at_lem s bound u a) ∙ h.first.passed u (omega (arith, s.starts)) b);
-        })
-    go None h =
-        first_nothing (λ t. not (balance_at (limits limit bound site others) loads t)) (last_until loads - clock) clock
-        (λ t a b. ap not (sym (balance_at_lem s bound t a) ∙ h t (omega (arith, s.starts))))
+unbalanced_shows {p} bound (Some t) h n clock loads limit site others s =
+    let from : clock ≤ t = omega (arith, s.starts, h.low) in
+    let bad : balance_at (limits limit bound site others) loads t ≡ false = sym (balance_at_lem s bound t from) ∙ h.fails in
+    first-is (λ t. not (balance_at (limits limit bound site others) loads t)) (last_until loads - clock) clock t
+    (record {
+      low = from;
+      high =
+          ⊎_elim
+          (λ lt. omega (arith, from))
+          (λ ge. absurd (true≢false (sym (balance_past (limits limit bound site others) loads t ge) ∙ bad)))
+          (below_or_not t (last_until loads));
+      here = ap not bad;
+      least = λ u a b. ap not (sym (balance_at_lem s bound u a) ∙ h.passed u (omega (arith, s.starts)) b);
+    })
+unbalanced_shows {p} bound None h n clock loads limit site others s =
+    first_nothing (λ t. not (balance_at (limits limit bound site others) loads t)) (last_until loads - clock) clock
+    (λ t a b. ap not (sym (balance_at_lem s bound t a) ∙ n t (omega (arith, s.starts))))

@@ -1,11 +1,12 @@
 // Limit and balance, step by step; the rounding that makes the bound; and the line with the largest count.
-ghost use Rattle.std.specs.Prelude.{◌≡◌, ◌≤◌};
+ghost use Rattle.std.specs.Prelude.{◌≡◌, ◌≤◌, IfSome, IfNone};
 ghost use Rattle.rules.specs.Calls.{nearest_hundreds};
 ghost use Rattle.rules.specs.Replan.{largest_line};
 ghost use Rattle.rules.specs.Load.{IsColumn};
 ghost use Rattle.profile.specs.Steps.{counts_of};
 ghost use Rattle.profile.specs.Shows.{level_of, first_minute, Formed};
-ghost use Rattle.profile.specs.Balance.{FirstUnbalanced, LimitKept};
+ghost use Rattle.profile.specs.Minutes.{Passes, FirstFails};
+ghost use Rattle.profile.specs.Balance.{balanced_in, Unbalanced, LimitKept};
 
 use crate::steps::{Step, place};
 
@@ -33,11 +34,13 @@ pub fn level(steps: &[Step], line: u32, t: u32) -> u32
     steps[i].count(line)
 }
 
-// The step of the first minute in which two counts differ by more than the bound: step by step, and in each line 1 against 2, 2 against 3,
-// 3 against 1.
-pub fn first_unbalanced(steps: &[Step], bound: u32) -> Option<Step>
+/// The first minute in which two lines differ by more than the bound, if there is one: minute by minute, and in each line 1 against 2, 2
+/// against 3, 3 against 1. A step stands for the minutes up to the next one, whose counts are the same.
+pub fn first_unbalanced(steps: &[Step], bound: u32) -> Option<u32>
     requires { Formed steps.now }
-    ensures { FirstUnbalanced steps.now bound result }
+    ensures first { IfSome result (λ t. FirstFails (balanced_in steps.now bound) (first_minute steps.now) t) }
+    ensures none { IfNone result (Passes (balanced_in steps.now bound) (first_minute steps.now)) }
+    ensures rule { Unbalanced steps.now bound result }
 {
     'minutes: {
         for step in steps {
@@ -45,7 +48,7 @@ pub fn first_unbalanced(steps: &[Step], bound: u32) -> Option<Step>
                 let count = step.count(line);
                 let other = step.count(line % 3 + 1);
                 if bound < count.abs_diff(other) {
-                    break 'minutes Some(*step);
+                    break 'minutes Some(step.minute);
                 }
             }
         }

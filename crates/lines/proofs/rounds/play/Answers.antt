@@ -8,19 +8,19 @@ first_unbalanced-requires g c = rw c.steps.ensures (round_formed c.requires.0 c.
 
 pub returns-in_default : goal.returns-in_default
 returns-in_default g c =
-    plays_balanced c.requires.0 c.place_lines-by_place.ensures (rw c.steps.ensures at c.first_unbalanced.ensures) (is_none _ c.in_default.not-Some) c.waiting_starts-starts.ensures
+    plays_balanced c.requires.0 c.place_lines-by_place.ensures _ (rw c.steps.ensures at c.first_unbalanced.ensures.rule) (is_none _ c.in_default.not-Some) c.waiting_starts-starts.ensures
 
 pub unbalanced_in-requires : goal.unbalanced_in-requires
 unbalanced_in-requires g c =
-    rw c.steps-2.ensures
-    (round_comparable c.requires.0 c.place_lines-by_place.ensures (rw c.steps.ensures at c.first_unbalanced.ensures) c.in-Some.is c.requires.1)
+    rw (c.steps-2.ensures, c.steps-3.ensures)
+    (round_comparable c.requires.0 c.place_lines-by_place.ensures _ (rw c.steps.ensures at c.first_unbalanced.ensures.rule) c.in-Some.is c.requires.1)
 
 pub returns-in-Some-unbalanced_in : goal.returns-in-Some-unbalanced_in
 returns-in-Some-unbalanced_in g c =
-    lowers_asked c.requires.0 c.place_lines-by_place.ensures (rw c.steps.ensures at c.first_unbalanced.ensures) c.in-Some.is c.requires.1
-    (rw (c.in-Some-unbalanced_in.is, c.steps-2.ensures) at c.unbalanced_in.ensures)
+    lowers_asked c.requires.0 c.place_lines-by_place.ensures _ (rw c.steps.ensures at c.first_unbalanced.ensures.rule) c.in-Some.is c.requires.1
+    (rw (c.in-Some-unbalanced_in.is, c.steps-2.ensures, c.steps-3.ensures) at c.unbalanced_in.ensures)
 
 pub returns-in-None : goal.returns-in-None
 returns-in-None g c =
-    ends_asked c.requires.0 c.place_lines-by_place.ensures (rw c.steps.ensures at c.first_unbalanced.ensures) c.in-Some.is c.requires.1
-    (rw (c.in-None.is, c.steps-2.ensures) at c.unbalanced_in.ensures)
+    ends_asked c.requires.0 c.place_lines-by_place.ensures _ (rw c.steps.ensures at c.first_unbalanced.ensures.rule) c.in-Some.is c.requires.1
+    (rw (c.in-None.is, c.steps-2.ensures, c.steps-3.ensures) at c.unbalanced_in.ensures)

@@ -2,7 +2,7 @@
 use mathlib.Core.Path.{sym, ◌∙◌}
 use Rattle.rules.specs.Charge.{seen}
 use Rattle.charges.specs.Arrays.{charges_of}
-use Rattle.profile.proofs.Balances.{limit_shows, unbalanced_shows}
+use Rattle.profile.proofs.Balances.{limit_shows}
 use Rattle.planner.specs.Ready.{terms_of}
 use Rattle.planner.proofs.StandingLoads.{all_shown}
 use Rattle.planner.proofs.SoundPlans.{loads_above, loads_unbalanced, loads_kept}
@@ -18,10 +18,10 @@ pub returns-then-is_some : goal.returns-then-is_some
 returns-then-is_some g c =
     let b = c.args.beside in
     loads_unbalanced (terms_of b) b.clock (seen (terms_of b) (charges_of c.args.charges.now)) (all_shown b c.requires.1 c.add_standing.ensures)
-    (limit_shows (rw c.steps.ensures at c.within_limits.ensures)) _ (unbalanced_shows (rw c.steps-2.ensures at c.first_unbalanced.ensures)) c.if-not-within_limits.false (sym c.is_some.ensures ∙ c.if-is_some.true)
+    (limit_shows (rw c.steps.ensures at c.within_limits.ensures)) _ (rw c.steps-2.ensures at c.first_unbalanced.ensures.rule) c.if-not-within_limits.false (sym c.is_some.ensures ∙ c.if-is_some.true)
 
 pub returns : goal.returns
 returns g c =
     let b = c.args.beside in
     loads_kept (terms_of b) b.clock (seen (terms_of b) (charges_of c.args.charges.now)) (all_shown b c.requires.1 c.add_standing.ensures)
-    (limit_shows (rw c.steps.ensures at c.within_limits.ensures)) _ (unbalanced_shows (rw c.steps-2.ensures at c.first_unbalanced.ensures)) c.if-not-within_limits.false (sym c.is_some.ensures ∙ c.if-is_some.false)
+    (limit_shows (rw c.steps.ensures at c.within_limits.ensures)) _ (rw c.steps-2.ensures at c.first_unbalanced.ensures.rule) c.if-not-within_limits.false (sym c.is_some.ensures ∙ c.if-is_some.false)
