@@ -7,7 +7,7 @@ ghost use Rattle.rules.specs.Calls.{refused, looked as looked_answer};
 ghost use Rattle.refusals.specs.Refusals.{number_of};
 ghost use Rattle.station.specs.Opened.{opened_of, open_answer};
 ghost use Rattle.planning.specs.Answers.{planned_of};
-ghost use Rattle.site.specs.Answers.{moved_of, enquiry_of};
+ghost use Rattle.site.specs.Answers.{moved_of};
 ghost use Rattle.calls.specs.Applied.{told_of, answer_of};
 ghost use Rattle.answers.specs.Answers.{answer_text, listed_of, PrintedAlone};
 
@@ -15,7 +15,6 @@ use calls::Answer;
 use planning::Planned;
 use refusals::Refusal;
 use site::clock::Moved;
-use site::enquiry::Enquiry;
 use station::bounds::Opened;
 use text::Text;
 
@@ -48,22 +47,6 @@ fn print_planned<const N: usize>(planned: Planned, out: &mut Text<N>)
         (b" ", planned.after),
         (b" ", u64::from(planned.rounds)),
     ]);
-}
-
-fn print_enquiry<const N: usize>(enquiry: Enquiry, out: &mut Text<N>)
-    requires { length out.old + 96 ≤ N }
-    ensures { PrintedAlone (enquiry_of enquiry) out.old out.new }
-{
-    match enquiry {
-        Enquiry::Waiting { start, rate } => {
-            out.print_fields(&[(b"waiting ", u64::from(start)), (b" ", u64::from(rate))]);
-        }
-        Enquiry::Charging { start, end, rate } => out.print_fields(&[
-            (b"charging ", u64::from(start)),
-            (b" ", u64::from(end)),
-            (b" ", u64::from(rate)),
-        ]),
-    }
 }
 
 // The answers of the tickets asked for stand at the front of the list that was lent to the board.
@@ -108,7 +91,14 @@ fn print_told<const N: usize>(answer: Answer, asked: usize, list: &[u32], out: &
         ]),
         Answer::Moved(moved) => print_moved(moved, list, out),
         Answer::Planned(planned) => print_planned(planned, out),
-        Answer::Enquiry(enquiry) => print_enquiry(enquiry, out),
+        Answer::Waiting { start, rate } => {
+            out.print_fields(&[(b"waiting ", u64::from(start)), (b" ", u64::from(rate))]);
+        }
+        Answer::Charging { start, end, rate } => out.print_fields(&[
+            (b"charging ", u64::from(start)),
+            (b" ", u64::from(end)),
+            (b" ", u64::from(rate)),
+        ]),
         Answer::Looked(looked) => print_looked(looked, asked, list, out),
         Answer::Withdrawn => out.print(b"withdrawn\n"),
     }

@@ -2,18 +2,18 @@
 use Rattle.std.specs.Prelude.{◌≡◌, ℕ, List, [], Result}
 use Rattle.rules.specs.Calls as rules
 use Rattle.rules.specs.Site.{State}
-use Rattle.rules.specs.Calls.{preview, commit, move, offer, replan_latest, replan_lines, enquire, board, withdraw, step, previewed, looked, withdrawn}
+use Rattle.rules.specs.Calls.{preview, commit, move, offer, replan_latest, replan_lines, enquire, board, withdraw, step, previewed, waiting, charging, looked, withdrawn}
 use Rattle.refusals.specs.declared.Refusal.{Refusal}
 use Rattle.refusals.specs.Refusals.{answer_by}
 use Rattle.station.specs.declared.Station.{Station}
 use Rattle.calls.specs.declared.Call.{Call}
 use Rattle.calls.specs.declared.Call.TheVariants.{Preview, Commit, Move, Offer, ReplanLatest, ReplanLines, Enquire, Board, Withdraw}
 use Rattle.calls.specs.declared.Answer.{Answer}
-use Rattle.calls.specs.declared.Answer.TheVariants.{Previewed, Committed, Moved, Planned, Enquiry, Looked, Withdrawn}
+use Rattle.calls.specs.declared.Answer.TheVariants.{Previewed, Committed, Moved, Planned, Waiting, Charging, Looked, Withdrawn}
 use Rattle.station.specs.Given.{Gives}
 use Rattle.ordering.specs.Answers.{committed_of}
 use Rattle.planning.specs.Answers.{planned_of}
-use Rattle.site.specs.Answers.{moved_of, enquiry_of}
+use Rattle.site.specs.Answers.{moved_of}
 
 -- the call of the rules, with the lists that are lent to it
 abbrev pub call_of : Call → List ℕ → List ℕ → rules.Call
@@ -68,7 +68,8 @@ told_of (Previewed start) = previewed start
 told_of (Committed c) = committed_of c
 told_of (Moved m) = moved_of m
 told_of (Planned p) = planned_of p
-told_of (Enquiry e) = enquiry_of e
+told_of (Waiting start rate) = waiting start rate
+told_of (Charging start end rate) = charging start end rate
 told_of (Looked n) = looked n
 told_of Withdrawn = withdrawn
 

@@ -3,8 +3,10 @@
 
 pub mod yard;
 
+ghost use Rattle.std.specs.Prelude.{◌≡◌};
 ghost use Rattle.station.specs.View.{view, Valid};
-ghost use Rattle.calls.specs.Applied.{Applies};
+ghost use Rattle.site.specs.Answers.{enquiry_answer};
+ghost use Rattle.calls.specs.Applied.{answer_of, Applies};
 
 use ordering::Order;
 use ordering::commit::{Committed, commit};
@@ -39,9 +41,23 @@ pub enum Answer {
     Committed(Committed),
     Moved(Moved),
     Planned(Planned),
-    Enquiry(Enquiry),
+    Waiting { start: u32, rate: u32 },
+    Charging { start: u32, end: u32, rate: u32 },
     Looked(usize),
     Withdrawn,
+}
+
+// What an enquiry tells, taken apart before a start can be read: a ticket that no held charge has is refused.
+fn answer_enquiry(enquiry: Enquiry) -> Result<Answer, Refusal>
+    ensures { answer_of result ≡ enquiry_answer enquiry }
+{
+    if let Enquiry::Waiting { start, rate } = enquiry {
+        return Ok(Answer::Waiting { start, rate });
+    }
+    let Enquiry::Charging { start, end, rate } = enquiry else {
+        return Err(Refusal::NotHeld);
+    };
+    Ok(Answer::Charging { start, end, rate })
 }
 
 // One call of any station, which is left as the call leaves it. An offer reads its starts from `numbers`, and a board its tickets; a
@@ -64,12 +80,7 @@ pub fn make(
         Call::ReplanLines { feeder, allowance } => {
             Ok(Answer::Planned(replan_lines(station, feeder, allowance)?))
         }
-        Call::Enquire { ticket } => {
-            let Some(enquiry) = enquire(station, ticket) else {
-                return Err(Refusal::NotHeld);
-            };
-            Ok(Answer::Enquiry(enquiry))
-        }
+        Call::Enquire { ticket } => answer_enquiry(enquire(station, ticket)),
         Call::Board => Ok(Answer::Looked(board(station, numbers, list)?)),
         Call::Withdraw { ticket } => {
             withdraw(station, ticket)?;

@@ -105,7 +105,7 @@ impl Yard {
         }
     }
 
-    pub fn enquire(self, ticket: u32) -> Done<Option<Enquiry>, Yard>
+    pub fn enquire(self, ticket: u32) -> Done<Enquiry, Yard>
         requires { Valid self.station }
         ensures { Gives (step (view self.station) (enquire_call ticket)) (enquiry_answer result.answer) result.station.station [] }
     {

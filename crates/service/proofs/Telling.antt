@@ -9,10 +9,9 @@ use Rattle.rules.specs.Valid.{ValidState}
 use Rattle.rules.proofs.Granted.{refusals_none}
 use Rattle.guarantee.specs.DemandOne.{AnswerTo}
 use Rattle.guarantee.proofs.DemandOne.{valid_demand_one}
-use Rattle.site.specs.declared.enquiry.Enquiry.TheVariants.{Waiting, Charging}
 use Rattle.calls.specs.Applied as calls
 use Rattle.calls.specs.declared.Answer.{Answer as Given}
-use Rattle.calls.specs.declared.Answer.TheVariants.{Previewed, Committed, Moved, Planned, Enquiry, Looked, Withdrawn}
+use Rattle.calls.specs.declared.Answer.TheVariants.{Previewed, Committed, Moved, Planned, Waiting, Charging, Looked, Withdrawn}
 use Rattle.service.specs.Left.{telling, told}
 use Rattle.service.specs.Named.{numbers_of, Tells}
 use Rattle.service.specs.declared.numbers.Numbers.{Numbers}
@@ -36,8 +35,8 @@ not_refused (Previewed start) k e = cc
 not_refused (Committed c) k e = cc
 not_refused (Moved m) k e = cc
 not_refused (Planned p) k e = cc
-not_refused (Enquiry (Waiting start rate)) k e = cc
-not_refused (Enquiry (Charging start end rate)) k e = cc
+not_refused (Waiting start rate) k e = cc
+not_refused (Charging start end rate) k e = cc
 not_refused (Looked n) k e = cc
 not_refused Withdrawn k e = cc
 

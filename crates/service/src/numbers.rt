@@ -3,7 +3,6 @@ ghost use Rattle.calls.specs.Applied.{told_of};
 ghost use Rattle.service.specs.Named.{Tells};
 
 use calls::Answer;
-use site::enquiry::Enquiry;
 
 // How many blocks of the image changed; then the numbers of an answer, each 0 where the answer has none of its name. An end is told
 // of a charge that charges, and of no other.
@@ -21,28 +20,6 @@ pub struct Numbers {
     pub reported: usize,
     pub dropped: usize,
     pub looked: usize,
-}
-
-impl From<Enquiry> for Numbers {
-    ghost use Rattle.site.specs.Answers.{enquiry_of};
-
-    ghost from_gives = { λ e n. Tells (enquiry_of e) n };
-
-    fn from(enquiry: Enquiry) -> Numbers {
-        match enquiry {
-            Enquiry::Waiting { start, rate } => Numbers {
-                start,
-                rate,
-                ..Numbers::default()
-            },
-            Enquiry::Charging { start, end, rate } => Numbers {
-                start,
-                rate,
-                end: Some(end),
-                ..Numbers::default()
-            },
-        }
-    }
 }
 
 impl From<Answer> for Numbers {
@@ -71,7 +48,17 @@ impl From<Answer> for Numbers {
                 rounds: planned.rounds,
                 ..Numbers::default()
             },
-            Answer::Enquiry(enquiry) => Numbers::from(enquiry),
+            Answer::Waiting { start, rate } => Numbers {
+                start,
+                rate,
+                ..Numbers::default()
+            },
+            Answer::Charging { start, end, rate } => Numbers {
+                start,
+                rate,
+                end: Some(end),
+                ..Numbers::default()
+            },
             Answer::Looked(looked) => Numbers {
                 looked,
                 ..Numbers::default()

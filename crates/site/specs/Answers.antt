@@ -1,5 +1,5 @@
 -- The answers of the calls that name no feeder: the number and the values that each case stands for.
-use Rattle.std.specs.Prelude.{ℕ, ◌+◌, ◌*◌, Bool, cond, List, [], ◌∷◌, ltb, length, Option, Some, None, Result}
+use Rattle.std.specs.Prelude.{ℕ, ◌+◌, ◌*◌, Bool, cond, List, [], ◌∷◌, ltb, length, Result}
 use Rattle.rules.specs.Charge.{Charge}
 use Rattle.rules.specs.Site.{places}
 use Rattle.rules.specs.Calls.{Answer, refused, moved, waiting, charging, looked, withdrawn}
@@ -7,7 +7,7 @@ use Rattle.refusals.specs.declared.Refusal.{Refusal}
 use Rattle.refusals.specs.Refusals.{answer_by}
 use Rattle.site.specs.declared.clock.Moved.{Moved}
 use Rattle.site.specs.declared.enquiry.Enquiry.{Enquiry}
-use Rattle.site.specs.declared.enquiry.Enquiry.TheVariants.{Waiting, Charging}
+use Rattle.site.specs.declared.enquiry.Enquiry.TheVariants.{Waiting, Charging, NotHeld}
 
 -- the refusals of a clock move, by how many feeders there are and the clock
 abbrev pub move_rows : ℕ → ℕ → ℕ → List ℕ → List (Bool × ℕ)
@@ -24,14 +24,11 @@ move_answer = answer_by moved_of
 abbrev pub told_charge : ℕ → Charge → Answer
 told_charge clock c = cond (ltb c.start clock) (charging c.start (c.start + c.time) c.rate) (waiting c.start c.rate)
 
-abbrev pub enquiry_of : Enquiry → Answer
-enquiry_of (Waiting start rate) = waiting start rate
-enquiry_of (Charging start end rate) = charging start end rate
-
--- "no held charge has this ticket" is refusal 15
-abbrev pub enquiry_answer : Option Enquiry → Answer
-enquiry_answer (Some e) = enquiry_of e
-enquiry_answer None = refused 15
+-- the answer and the values of every case of an enquiry: that no held charge has the ticket is refusal 15
+abbrev pub enquiry_answer : Enquiry → Answer
+enquiry_answer (Waiting start rate) = waiting start rate
+enquiry_answer (Charging start end rate) = charging start end rate
+enquiry_answer NotHeld = refused 15
 
 abbrev pub board_answer : Result ℕ Refusal → Answer
 board_answer = answer_by looked

@@ -5,23 +5,24 @@ ghost use Rattle.charges.specs.Arrays.{charge_of};
 ghost use Rattle.charges.specs.Held.{Small};
 ghost use Rattle.station.specs.View.{view, Valid};
 ghost use Rattle.station.specs.Given.{Keeps};
-ghost use Rattle.site.specs.Answers.{enquiry_of, told_charge, enquiry_answer};
+ghost use Rattle.site.specs.Answers.{told_charge, enquiry_answer};
 
 use charges::Charge;
 use station::Station;
 
-// What is told of a charge that is held.
+// What is told of a ticket: of the charge that has it, or that no held charge has it, which is refusal 15.
 #[derive(Clone, Copy)]
 pub enum Enquiry {
     Waiting { start: u32, rate: u32 },
     Charging { start: u32, end: u32, rate: u32 },
+    NotHeld,
 }
 
 impl Enquiry {
     // What is told of a charge. A start equal to the clock still waits.
     fn of(charge: Charge, clock: u32) -> Enquiry
         requires { Small (charge_of charge) }
-        ensures { enquiry_of result ≡ told_charge clock (charge_of charge) }
+        ensures { enquiry_answer result ≡ told_charge clock (charge_of charge) }
     {
         if charge.start < clock {
             Enquiry::Charging {
@@ -38,12 +39,14 @@ impl Enquiry {
     }
 }
 
-// Of the feeder that holds the ticket; none where no feeder does, which is refusal 15.
-pub fn enquire(station: &Station, ticket: u32) -> Option<Enquiry>
+// Of the feeder that holds the ticket.
+pub fn enquire(station: &Station, ticket: u32) -> Enquiry
     requires { Valid station.now }
     ensures { Keeps (step (view station.now) (enquire_call ticket)) station.now (enquiry_answer result) [] }
 {
-    let holder = station.holder(ticket)?;
+    let Some(holder) = station.holder(ticket) else {
+        return Enquiry::NotHeld;
+    };
     let held = &station.feeders[holder.feeder].charges;
-    Some(Enquiry::of(held.at(holder.place), station.clock))
+    Enquiry::of(held.at(holder.place), station.clock)
 }
