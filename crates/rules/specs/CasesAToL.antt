@@ -47,13 +47,14 @@ cases_a_to_l =
     ∷ case 2 50 1 orders_e given_e
     -- f
     ∷ case 2 50 1 (orders_e ++ (move 1 lent_list ∷ [])) (given_e ++ (given_f ∷ []))
-    -- g
+    -- g: ticket 7 goes first, and the minutes that ticket 5 leaves
     ∷ record {
       asked = one_feeder 2 50 0;
       calls = calls_g ++ (replan_latest ∷ []);
       opening = opened_one 1;
       given = given_e ++ (given_f ∷ gives (previewed 1) ∷ gives (committed 7 1) ∷ gives (planned 1 0 0 0) ∷ []);
       minutes = map minute_g (5 ∷ 6 ∷ 7 ∷ 8 ∷ 9 ∷ []);
+      queues = record { feeder = 1; tickets = 7 ∷ 5 ∷ [] } ∷ [];
     }
     -- h, by latest start and by lines
     ∷ case 1 100 1
@@ -62,10 +63,13 @@ cases_a_to_l =
     ∷ case 1 100 1
     (orders_h ++ (replan_lines 1000 ∷ enquire 1 ∷ enquire 2 ∷ []))
     (given_h ++ (gives (planned 0 5 0 1) ∷ gives (waiting 10 1) ∷ gives (waiting 0 1) ∷ []))
-    -- i
+    -- i, by latest start and by lines
     ∷ case 1 100 1
     (orders_h ++ (move 1 lent_list ∷ replan_latest ∷ enquire 1 ∷ []))
     (given_h ++ (reports (moved 1 0) (1 ∷ 0 ∷ []) ∷ gives (planned 7 5 5 0) ∷ gives (charging 0 10 1) ∷ []))
+    ∷ case 1 100 1
+    (orders_h ++ (move 1 lent_list ∷ replan_lines 1000 ∷ enquire 1 ∷ []))
+    (given_h ++ (reports (moved 1 0) (1 ∷ 0 ∷ []) ∷ gives (planned 7 5 5 1) ∷ gives (charging 0 10 1) ∷ []))
     -- j: an offer's list is lent, and stays
     ∷ case 1 100 1
     (orders_h ++ (offer (10 ∷ 0 ∷ []) ∷ []))

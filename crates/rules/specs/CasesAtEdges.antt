@@ -162,7 +162,8 @@ plans =
     (commit 1 1 60 1 0 ∷ commit 1 1 60 1 1 ∷ replan_lines 2 ∷ [])
     (starts_from 1 (0 ∷ 1 ∷ []) ++ (gives (planned 7 0 0 2) ∷ []))
     -- Cause 1 by lines: at clock 1 ticket 2 goes from 5 to 1 and ticket 4 from 6 to 1, and minute 6 counts 2, 0, 1. The two
-    -- of line 1 have begun; ticket 4, which is placed, is of line 3.
+    -- of line 1 have begun; ticket 4, which is placed, is of line 3. So it is in the last round that the allowance leaves too: cause 1 goes
+    -- before cause 2.
     ∷ case 2 50 1
     (commit 2 5 60 1 0
     ∷ commit 2 5 60 1 5
@@ -172,9 +173,10 @@ plans =
     ∷ commit 1 10 60 1 0
     ∷ move 1 lent_list
     ∷ replan_lines 2
+    ∷ replan_lines 1
     ∷ [])
     (starts_from 1 (0 ∷ 5 ∷ 0 ∷ 6 ∷ 0 ∷ 0 ∷ [])
-    ++ (reports (moved 4 0) (1 ∷ 0 ∷ 3 ∷ 0 ∷ 5 ∷ 0 ∷ 6 ∷ 0 ∷ []) ∷ gives (planned 1 0 0 1) ∷ []))
+    ++ (reports (moved 4 0) (1 ∷ 0 ∷ 3 ∷ 0 ∷ 5 ∷ 0 ∷ 6 ∷ 0 ∷ []) ∷ map gives (planned 1 0 0 1 ∷ planned 1 0 0 1 ∷ [])))
     -- Lowest line first: at clock 1 ticket 2 goes from 5 to 1, ticket 6 stays at 1, and minute 6 counts 2, 0, 2. Line 1 has
     -- no placed charge, so that one round is made; line 3 has ticket 6, and its cap would be lowered for a second round.
     -- (Which of several lines with the smallest count is j makes no difference: only its count is used.)

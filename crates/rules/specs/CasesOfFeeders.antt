@@ -8,7 +8,7 @@ abbrev asking : ℕ → ℕ → List Settings → Asked
 asking count w xs = record { count = count; site = w; settings = xs }
 
 abbrev opens_site : ℕ → ℕ → List Settings → Answer → Case
-opens_site count w xs a = record { asked = asking count w xs; calls = []; opening = a; given = []; minutes = [] }
+opens_site count w xs a = record { asked = asking count w xs; calls = []; opening = a; given = []; minutes = []; queues = [] }
 
 -- two feeders with N = 2 and D = 1, under a site limit
 abbrev two_under : ℕ → List Call → List Given → Case
@@ -19,6 +19,7 @@ two_under w calls given =
       opening = opened (1 ∷ 1 ∷ []);
       given = given;
       minutes = [];
+      queues = [];
     }
 
 -- both feeders draw on their first lines and feeder 1 on its second from 0 to 10, which is all that W 3 leaves; the second order of
@@ -90,6 +91,8 @@ cases_of_feeders =
     ∷ opens_site 2 720 (settings 1 100 0 ∷ settings 1 101 0 ∷ []) (refused 2)
     ∷ opens_site 2 720 (settings 1 100 6 ∷ settings 1 50 0 ∷ []) (refused 3)
     ∷ opens_site 2 0 (settings 1 100 0 ∷ settings 1 100 6 ∷ []) (refused 19)
+    -- 2 goes before 3: the bound of feeder 1 is 0, and the percentage of feeder 2 is 101
+    ∷ opens_site 2 10 (settings 10 5 6 ∷ settings 10 101 0 ∷ []) (refused 2)
     -- "28, after 19, W not 1 to 720"
     ∷ opens_site 1 0 (settings 1 100 0 ∷ []) (refused 28)
     ∷ opens_site 1 721 (settings 1 100 0 ∷ []) (refused 28)
@@ -109,11 +112,12 @@ cases_of_feeders =
     (commit 1 1 10 60 1 0 ∷ commit 2 1 10 60 1 0 ∷ commit 1 2 10 60 1 0 ∷ commit 2 2 10 60 1 0 ∷ [])
     (map gives (committed 1 0 ∷ committed 2 0 ∷ committed 3 0 ∷ committed 4 0 ∷ []))
     -- "Refusal 9 requires 360 places for each feeder"; the report is by start, then ticket, over the site, and enquiries and
-    -- withdrawals find their feeder
+    -- withdrawals find their feeder. A list of 719 is refused with 9 before a target below the clock with 12
     ∷ two_under 3
     (four_orders
     ++ (move 1 (replicate 719 7)
     ∷ move 1 (replicate 720 7)
+    ∷ move 0 (replicate 719 7)
     ∷ enquire 2
     ∷ withdraw 3
     ∷ withdraw 4
@@ -122,20 +126,23 @@ cases_of_feeders =
     (four_given
     ++ (gives_with (refused 9) (replicate 719 7)
     ∷ gives_with (moved 3 0) (1 ∷ 0 ∷ 2 ∷ 0 ∷ 3 ∷ 0 ∷ replicate 714 7)
+    ∷ gives_with (refused 9) (replicate 719 7)
     ∷ map gives (charging 0 10 1 ∷ refused 25 ∷ withdrawn ∷ refused 15 ∷ [])))
-    -- "29, before 4, 10 and 11, no such feeder"
+    -- "29, before 4, 10 and 11, no such feeder": nobody waits there, and an offer of one start has another length
     ∷ two_under 720
     (preview 0 9 0 0 0
     ∷ preview 3 1 10 60 1
     ∷ commit 3 9 0 0 0 0
     ∷ offer 3 []
+    ∷ offer 3 (0 ∷ [])
     ∷ replan_latest 0
     ∷ replan_latest 3
     ∷ replan_lines 3 0
     ∷ offer 2 []
     ∷ [])
-    (map gives
-    (refused 29 ∷ refused 29 ∷ refused 29 ∷ refused 29 ∷ refused 29 ∷ refused 29 ∷ refused 29 ∷ planned 7 0 0 0 ∷ []))
+    (map gives (refused 29 ∷ refused 29 ∷ refused 29 ∷ refused 29 ∷ [])
+    ++ (gives_with (refused 29) (0 ∷ [])
+    ∷ map gives (refused 29 ∷ refused 29 ∷ refused 29 ∷ planned 7 0 0 0 ∷ [])))
     -- "Refusal 18 also covers a rate above W"
     ∷ (record {
       asked = asking 1 1 (settings 2 100 0 ∷ []);
@@ -143,6 +150,7 @@ cases_of_feeders =
       opening = opened (2 ∷ []);
       given = map gives (refused 18 ∷ previewed 0 ∷ []);
       minutes = [];
+      queues = [];
     })
     -- "Cause 4 compares the largest s + p + r of the site": feeder 2 draws up to 25, with its r of 5; feeder 1's plan up to 20. One that
     -- draws up to 25 there is taken, one up to 26 is not. Lateness is the feeder's
@@ -160,6 +168,7 @@ cases_of_feeders =
           map gives (committed 1 0 ∷ committed 2 0 ∷ committed 3 10 ∷ [])
           ++ (gives_with (planned 4 8 8 0) (16 ∷ 0 ∷ []) ∷ gives_with (planned 0 8 0 0) (15 ∷ 0 ∷ []) ∷ []);
       minutes = [];
+      queues = [];
     })
     -- W in all minutes of a charge: feeder 2 draws from 5 to 10, which is all that W 1 leaves. Five minutes on feeder 1 fit at 0, six do
     -- not, for they would meet the other feeder's charge in minute 5
@@ -170,6 +179,7 @@ cases_of_feeders =
       opening = opened (1 ∷ 1 ∷ []);
       given = map gives (committed 1 0 ∷ committed 2 5 ∷ withdrawn ∷ previewed 0 ∷ previewed 10 ∷ []);
       minutes = [];
+      queues = [];
     })
     -- A board shows the tickets of both feeders, and counts the charges of both. Without ticket 3, feeder 1 would count 2, 0, 1 in minutes 0
     -- to 9: 26, though the lines of both feeders together would count 2, 1, 1. Ticket 2 is alone on feeder 2 then, and can go; without

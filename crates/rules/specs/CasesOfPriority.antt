@@ -1,7 +1,7 @@
 -- Cases of N5, the paper's own priority, each worked out by hand: which charge of a line is taken at the smallest start.
 use Rattle.std.specs.Prelude.{ℕ, ◌+◌, List, [], ◌∷◌, ◌++◌, map}
-use Rattle.rules.specs.Calls.{planned, waiting, Call, enquire}
-use Rattle.rules.specs.Entry.{commit, replan_latest, replan_lines, gives, Case, starts_from, case, replanned}
+use Rattle.rules.specs.Calls.{committed, moved, planned, waiting, Call, move, enquire}
+use Rattle.rules.specs.Entry.{commit, replan_latest, replan_lines, gives, Case, lent_list, starts_from, reports, case, replanned}
 
 -- Orders of line 1, and behind them two of line 2, of a minute each. The second of these is due at 1 and has no slack, so that starts 0,
 -- 1 become 1, 0 and lateness falls by 1: the plan is taken where line 1 is as late as before, and its starts are seen.
@@ -53,6 +53,27 @@ cases_of_priority =
     ∷ replanned (commit 2 10 30 1 0 ∷ commit 2 10 10 1 10 ∷ commit 2 3 25 1 20 ∷ []) (replan_lines 1) (0 ∷ 10 ∷ 20 ∷ [])
     (planned 0 10 0 1)
     (13 ∷ 0 ∷ 10 ∷ [])
+    -- n and P are of the waiting charges: ticket 1 has begun on line 1 and stays, so n is 2 and P is 21. At 1 m is 21 and 20, so k is
+    -- 10752 / 21 = 512, beyond the table, and 10240 / 21 = 487: ticket 3 goes first, in minutes 1 to 20, and ticket 2 gets 21. With ticket 1
+    -- they would be 3 and 1021, both k 15, and the shorter ticket 2 the first. On line 2, of rate 2, tickets 4 and 5 exchange their starts,
+    -- for ticket 5 has no slack: lateness falls from 1 to 0, and the plan is taken.
+    ∷ case 2 100 2
+    (commit 1 1000 2000 1 0
+    ∷ move 1 lent_list
+    ∷ commit 1 1 23 1 1
+    ∷ commit 1 20 41 1 2
+    ∷ commit 2 1 60 2 1
+    ∷ commit 2 1 2 2 2
+    ∷ replan_lines 1
+    ∷ enquire 2
+    ∷ enquire 3
+    ∷ enquire 4
+    ∷ enquire 5
+    ∷ [])
+    (gives (committed 1 0)
+    ∷ (reports (moved 1 0) (1 ∷ 0 ∷ [])
+    ∷ (starts_from 2 (1 ∷ 2 ∷ 1 ∷ 2 ∷ [])
+    ++ map gives (planned 0 1 0 1 ∷ waiting 21 1 ∷ waiting 1 1 ∷ waiting 2 2 ∷ waiting 1 2 ∷ []))))
     -- m is that of the start: n is 3 and P is 17. At 0 it is 5, 1 and 3, so k is 225, 45 and 135, and ticket 2 goes first. At 6 it is 0
     -- for tickets 1 and 3, so that the shorter one goes first; at the clock it would still be 5 and 3, and ticket 3 the first of them.
     ∷ replanned (commit 1 5 10 1 0 ∷ commit 1 6 7 1 5 ∷ commit 1 6 9 1 11 ∷ []) (replan_lines 1) (0 ∷ 5 ∷ 11 ∷ [])

@@ -13,6 +13,7 @@ opened_with n c r a second =
       opening = a;
       given = starts_from 1 (0 ∷ second ∷ []);
       minutes = [];
+      queues = [];
     }
 
 -- The orders of case h with r 2: the second one starts at 12, ends at 22 and is late by 7, by s + p.

@@ -16,6 +16,7 @@ cases_of_withdrawals =
           given_e
           ++ (given_f ∷ map gives (refused 15 ∷ refused 26 ∷ refused 25 ∷ refused 25 ∷ refused 26 ∷ waiting 5 1 ∷ []));
       minutes = map minute_g (5 ∷ 6 ∷ 7 ∷ 8 ∷ 9 ∷ []);
+      queues = [];
     }
     -- A start equal to the clock still waits. Ticket 2 stays where it is, though 0 is free; ticket 1 is not held, not reported, not
     -- given again, and cannot be withdrawn twice.

@@ -1,7 +1,7 @@
 -- Cases of N6, shorter search on busy evenings, each worked out by hand: candidate starts beside loads, with the verdict and the
 -- number of minutes looked at.
-use Rattle.std.specs.Prelude.{ℕ, Bool, true, false, List, [], ◌∷◌}
-use Rattle.rules.specs.Load.{Load, Draw, draw, load_from, Limits, limits}
+use Rattle.std.specs.Prelude.{ℕ, Bool, true, false, List, [], ◌∷◌, map}
+use Rattle.rules.specs.Load.{Load, Draw, draw, load_from, Limits, limits, elsewhere}
 use Rattle.rules.specs.Candidate.{Tested, candidate}
 
 -- an entry: limit and bound, the loads, what the charge draws, its candidate start, and what the test has to return
@@ -56,4 +56,9 @@ cases_on_busy_evenings =
     -- The rate: of 2, beside a bound of 2, it is alone in minute 12 and above the bound with the other in minute 13.
     ∷ entry (limits 3 2 720 []) taken (draw 1 5 2) 12 false 2
     ∷ entry (limits 3 2 720 []) taken (draw 1 5 1) 12 true 5
+    -- The site: what another feeder draws in minutes 13 to 19 is all that W 1 leaves, though limit and bound do not count it. From start
+    -- 10 the fourth minute fails, from 9 the last one, from 8 none.
+    ∷ entry (limits 1 1 1 []) (map elsewhere taken) (draw 1 5 1) 10 false 4
+    ∷ entry (limits 1 1 1 []) (map elsewhere taken) (draw 1 5 1) 9 false 5
+    ∷ entry (limits 1 1 1 []) (map elsewhere taken) (draw 1 5 1) 8 true 5
     ∷ []

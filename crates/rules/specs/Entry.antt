@@ -1,7 +1,8 @@
 -- An entry of the array of cases, and what the rules give for it.
 use Rattle.std.specs.Prelude.{ℕ, zero, suc, ◌-◌, List, [], ◌∷◌, ◌++◌, map, length, replicate}
 use Rattle.rules.specs.Load.{count}
-use Rattle.rules.specs.Charge.{Charge, loads_of, without_ticket}
+use Rattle.rules.specs.Charge.{Charge, loads_of, waiting_charges, without_ticket}
+use Rattle.rules.specs.Replan.{by_latest_start}
 use Rattle.rules.specs.Site.{State, charges_on}
 use Rattle.rules.specs.Calls as calls
 use Rattle.rules.specs.Calls.{settings, Asked, Answer, opened, committed, waiting, Result, opening, Call, enquire, run}
@@ -25,13 +26,19 @@ pub record Minute : Type 0 where
   pub two : ℕ
   pub three : ℕ
 
--- an entry: what the opening asks for, the calls, and what they have to give; the minutes are those to be counted at the end
+-- The tickets of a feeder's waiting charges, in the order in which a replan by latest start takes them, on the station that the calls left.
+pub record Queue : Type 0 where
+  pub feeder : ℕ
+  pub tickets : List ℕ
+
+-- an entry: what the opening asks for, the calls, and what they have to give; minutes to be counted, and queues, are those at the end
 pub record Case : Type 0 where
   pub asked : Asked
   pub calls : List Call
   pub opening : Answer
   pub given : List Given
   pub minutes : List Minute
+  pub queues : List Queue
 
 -- what the rules give for an entry
 abbrev pub gave : Result → Given
@@ -53,6 +60,15 @@ counted_in cs m =
       three = count (loads_of left) 3 m.minute;
     }
 
+abbrev pub queued_on : State → Queue → Queue
+queued_on s q =
+    record {
+      feeder = q.feeder;
+      tickets = map (λ c. c.ticket) (by_latest_start (waiting_charges s.clock (charges_on s q.feeder)));
+    }
+
+-- The answers stand first because they are computed from the first call on; the last station by itself would be computed backwards, which
+-- takes twenty times as long.
 abbrev pub computed : Case → Case
 computed e =
     let opened : Result = opening e.asked in
@@ -63,6 +79,7 @@ computed e =
       opening = opened.answer;
       given = map gave results;
       minutes = map (counted_in (charges_on (state_after opened.state results) 1)) e.minutes;
+      queues = map (queued_on (state_after opened.state results)) e.queues;
     }
 
 -- a report list of 360 places with a 7 in each
@@ -108,12 +125,12 @@ replan_lines allowance = calls.replan_lines 1 allowance
 
 -- an opening alone, with r 0
 abbrev pub opens : ℕ → ℕ → Answer → Case
-opens n c a = record { asked = one_feeder n c 0; calls = []; opening = a; given = []; minutes = [] }
+opens n c a = record { asked = one_feeder n c 0; calls = []; opening = a; given = []; minutes = []; queues = [] }
 
 -- Open N, c and r: D, and what the calls give.
 abbrev pub case_with_tail : ℕ → ℕ → ℕ → ℕ → List Call → List Given → Case
 case_with_tail n c r d calls given =
-    record { asked = one_feeder n c r; calls = calls; opening = opened_one d; given = given; minutes = [] }
+    record { asked = one_feeder n c r; calls = calls; opening = opened_one d; given = given; minutes = []; queues = [] }
 
 abbrev pub case : ℕ → ℕ → ℕ → List Call → List Given → Case
 case n c d calls given = case_with_tail n c 0 d calls given

@@ -21,3 +21,6 @@ pub mod CasesOfTails
 pub mod CasesOnTheBoard
 pub mod CasesOfWithdrawals
 pub mod CasesOfFeeders
+pub mod CasesOfCandidates
+pub mod CasesFromStations
+pub mod Cases
