@@ -8,6 +8,8 @@ use native.Mathlib.Omega.{arith}
 use lib.Dec.{leb, eqb}
 use borrow.Author.Tests.{leb-true, le-leb, lt-ltb, le-ltb, lt-leb, eq-eqb, eqb-true}
 use Rattle.rules.specs.Load.{Load, active, share, draws, count, counts, last_until, Limits, IsLine, on_lines, limited, balanced, whole_of, within_site, sound_counts, sound_at, limit_at, balance_at, from_on, sound}
+pub use Rattle.rules.specs.laws.Soundness.{Limited, Balanced, Sound}
+use Rattle.rules.specs.laws.Soundness.{SoundPlansAreSoundInEveryMinute, SoundMinutesMakeASoundPlan}
 use Rattle.rules.proofs.Ranges.{and_left, and_right, and_both, throughout_at, throughout_all, below_or_not}
 
 -- Counts
@@ -54,14 +56,6 @@ on_lines_at f e l h = throughout_at f 3 1 e l h.low (omega (arith, h.high))
 
 pub on_lines_all : (f : ℕ → Bool) → ((l : ℕ) → IsLine l → f l ≡ true) → on_lines f ≡ true
 on_lines_all f h = throughout_all f 3 1 (λ l p q. h l (record { low = p; high = omega arith }))
-
--- "each count is at most N"
-abbrev pub Limited : ℕ → (ℕ → ℕ) → Type 0
-Limited n f = (l : ℕ) → IsLine l → f l ≤ n
-
--- "each two counts differ by at most D"
-abbrev pub Balanced : ℕ → (ℕ → ℕ) → Type 0
-Balanced d f = (l m : ℕ) → IsLine l → IsLine m → f l ≤ f m + d
 
 pub limited_at : (n : ℕ) (f : ℕ → ℕ) → limited n f ≡ true → Limited n f
 unfolding limited
@@ -127,12 +121,6 @@ whole_draws x t = go (active x t)
 
 pub whole_past : (xs : List Load) (t : ℕ) → last_until xs ≤ t → whole_of (counts xs t) ≡ 0
 whole_past xs t h = rw (count_past xs 1 t h, count_past xs 2 t h, count_past xs 3 t h, count_past xs 4 t h)
-
--- within both limits and the bound
-pub record Sound (y : Limits) (f : ℕ → ℕ) : Type 0 where
-  pub limit : Limited y.limit f
-  pub site : whole_of f ≤ y.site
-  pub balance : Balanced y.bound f
 
 pub sound_at_lem : (y : Limits) (f : ℕ → ℕ) → sound_counts y f ≡ true → Sound y f
 sound_at_lem y f e =
@@ -205,8 +193,7 @@ pub balance_past : (y : Limits) (xs : List Load) (t : ℕ) → last_until xs ≤
 balance_past y xs t h = balanced_all y.bound (counts xs t) (λ l m j i. rw (count_past xs l t h) (omega arith))
 
 -- a plan is sound exactly when every minute from the clock on is sound, with no upper end
-pub sound_from_lem :
-    (y : Limits) (k : ℕ) (xs : List Load) → sound y k xs ≡ true → (t : ℕ) → k ≤ t → Sound y (counts xs t)
+pub sound_from_lem : SoundPlansAreSoundInEveryMinute
 unfolding sound
 sound_from_lem y k xs e t h =
     sound_at_lem y (counts xs t)
@@ -214,7 +201,6 @@ sound_from_lem y k xs e t h =
     (λ u j. and_both (limit_at y xs u) (balance_at y xs u) (limit_past y xs u j) (balance_past y xs u j))
     e t h)
 
-pub sound_true :
-    (y : Limits) (k : ℕ) (xs : List Load) → ((t : ℕ) → k ≤ t → Sound y (counts xs t)) → sound y k xs ≡ true
+pub sound_true : SoundMinutesMakeASoundPlan
 unfolding sound
 sound_true y k xs h = from_on_all k xs (sound_at y xs) (λ t j. sound_all y (counts xs t) (h t j))

@@ -13,6 +13,8 @@ use Rattle.rules.specs.Load.{Load, Draw, count, last_until}
 use Rattle.rules.specs.Charge.{Charge, draw_of, load_of, loads_of}
 use Rattle.rules.specs.Search.{added, Caps, room_for, fits_under}
 use Rattle.rules.specs.Priority.{Fitting, fits_at, first_fit, without_ticket}
+pub use Rattle.rules.specs.laws.Fitting.{NoneBelow}
+use Rattle.rules.specs.laws.Fitting.{FitsExactlyInTheRun, NoneBelowStaysNone, StartsOfALineRise}
 use Rattle.rules.proofs.Ranges.{fails, below_or_not, throughout_at, throughout_all, along, or_left, or_right, or-none, IsFirst, first_found, first-is}
 use Rattle.rules.proofs.Lists.{map-append}
 use Rattle.rules.proofs.Searches.{count_added, Under, room_under_lem, under_room}
@@ -65,10 +67,7 @@ run_is f k a r x =
     )
 
 -- A charge fits at a start exactly when the run of minutes from it on with room for its rate is at least its time.
-pub fits_run_lem :
-    (w : ℕ) (cap : Caps) (xs : List Load) (a : Draw) (most s : ℕ)
-    → a.time ≤ most
-    → fits_under w cap xs a s ≡ leb a.time (run_of (room_for w cap xs a.line a.rate) most s)
+pub fits_run_lem : FitsExactlyInTheRun
 fits_run_lem w cap xs a most s h = go (run_has room most s) (below_or_not (run_of room most s) a.time)
   where
     room : ℕ → Bool
@@ -145,15 +144,8 @@ module _ (w : ℕ) (cap : Caps) (base : List Load) (placed : List Charge) (d : C
 
 -- The smallest start at which a charge fits
 
--- no charge that is left fits at a start below s
-abbrev pub NoneBelow : Fitting → ℕ → List Load → List Charge → ℕ → Type 0
-NoneBelow fits clock xs left s = (u : ℕ) → clock ≤ u → u < s → some (fits xs u) left ≡ false
-
 -- none does after a placement, wherever its start is
-pub none_below_stays :
-    (w : ℕ) (cap : Caps) (clock : ℕ) (base : List Load) (placed : List Charge) (d : Charge) (t : ℕ) (left : List Charge) (s : ℕ)
-    → NoneBelow (fits_at w cap) clock (base ++ loads_of placed) left s
-    → NoneBelow (fits_at w cap) clock (base ++ loads_of (placed ++ (d ∷ []))) (without_ticket t left) s
+pub none_below_stays : NoneBelowStaysNone
 none_below_stays w cap clock base placed d t left s h u i j =
     none_stays w cap base placed d u (λ c. not (eqb c.ticket t)) left (h u i j)
 
@@ -178,11 +170,7 @@ first_fit_is fits clock xs left s low high here none =
     (record { low = low; high = omega arith; here = here; least = none })
 
 -- The smallest start never falls from one placement of a line to the next.
-pub starts_rise :
-    (w : ℕ) (cap : Caps) (clock : ℕ) (base : List Load) (placed : List Charge) (d : Charge) (t : ℕ) (left : List Charge) (s next : ℕ)
-    → first_fit (fits_at w cap) clock (base ++ loads_of placed) left ≡ at s
-    → first_fit (fits_at w cap) clock (base ++ loads_of (placed ++ (d ∷ []))) (without_ticket t left) ≡ at next
-    → s ≤ next
+pub starts_rise : StartsOfALineRise
 starts_rise w cap clock base placed d t left s next e f = go (below_or_not next s)
   where
     old : List Load

@@ -32,3 +32,4 @@ pub mod Standing
 pub mod Shown
 pub mod OnTheBoard
 pub mod Withdrawing
+pub mod HeldTimes

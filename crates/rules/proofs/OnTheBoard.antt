@@ -1,5 +1,4 @@
 -- What a board shows, place by place, and how many charges it looks at.
-use mathlib.Core.Logic.{◌↔◌}
 use mathlib.Core.Path.{◌≡◌, refl}
 use Prim.Native.Nat.{ℕ, zero, suc, ◌+◌, ◌-◌, ◌*◌, ◌≤◌, ◌<◌}
 use mathlib.Core.Bool.{Bool, true, false, cond, ◌||◌, false≢true}
@@ -7,11 +6,12 @@ use mathlib.Core.List.{List, [], ◌∷◌, ◌++◌, map}
 use native.Mathlib.Omega.{arith}
 use lib.Dec.{eqb}
 use lib.ListN.{length, get_or, drop}
-use Rattle.rules.specs.Basics.{Each, keep, some}
+use Rattle.rules.specs.Basics.{Each, some}
 use Rattle.rules.specs.Charge.{Charge, active_until, has_ticket}
-use Rattle.rules.specs.Site.{State, site_charges}
+use Rattle.rules.specs.Site.{site_charges}
 use Rattle.rules.specs.Calls.{not_held, start_or_not_held, is_looked_at, boarding}
-use Rattle.rules.specs.Valid.{longest_tail, ValidState}
+use Rattle.rules.specs.Valid.{longest_tail}
+use Rattle.rules.specs.laws.Boards.{TicketsAreShown, LaterPlacesAreKept, NotHeldIsShownExactly, LookedIsAtMostTheHeld}
 use Rattle.rules.proofs.Ranges.{or_left, or_right, fails}
 use Rattle.rules.proofs.Lists.{length_keep}
 use Rattle.rules.proofs.Ends.{each_until}
@@ -25,10 +25,7 @@ front f (x ∷ xs) rest zero h = refl
 front f (x ∷ xs) rest (suc i) h = front f xs rest i (omega arith)
 
 -- "writes the start of each to another such list, or 4,294,967,295 for one not held"
-pub place_shown :
-    (s : State) (asked list : List ℕ) (i : ℕ)
-    → i < length asked
-    → get_or (boarding s asked list).list i 0 ≡ start_or_not_held (site_charges s) (get_or asked i 0)
+pub place_shown : TicketsAreShown
 unfolding boarding
 place_shown s asked list i h = front (start_or_not_held (site_charges s)) asked _ i h
 
@@ -43,11 +40,7 @@ behind f (x ∷ xs) (y ∷ ys) zero h j = absurd (omega arith)
 behind f (x ∷ xs) (y ∷ ys) (suc i) h j = behind f xs ys i (omega arith) (omega arith)
 
 -- "Later places of the answer list are kept."
-pub place_kept :
-    (s : State) (asked list : List ℕ) (i : ℕ)
-    → length asked ≤ i
-    → length asked ≤ length list
-    → get_or (boarding s asked list).list i 0 ≡ get_or list i 0
+pub place_kept : LaterPlacesAreKept
 unfolding boarding
 place_kept s asked list i h j = behind (start_or_not_held (site_charges s)) asked list i h j
 
@@ -76,10 +69,7 @@ held_shown (c ∷ cs) t b e ends = go (eqb c.ticket t) e (λ u. held_shown cs t 
     go false u later = later u
 
 -- no end on a valid site comes near 4,294,967,295, so this number says that no held charge has the ticket
-pub shown_exactly :
-    (s : State) (t : ℕ)
-    → ValidState s
-    → (start_or_not_held (site_charges s) t ≡ not_held) ↔ (some (has_ticket t) (site_charges s) ≡ false)
+pub shown_exactly : NotHeldIsShownExactly
 shown_exactly s t v = (
   (λ e.
       fails (some (has_ticket t) (site_charges s))
@@ -98,5 +88,5 @@ shown_exactly s t v = (
 -- The charges looked at
 
 -- "so never more than are held"
-pub looked_most : (asked : List ℕ) (cs : List Charge) → length (keep (is_looked_at asked) cs) ≤ length cs
+pub looked_most : LookedIsAtMostTheHeld
 looked_most asked cs = length_keep (is_looked_at asked) cs

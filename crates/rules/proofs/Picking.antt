@@ -3,18 +3,20 @@ use mathlib.Core.Logic.{◌⊎◌, inl, inr}
 use mathlib.Core.Path.{◌≡◌, refl, sym, ◌∙◌, ap}
 use Prim.Native.Nat.{ℕ, zero, suc, ◌-◌, max, ◌≤◌, ◌<◌}
 use mathlib.Core.Bool.{Bool, true, false, cond, not, true≢false, false≢true}
-use mathlib.Core.List.{List, [], ◌∷◌, ◌++◌, map, append_assoc, append-nil}
+use mathlib.Core.List.{List, [], ◌∷◌, ◌++◌, append_assoc, append-nil}
 use native.Mathlib.Omega.{arith}
 use lib.Dec.{eqb}
 use lib.ListN.{length}
 use borrow.Author.Tests.{eq-eqb, ne_eqb}
 use Rattle.rules.specs.Basics.{Each, at, keep, some}
-use Rattle.rules.specs.Load.{Load, last_until, IsLine}
+use Rattle.rules.specs.Load.{Load, last_until}
 use Rattle.rules.specs.Charge.{Charge, starting, draw_of, loads_of, is_waiting, waiting_charges}
 use Rattle.rules.specs.Search.{Caps}
 use Rattle.rules.specs.Priority.{Crowd, crowd_of, taken_before, Pick, chosen, foremost, Fitting, fits_at, first_fit, picked, without_ticket}
-use Rattle.rules.specs.Replan.{all, place_on, of_line, place_lines}
+use Rattle.rules.specs.Replan.{all, place_on, of_line}
 use Rattle.rules.specs.Valid.{Rising}
+pub use Rattle.rules.specs.laws.Rounds.{tickets, up_to_line, LinesPlaced}
+use Rattle.rules.specs.laws.Rounds.{LinesHaveEveryCharge, ChargesUnderCapsArePlaced}
 use Rattle.rules.proofs.Ranges.{below_or_not, first-none, found_or_not}
 use Rattle.rules.proofs.Lists.{map-append, keep_each}
 use Rattle.rules.proofs.Searches.{under_past}
@@ -112,9 +114,6 @@ picked_at fits clock xs q left s e =
 
 -- The charges that are left
 
-abbrev pub tickets : List Charge → List ℕ
-tickets cs = map (λ c. c.ticket) cs
-
 without_none : (t : ℕ) (l : List Charge) → Each (λ d. suc t ≤ d.ticket) l → without_ticket t l ≡ l
 without_none t [] e = refl
 without_none t (d ∷ l) e =
@@ -153,17 +152,6 @@ rearranged_append :
     {A : Type 0} {a b c d : List A} → Rearranged a b → Rearranged c d → Rearranged (a ++ c) (b ++ d)
 rearranged_append none s = s
 rearranged_append {d = d} (more r i) s = more (rearranged_append r s) (inserted_append d i)
-
--- the charges of the first l lines
-abbrev pub up_to_line : ℕ → List Charge → List Charge
-up_to_line zero cs = []
-up_to_line (suc l) cs = up_to_line l cs ++ of_line (suc l) cs
-
--- the charges of the first l lines are placed, each once
-pub record LinesPlaced (fits : Fitting) (clock : ℕ) (base : List Load) (waiting : List Charge) (l : ℕ) : Type 0 where
-  pub plan : List Charge
-  pub gives : place_lines fits clock base waiting l ≡ all plan
-  pub each : Rearranged (tickets plan) (tickets (up_to_line l waiting))
 
 -- charges that fit wherever nothing else is drawn
 module _
@@ -251,9 +239,9 @@ module _
           }
 
 -- every charge is on one of the lines
-pub lines-whole : (cs : List Charge) → Each (λ c. IsLine c.line) cs → Rearranged (tickets cs) (tickets (up_to_line 3 cs))
-lines-whole [] e = none
-lines-whole (c ∷ cs) e = more (lines-whole cs e.1) (go (below_or_not c.line 2) (below_or_not 2 c.line))
+pub lines_whole : LinesHaveEveryCharge
+lines_whole [] e = none
+lines_whole (c ∷ cs) e = more (lines_whole cs e.1) (go (below_or_not c.line 2) (below_or_not 2 c.line))
   where
     put : (xs ys : List Charge) → Inserted c.ticket (tickets (xs ++ ys)) (tickets (xs ++ (c ∷ ys)))
     put [] ys = here
@@ -300,13 +288,7 @@ fits_alone k w cap n h xs s c r past =
     under_past w cap xs (draw_of c) s (λ t. omega (arith, h c.line t)) (omega arith) past
 
 -- In a round every waiting charge gets a start: no cap is below D, for it is N or a count plus D, and no rate is above D or W.
-pub round_places :
-    (k w : ℕ) (cap : Caps) (clock : ℕ) (base : List Load) (held : List Charge)
-    → k ≤ w
-    → AtLeast k cap
-    → Each (λ c. c.rate ≤ k) held
-    → Rising 1 held
-    → LinesPlaced (fits_at w cap) clock base (waiting_charges clock held) 3
+pub round_places : ChargesUnderCapsArePlaced
 round_places k w cap clock base held n h rates r =
     lines_placed_lem (fits_at w cap) (λ c. c.rate ≤ k) (fits_alone k w cap n h) clock base (waiting_charges clock held) 3
     (rising_keep 1 (is_waiting clock) held r)

@@ -6,9 +6,9 @@ use mathlib.Core.List.{List, [], ◌∷◌}
 use native.Mathlib.Omega.{arith}
 use Rattle.rules.specs.Basics.{Each, sorted_by}
 use Rattle.rules.specs.Charge.{Charge, latest_start_before}
-use Rattle.rules.specs.Replan.{by_latest_start}
 use Rattle.rules.specs.Calls.{start_before}
 use Rattle.rules.specs.Valid.{Rising}
+use Rattle.rules.specs.laws.Orders.{LatestStartsAreInOrder}
 use Rattle.rules.proofs.Lists.{each_map}
 use Rattle.rules.proofs.Tickets.{rising_from}
 use Rattle.rules.proofs.Sorting.{sorted_rearranged, InOrder, in_order_rearranged, Sorted, SortedRearrangement, Ordering, sorted_sorted}
@@ -54,8 +54,7 @@ module _
       }
 
 -- "by d − p, then ticket": of any two charges, the earlier one has the smaller d − p, or the same and the smaller ticket
-pub latest_start_order :
-    (i : ℕ) (cs : List Charge) → Rising i cs → SortedRearrangement LatestStartBefore cs (by_latest_start cs)
+pub latest_start_order : LatestStartsAreInOrder
 latest_start_order i cs r =
     sorted_strictly latest_start_before LatestStartBefore latest_start_ordering latest_start_decides cs (rising_other i cs r)
 

@@ -9,24 +9,19 @@ use lib.ListN.{length, get_or}
 use borrow.Author.Tests.{leb-true, ltb-true, lt-leb}
 use Rattle.rules.specs.Basics.{Each, keep}
 use Rattle.rules.specs.Charge.{Charge, active_until, is_finished, unfinished_charges}
-use Rattle.rules.specs.Site.{Feeder, State, no_feeder, site_charges, with_charges}
-use Rattle.rules.specs.Calls.{moved, is_passed, reported, moving}
-use Rattle.rules.specs.Valid.{ValidCharge, ValidState}
+use Rattle.rules.specs.Site.{Feeder, no_feeder, site_charges, with_charges}
+use Rattle.rules.specs.Calls.{is_passed, moving}
+use Rattle.rules.specs.Valid.{ValidCharge}
+use Rattle.rules.specs.laws.Orders.{ReportIsInOrder, MoveToTheClockKeepsAll}
 use Rattle.rules.proofs.Ranges.{and_left, and_right, fails}
 use Rattle.rules.proofs.Lists.{each_map, keep_all, keep_none}
 use Rattle.rules.proofs.Sites.{by_place}
 use Rattle.rules.proofs.Distinct.{in_order_keep, site_distinct}
-use Rattle.rules.proofs.Sorting.{SortedRearrangement}
-use Rattle.rules.proofs.ThenTicket.{ThenTicket}
 use Rattle.rules.proofs.Queues.{start_order}
 
 -- "reported .. ordered by start, then ticket": the passed charges, each once, and of any two the earlier one has the
 -- smaller start, or the same start and the smaller ticket
-pub report_order :
-    (s : State) (target : ℕ)
-    → ValidState s
-    → SortedRearrangement (λ a b. ThenTicket a.start b.start a b) (keep (is_passed s.clock target) (site_charges s))
-    (reported s.clock target (site_charges s))
+pub report_order : ReportIsInOrder
 report_order s target v =
     start_order (keep (is_passed s.clock target) (site_charges s))
     (in_order_keep (λ a b. a.ticket ≡ b.ticket → ⊥) (is_passed s.clock target) (site_charges s) (site_distinct s v))
@@ -55,10 +50,7 @@ none_finished (g ∷ gs) site clock next h =
     )
 
 -- "A target equal to the clock reports and drops nothing."
-pub move_to_the_clock :
-    (s : State) (list : List ℕ)
-    → ValidState s
-    → moving s s.clock list ≡ record { answer = moved 0 0; state = s; list = list }
+pub move_to_the_clock : MoveToTheClockKeepsAll
 unfolding moving
 move_to_the_clock s list v =
     rw (

@@ -9,15 +9,10 @@ use native.Mathlib.Nat.{mul-le-mul_right}
 use lib.Dec.{ltb, eqb}
 use borrow.Author.Tests.{ltb-true, ltb-false, eqb-true, eqb-false}
 use Rattle.rules.specs.Basics.{some}
-use Rattle.rules.specs.Calls.{Asked, settings_read, refused, opened, answering, nearest_hundreds, bound_of, fresh, least, opening}
+use Rattle.rules.specs.Calls.{settings_read, refused, opened, answering, nearest_hundreds, bound_of, fresh, least, opening}
+use Rattle.rules.specs.laws.Openings.{RefusalThreeIsABoundOfZero}
+use Rattle.rules.specs.laws.Rounding.{Nearest, BoundIsNearest, NoOtherIsNearest, BoundIsAtMostTheLimit, BoundIsZeroUpToAHalf}
 use Rattle.rules.proofs.Ranges.{below_or_not}
-
--- d hundreds are within 50 of x, and d is even where they are exactly 50 away
-pub record Nearest (x d : ℕ) : Type 0 where
-  pub low : 100 * d ≤ x + 50
-  pub high : x ≤ 100 * d + 50
-  pub even_above : 100 * d ≡ x + 50 → d % 2 ≡ 0
-  pub even_below : x ≡ 100 * d + 50 → d % 2 ≡ 0
 
 nearest_is : (x : ℕ) → Nearest x (nearest_hundreds x)
 nearest_is x = go (ltb 50 (x % 100)) refl (eqb (x % 100) 50) refl
@@ -45,7 +40,7 @@ not_both x d e p q h =
     omega (arith, p.even_below (omega arith), q.even_above (omega arith))
 
 -- no other number is like that: this determines D
-pub nearest_only : (x d : ℕ) → Nearest x d → d ≡ nearest_hundreds x
+pub nearest_only : NoOtherIsNearest
 nearest_only x d p = go (nearest_hundreds x) (nearest_is x) (below_or_not d (nearest_hundreds x)) (below_or_not (nearest_hundreds x) d)
   where
     go : (e : ℕ) → Nearest x e → (d < e) ⊎ (e ≤ d) → (e < d) ⊎ (d ≤ e) → d ≡ e
@@ -53,13 +48,13 @@ nearest_only x d p = go (nearest_hundreds x) (nearest_is x) (below_or_not d (nea
     go e q (inr h) (inl k) = absurd (not_both x e d q p k)
     go e q (inr h) (inr k) = omega arith
 
-pub bound_nearest : (n c : ℕ) → Nearest (c * n) (bound_of n c)
+pub bound_nearest : BoundIsNearest
 bound_nearest n c = nearest_is (c * n)
 
-pub bound_at_most : (n c : ℕ) → c ≤ 100 → bound_of n c ≤ n
+pub bound_at_most : BoundIsAtMostTheLimit
 bound_at_most n c h = omega (arith, (bound_nearest n c).low, mul-le-mul_right n h)
 
-pub bound_zero : (n c : ℕ) → (bound_of n c ≡ 0) ↔ (c * n ≤ 50)
+pub bound_zero : BoundIsZeroUpToAHalf
 bound_zero n c = (
   (λ e. omega (arith, (bound_nearest n c).high)),
   (λ h.
@@ -68,12 +63,7 @@ bound_zero n c = (
 )
 
 -- "Refusal 3 is given when this D is 0": where the count is in range, and N and c of each feeder up to it, then and in no other case
-pub refused_three :
-    (a : Asked)
-    → ltb a.count 1 || ltb 4 a.count ≡ false
-    → some (λ x. ltb x.limit 1 || ltb 60 x.limit) (settings_read a) ≡ false
-    → some (λ x. ltb 100 x.percent) (settings_read a) ≡ false
-    → ((opening a).answer ≡ refused 3) ↔ (some (λ x. eqb (bound_of x.limit x.percent) 0) (settings_read a) ≡ true)
+pub refused_three : RefusalThreeIsABoundOfZero
 unfolding opening
 refused_three a count limit percent =
     rw (count, limit, percent)

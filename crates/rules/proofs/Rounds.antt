@@ -9,16 +9,14 @@ use borrow.Author.Tests.{leb-true, leb-false, le-leb}
 use Rattle.rules.specs.Load.{IsLine, on_lines}
 use Rattle.rules.specs.Search.{Caps}
 use Rattle.rules.specs.Replan.{lowest_line, largest_line, smallest_line, lowered, Outcome, ends, lowers, go_on, rounds_from}
+pub use Rattle.rules.specs.laws.Rounds.{AtLeast}
+use Rattle.rules.specs.laws.Rounds.{LoweredCapsAreAtLeast}
 use Rattle.rules.proofs.Ranges.{fails, below_or_not}
 use Rattle.rules.proofs.Counts.{on_lines_at, on_lines_all}
 
 -- Caps
 
--- a cap is never below k
-abbrev pub AtLeast : ℕ → Caps → Type 0
-AtLeast k cap = (l t : ℕ) → k ≤ cap l t
-
-pub lowered_at_least : (k : ℕ) (cap : Caps) (i t v : ℕ) → k ≤ v → AtLeast k cap → AtLeast k (lowered cap i t v)
+pub lowered_at_least : LoweredCapsAreAtLeast
 lowered_at_least k cap i t v h c l u = go (eqb l i && leb t u)
   where
     go : (b : Bool) → k ≤ cond b (min (cap l u) v) (cap l u)

@@ -7,11 +7,12 @@ use mathlib.Core.List.{List, [], ◌∷◌}
 use native.Mathlib.Omega.{arith}
 use lib.Dec.{leb}
 use borrow.Author.Tests.{le-leb, leb-true, not-false}
-use Rattle.rules.specs.Basics.{at, nothing}
+use Rattle.rules.specs.Basics.{at}
 use Rattle.rules.specs.Load.{Load, Draw, load_from, draws, count, counts, last_until, Limits, whole_of, balance_at, sound}
 use Rattle.rules.specs.Search.{added, earliest, Caps, room_for, fits_under, first_unbalanced}
+use Rattle.rules.specs.laws.Searches.{SoundPlansLeaveAStart, NoStartFoundIsNoStart, NoMinuteFoundIsBalance}
 use Rattle.rules.proofs.Ranges.{and_left, and_right, and_both, fails, below_or_not, throughout_all, IsFirst, first_found, first-none, found_or_not}
-use Rattle.rules.proofs.Counts.{draws_before, draws_most, count-append, count_past, whole_draws, whole_past, Sound, sound_same, sound_few, sound_from_lem, sound_true, balance_past, Balanced, balanced_at}
+use Rattle.rules.proofs.Counts.{draws_before, draws_most, count-append, count_past, whole_draws, whole_past, Sound, sound_same, sound_few, sound_from_lem, sound_true, balance_past, balanced_at}
 
 -- One more load
 
@@ -77,15 +78,7 @@ at_the_end y k xs a s n w d le h = sound_true y k (added xs a s) (λ t j. go t j
         (omega (arith, whole_added xs a s t, whole_past xs t (omega arith)))
 
 -- nothing found: no start at all is sound
-pub earliest_none :
-    (y : Limits) (k : ℕ) (xs : List Load) (a : Draw)
-    → a.rate ≤ y.limit
-    → a.rate ≤ y.site
-    → a.rate ≤ y.bound
-    → earliest y k xs a ≡ nothing
-    → (s : ℕ)
-    → k ≤ s
-    → sound y k (added xs a s) ≡ false
+pub earliest_none : NoStartFoundIsNoStart
 unfolding earliest
 earliest_none y k xs a n w d e s h = go (below_or_not s (k + suc (last_until xs - k)))
   where
@@ -115,13 +108,7 @@ earliest_none y k xs a n w d e s h = go (below_or_not s (k + suc (last_until xs 
     go (inr j) = fails (f s) (beyond (omega arith))
 
 -- a sound plan always leaves a start for a rate that is not above N, W or D
-pub earliest_found :
-    (y : Limits) (k : ℕ) (xs : List Load) (a : Draw)
-    → a.rate ≤ y.limit
-    → a.rate ≤ y.site
-    → a.rate ≤ y.bound
-    → sound y k xs ≡ true
-    → (s : ℕ) × (earliest y k xs a ≡ at s)
+pub earliest_found : SoundPlansLeaveAStart
 earliest_found y k xs a n w d e =
     found_or_not (earliest y k xs a)
     (λ none.
@@ -180,12 +167,7 @@ unfolding first_unbalanced
 unbalanced_first y k xs t e = first_found (λ u. not (balance_at y xs u)) (last_until xs - k) k t e
 
 -- none found: every minute from the clock on is in balance
-pub unbalanced_none :
-    (y : Limits) (k : ℕ) (xs : List Load)
-    → first_unbalanced y k xs ≡ nothing
-    → (t : ℕ)
-    → k ≤ t
-    → Balanced y.bound (counts xs t)
+pub unbalanced_none : NoMinuteFoundIsBalance
 unfolding first_unbalanced
 unbalanced_none y k xs e t h = balanced_at y.bound (counts xs t) (go (below_or_not t (last_until xs)))
   where

@@ -10,14 +10,16 @@ use lib.ListN.{length, get_or, set, length-set}
 use lib.Seq.{get_or-set_same, get_or-set_other}
 use borrow.Author.Tests.{leb-true, le-ltb, eq-eqb, ne_eqb}
 use Rattle.rules.specs.Basics.{Each, some}
-use Rattle.rules.specs.Load.{Load, active, share, draws, count, counts, last_until, drawn, Limits, elsewhere, whole_of, IsLine, IsColumn}
+use Rattle.rules.specs.Load.{Load, active, share, draws, count, counts, last_until, drawn, elsewhere, whole_of, IsLine, IsColumn}
 use Rattle.rules.specs.Charge.{Charge, active_until, load_of, loads_of, is_finished, unfinished_charges, has_ticket, last_end}
 use Rattle.rules.specs.Site.{Feeder, with_charges, State, no_feeder, feeder_of, charges_on, joined, site_charges, others_from, others_of, holding}
 use Rattle.rules.specs.Calls.{feeder_with}
 use Rattle.rules.specs.Valid.{IsFeeder, longest_tail, ValidState}
+pub use Rattle.rules.specs.laws.Sites.{Own}
+use Rattle.rules.specs.laws.Sites.{SeenIsOwn, OwnIsSeen, EveryFeederSeesTheSite}
 use Rattle.rules.proofs.Ranges.{or_left, or_right, below_or_not}
 use Rattle.rules.proofs.Lists.{map-append, some_append, each_map, each_append}
-use Rattle.rules.proofs.Counts.{count-append, Limited, Balanced, Sound}
+use Rattle.rules.proofs.Counts.{count-append}
 use Rattle.rules.proofs.Ends.{until_kept}
 
 -- What all lines draw together
@@ -123,25 +125,12 @@ pub count_seen :
 count_seen os cs l t h = count_beside (loads_of os) (loads_of cs) l t h
 
 -- what it sees is what the whole site draws
-pub whole_seen :
-    (os cs : List Charge) (t : ℕ)
-    → Each (λ c. IsLine c.line) cs
-    → whole_of (counts (map elsewhere (loads_of os) ++ loads_of cs) t) ≡ drawn (loads_of (os ++ cs)) t
+pub whole_seen : EveryFeederSeesTheSite
 whole_seen os cs t e =
     whole_beside (loads_of os) (loads_of cs) t (lines_own cs e)
     ∙ rw (map-append load_of os cs, drawn_append (loads_of os) (loads_of cs) t)
 
--- sound as it sees it: limit and balance by its own charges, W by all
-pub record Own (n d w : ℕ) (cs all : List Charge) (t : ℕ) : Type 0 where
-  pub limit : Limited n (counts (loads_of cs) t)
-  pub balance : Balanced d (counts (loads_of cs) t)
-  pub site : drawn (loads_of all) t ≤ w
-
-pub seen_own :
-    (y : Limits) (os cs : List Charge) (t : ℕ)
-    → Each (λ c. IsLine c.line) cs
-    → Sound y (counts (map elsewhere (loads_of os) ++ loads_of cs) t)
-    → Own y.limit y.bound y.site cs (os ++ cs) t
+pub seen_own : SeenIsOwn
 seen_own y os cs t e s =
     record {
       limit = λ l j. rw (← (count_seen os cs l t j)) (s.limit l j);
@@ -149,11 +138,7 @@ seen_own y os cs t e s =
       site = rw (← (whole_seen os cs t e)) s.site;
     }
 
-pub own_seen :
-    (y : Limits) (os cs : List Charge) (t : ℕ)
-    → Each (λ c. IsLine c.line) cs
-    → Own y.limit y.bound y.site cs (os ++ cs) t
-    → Sound y (counts (map elsewhere (loads_of os) ++ loads_of cs) t)
+pub own_seen : OwnIsSeen
 own_seen y os cs t e s =
     record {
       limit = λ l j. rw (count_seen os cs l t j) (s.limit l j);

@@ -10,17 +10,17 @@ use Rattle.rules.specs.Load.{Load, Limits, drawn, counts, whole_of, IsLine}
 use Rattle.rules.specs.Charge.{Charge, loads_of, seen, is_begun, is_waiting, begun_charges, waiting_charges}
 use Rattle.rules.specs.Search.{Caps, first_unbalanced}
 use Rattle.rules.specs.Priority.{fits_at}
-use Rattle.rules.specs.Replan.{none, Placed, all, stuck, standing, place_lines, lowered, placed_active, Outcome, ends, lowers, after_round, round, rounds_from, by_lines}
+use Rattle.rules.specs.Replan.{none, Placed, all, stuck, standing, place_lines, placed_active, Outcome, ends, lowers, after_round, round, rounds_from, by_lines}
 use Rattle.rules.specs.Site.{State, feeder_of, charges_on, others_of, limits_of}
 use Rattle.rules.specs.Valid.{ValidCharge, IsFeeder, ValidState}
+use Rattle.rules.specs.laws.Rounds.{AtLeast, CapsOf, whole, after, RoundPlacesAll}
 use Rattle.rules.proofs.Lists.{each_map, keep_each}
-use Rattle.rules.proofs.Sorting.{Rearranged}
 use Rattle.rules.proofs.Rounding.{bound_at_most}
-use Rattle.rules.proofs.Rounds.{AtLeast, lowered_at_least, LeavesIn, rounds_played}
+use Rattle.rules.proofs.Rounds.{lowered_at_least, LeavesIn, rounds_played}
 use Rattle.rules.proofs.Counts.{sound_from_lem}
 use Rattle.rules.proofs.Sites.{whole_beside, lines_own}
 use Rattle.rules.proofs.Holding.{lines_valid}
-use Rattle.rules.proofs.Picking.{tickets, up_to_line, LinesPlaced, lines-whole, round_places}
+use Rattle.rules.proofs.Picking.{lines_whole, round_places}
 
 -- some of the charges draw no more than all
 drawn_kept : (f : Charge → Bool) (cs : List Charge) (t : ℕ) → drawn (loads_of (keep f cs)) t ≤ drawn (loads_of cs) t
@@ -33,11 +33,6 @@ drawn_kept f (c ∷ cs) t = go (f c) (drawn_kept f cs t)
         → drawn (loads_of (cond b (c ∷ keep f cs) (keep f cs))) t ≤ drawn (loads_of (c ∷ cs)) t
     go true h = omega arith
     go false h = omega arith
-
--- the caps of a replan by lines: "N at first", then lowered from a minute on to a count plus D
-pub data CapsOf (y : Limits) : Caps → Type 0 where
-  whole : CapsOf y (λ l t. y.limit)
-  after : {cap : Caps} → CapsOf y cap → (i t count : ℕ) → CapsOf y (lowered cap i t (count + y.bound))
 
 pub caps_at_least : (y : Limits) → y.bound ≤ y.limit → (cap : Caps) → CapsOf y cap → AtLeast y.bound cap
 caps_at_least y n top whole = λ l t. n
@@ -104,29 +99,27 @@ module _ (s : State) (v : ValidState s) (f : ℕ) (h : IsFeeder s f) where
       rw g.bound_is (bound_at_most (feeder_of s f).limit (feeder_of s f).percent g.percent_high)
 
   -- "every waiting charge still finds a start under the caps": a round places the charges of all lines, which are all that wait
-  abbrev pub Complete : Caps → Type 0
-  Complete cap =
-      LinesPlaced (fits_at s.site cap) s.clock base waiting 3 × Rearranged (tickets waiting) (tickets (up_to_line 3 waiting))
-
-  pub round_complete : (cap : Caps) → CapsOf (limits_of s f) cap → Complete cap
+  pub round_complete : (cap : Caps) → CapsOf (limits_of s f) cap → RoundPlacesAll s f cap
   round_complete cap c =
-      let least : ℕ = min (feeder_of s f).bound s.site in (
-        round_places least s.site cap s.clock base (charges_on s f)
+      let least : ℕ = min (feeder_of s f).bound s.site in
+      record {
+        lines =
+            round_places least s.site cap s.clock base (charges_on s f)
             (omega arith)
             (λ l t. omega (arith, caps_at_least (limits_of s f) bound_within cap c l t))
             (each_map (ValidCharge (feeder_of s f) s.site s.clock s.next) (λ c. c.rate ≤ least)
             (λ c p. omega (arith, p.within_bound, p.within_site_lem))
             (charges_on s f)
             (v.plan f h).each)
-            (v.plan f h).rising,
-        lines-whole waiting (keep_each (λ c. IsLine c.line) (is_waiting s.clock) (charges_on s f) lines),
-      )
+            (v.plan f h).rising;
+        all_lines = lines_whole waiting (keep_each (λ c. IsLine c.line) (is_waiting s.clock) (charges_on s f) lines);
+      }
 
   -- and in every round that a replan by lines plays: a play that does as `round` wherever every waiting charge has a start gives the
   -- same replan, so no other round is played
   pub rounds_complete :
       (play : Caps → Outcome)
-      → ((cap : Caps) → Complete cap → round (limits_of s f) s.clock (charges_on s f) cap ≡ play cap)
+      → ((cap : Caps) → RoundPlacesAll s f cap → round (limits_of s f) s.clock (charges_on s f) cap ≡ play cap)
       → (allowance : ℕ)
       → by_lines (limits_of s f) s.clock allowance (charges_on s f)
       ≡ rounds_from play (allowance - 1) 1 (λ l t. (feeder_of s f).limit)

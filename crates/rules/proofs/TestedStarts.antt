@@ -8,8 +8,13 @@ use native.Mathlib.Omega.{arith}
 use borrow.Author.Tests.{not-true, not-false}
 use Rattle.rules.specs.Basics.{Found, at, nothing, first}
 use Rattle.rules.specs.Load.{Load, Draw, load_from, share, count, counts, last_until, Limits, sound_at, sound}
+use Rattle.rules.specs.Charge.{seen}
+use Rattle.rules.specs.Site.{feeder_of, charges_on, limits_of}
 use Rattle.rules.specs.Search.{added, earliest}
+use Rattle.rules.specs.Calls.{draw_for}
 use Rattle.rules.specs.Candidate.{looked_up_to, tested_by, candidate}
+pub use Rattle.rules.specs.laws.Candidates.{FailsFirst}
+use Rattle.rules.specs.laws.Candidates.{FirstFailingMinuteIsTheLast, AllMinutesWhereNoneFails, LookedIsWithinTheActiveMinutes, EarliestIsTheFirstCandidate, OrdersStartAtTheFirstCandidate, OrderTestsLookUpToTheTail}
 use Rattle.rules.proofs.Ranges.{fails, below_or_not, IsFirst, first_found, first-none, first-is, first_nothing}
 use Rattle.rules.proofs.Counts.{draws_after, draws_in, Sound, sound_at_lem, sound_all, sound_same, sound_from_lem, sound_true}
 use Rattle.rules.proofs.Searches.{count_added, count_added_before}
@@ -17,8 +22,7 @@ use Rattle.rules.proofs.Searches.{count_added, count_added_before}
 -- The test of any minutes
 
 -- at least the first minute is looked at, and none behind the last
-pub looked_bounds :
-    (f : ℕ → Bool) (time s : ℕ) → 1 ≤ time → (1 ≤ (tested_by f time s).looked) × ((tested_by f time s).looked ≤ time)
+pub looked_bounds : LookedIsWithinTheActiveMinutes
 unfolding tested_by
 looked_bounds f time s some = go (first (λ t. not (f t)) time s) refl
   where
@@ -31,16 +35,8 @@ looked_bounds f time s some = go (first (λ t. not (f t)) time s) refl
         (omega arith, omega (arith, h.low, h.high))
     go nothing e = (omega arith, omega arith)
 
--- t is the first minute that fails
-pub record FailsFirst (f : ℕ → Bool) (time s t : ℕ) : Type 0 where
-  pub low : s ≤ t
-  pub high : t < s + time
-  pub passed : (u : ℕ) → s ≤ u → u < t → f u ≡ true
-  pub fails : f t ≡ false
-
 -- then it is the last that is looked at
-pub tested_fails :
-    (f : ℕ → Bool) (time s t : ℕ) → FailsFirst f time s t → tested_by f time s ≡ record { fits = false; looked = suc (t - s) }
+pub tested_fails : FirstFailingMinuteIsTheLast
 unfolding tested_by
 tested_fails f time s t h =
     ap (looked_up_to time s)
@@ -53,10 +49,7 @@ tested_fails f time s t h =
     }))
 
 -- where none fails all are
-pub tested_passes :
-    (f : ℕ → Bool) (time s : ℕ)
-    → ((t : ℕ) → s ≤ t → t < s + time → f t ≡ true)
-    → tested_by f time s ≡ record { fits = true; looked = time }
+pub tested_passes : AllMinutesWhereNoneFails
 unfolding tested_by
 tested_passes f time s h =
     ap (looked_up_to time s) (first_nothing (λ u. not (f u)) time s (λ t a b. ap not (h t a b)))
@@ -174,11 +167,22 @@ module _ (y : Limits) (k : ℕ) (xs : List Load) (a : Draw) (s : ℕ) where
           h ∙ sym (fails_unsound w.minute (omega (arith, w.first.low)) w.first.fails)
 
 -- the earliest start is the first candidate that fits
-pub earliest_candidate :
-    (y : Limits) (k : ℕ) (xs : List Load) (a : Draw)
-    → sound y k xs ≡ true
-    → earliest y k xs a ≡ first (λ s. (candidate y xs a s).fits) (suc (last_until xs - k)) k
+pub earliest_candidate : EarliestIsTheFirstCandidate
 unfolding earliest
 earliest_candidate y k xs a e =
     first-same (λ s. sound y k (added xs a s)) (λ s. (candidate y xs a s).fits) (suc (last_until xs - k)) k
     (λ s i j. sym (candidate_sound y k xs a s i e))
+
+-- Of an order on a station
+
+pub order_candidates : OrdersStartAtTheFirstCandidate
+order_candidates s f line p rate v h =
+    earliest_candidate (limits_of s f) s.clock (seen (limits_of s f) (charges_on s f)) (draw_for s f line p rate) (v.sound_on f h)
+
+pub order_looked : OrderTestsLookUpToTheTail
+order_looked s f line p rate start h =
+    looked_bounds
+    (sound_at (limits_of s f) (added (seen (limits_of s f) (charges_on s f)) (draw_for s f line p rate) start))
+    (p + (feeder_of s f).tail)
+    start
+    (omega arith)

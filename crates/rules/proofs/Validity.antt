@@ -12,8 +12,10 @@ use Rattle.rules.specs.Charge.{seen}
 use Rattle.rules.specs.Replan.{Proposal, starts, none, latest, by_lines}
 use Rattle.rules.specs.Judgement.{judged}
 use Rattle.rules.specs.Site.{State, no_feeder, charges_on, joined, others_from, limits_of}
-use Rattle.rules.specs.Calls.{Settings, settings, Asked, settings_read, fresh_feeder, Result, answering, opened, fresh, least, open_refusals, opening, Call, preview, commit, move, offer, replan_latest, replan_lines, enquire, board, withdraw, draw_for, start_for, refusals, previewed_at, previewing, committing, moving, decided, tested, offering, replanning_latest, replanning_lines, enquiring, boarding, withdrawing, step}
+use Rattle.rules.specs.Calls.{Settings, settings, Asked, settings_read, fresh_feeder, Result, answering, opened, fresh, least, open_refusals, opening, preview, commit, move, offer, replan_latest, replan_lines, enquire, board, withdraw, draw_for, start_for, refusals, previewed_at, previewing, committing, moving, decided, tested, offering, replanning_latest, replanning_lines, enquiring, boarding, withdrawing}
 use Rattle.rules.specs.Valid.{ValidSettings, IsFeeder, ValidState}
+use Rattle.rules.specs.laws.Searches.{OrdersGetAStart}
+use Rattle.rules.specs.laws.Stations.{OpeningsAreValid, StepsAreValid}
 use Rattle.rules.proofs.Lists.{length_tabulate}
 use Rattle.rules.proofs.Tables.{first_of_none}
 use Rattle.rules.proofs.Granted.{refusals_none, open_refusals_numbered, SettingsGranted, OpenGranted, open_granted, feeder_granted, OrderGranted, order_granted, commit_granted, move_granted, offer_granted, withdraw_granted}
@@ -91,7 +93,7 @@ fresh_valid a g =
         map_length fresh_feeder (settings_read a)
         ∙ length_tabulate (λ i. get_or a.settings i (settings 0 0 0)) a.count 0
 
-pub opening_valid : (a : Asked) → ValidState (opening a).state
+pub opening_valid : OpeningsAreValid
 unfolding opening
 opening_valid a = go (first_of (open_refusals a)) refl
   where
@@ -145,7 +147,7 @@ tested_valid s f rounds (starts ss) list v h = go (judged (limits_of s f) s.cloc
     go (suc j) e = v
 tested_valid s f rounds (none cause) list v h = v
 
-pub step_valid : (s : State) (c : Call) → ValidState s → ValidState (step s c).state
+pub step_valid : StepsAreValid
 unfolding previewing committing moving offering replanning_latest replanning_lines enquiring boarding withdrawing
 step_valid s (preview f line p d rate) v =
     answering_valid (first_of (refusals s (preview f line p d rate))) s [] _ v (λ e. go (start_for s f (draw_for s f line p rate)))
@@ -194,3 +196,8 @@ order_found s f line p d rate v g =
     earliest_found (limits_of s f) s.clock (seen (limits_of s f) (charges_on s f)) (draw_for s f line p rate)
     g.within_limit g.within_site_lem g.within_bound
     (v.sound_on f g.is_feeder_lem)
+
+-- so does one whose table of refusals gives no number
+pub order_starts : OrdersGetAStart
+order_starts s f line p d rate v e =
+    order_found s f line p d rate v (order_granted s f line p d rate (refusals_none s (preview f line p d rate) e))

@@ -10,22 +10,11 @@ use lib.ListN.{length, get_or, get_or-eq_default}
 use borrow.Author.Tests.{ltb-true, leb-true, eqb-true}
 use Rattle.rules.specs.Basics.{throughout}
 use Rattle.rules.specs.Priority.{fading, weights, weight_of, steps_at, bound_at, keeps_the_rule}
+use Rattle.rules.specs.laws.Weights.{Bounded, Table, TestedTableKeepsTheRule, WeightsKeepTheRule, FadingKeepsItsBound, WeightIsFading, WeightEndsWithTheTable, TestedTableHasTheWeights}
 use Rattle.rules.proofs.Ranges.{and_left, and_right, throughout_at, below_or_not}
 
--- "E(k) × 64^k ≤ 2^30 × 63^k < (E(k) + 64) × 64^k", for the number e in the place of E(k)
-pub record Bounded (e k : ℕ) : Type 0 where
-  pub low : e * 64 ^ k ≤ 2 ^ 30 * 63 ^ k
-  pub high : 2 ^ 30 * 63 ^ k < (e + 64) * 64 ^ k
-
--- the table's rule
-pub record Table (table : List ℕ) : Type 0 where
-  pub size : length table ≡ 512
-  pub begins : get_or table 0 0 ≡ 1073741824
-  pub steps : (k : ℕ) → k < 511 → get_or table (suc k) 0 ≡ get_or table k 0 * 63 / 64
-  pub bounds : (k : ℕ) → k < 512 → Bounded (get_or table k 0) k
-
 -- what the test says of the whole table, at each k
-pub keeps_rule : (table : List ℕ) → keeps_the_rule table ≡ true → Table table
+pub keeps_rule : TestedTableKeepsTheRule
 keeps_rule table e =
     record {
       size = eqb-true (length table) 512 (and_left size_test first-test (and_left (size_test && first-test) (step_test && bound_test) e));
@@ -79,24 +68,24 @@ weights_keep : keeps_the_rule weights ≡ true
 unfolding weights fading
 weights_keep = refl
 
-pub weights_table : Table weights
+pub weights_table : WeightsKeepTheRule
 weights_table = keeps_rule weights weights_keep
 
-pub weight_within : (k : ℕ) → k < 512 → weight_of k ≡ fading k
+pub weight_within : WeightIsFading
 unfolding weight_of
 weight_within k h = table_entry weights weights_table k h
 
 -- "and the weight is 0 beyond"
-pub weight_beyond : (k : ℕ) → 512 ≤ k → weight_of k ≡ 0
+pub weight_beyond : WeightEndsWithTheTable
 unfolding weight_of
 weight_beyond k h = get_or-eq_default weights 0 {n = k} (omega (arith, weights_table.size))
 
 -- the table's bound, said of E
-pub fading_bounded : (k : ℕ) → k < 512 → Bounded (fading k) k
+pub fading_bounded : FadingKeepsItsBound
 fading_bounded k h = rw (← (table_entry weights weights_table k h)) (weights_table.bounds k h)
 
 -- a table that passes the test serves for the weight at every k
-pub table_weight : (table : List ℕ) → keeps_the_rule table ≡ true → (k : ℕ) → get_or table k 0 ≡ weight_of k
+pub table_weight : TestedTableHasTheWeights
 table_weight table e k = go (keeps_rule table e) (below_or_not k 512)
   where
     go : Table table → (k < 512) ⊎ (512 ≤ k) → get_or table k 0 ≡ weight_of k

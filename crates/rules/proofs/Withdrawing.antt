@@ -9,6 +9,7 @@ use borrow.Author.Tests.{eqb-true, ne_eqb}
 use Rattle.rules.specs.Basics.{Each, some}
 use Rattle.rules.specs.Charge.{Charge, is_begun, is_waiting, has_ticket, without_ticket}
 use Rattle.rules.specs.Valid.{Rising}
+use Rattle.rules.specs.laws.Withdrawals.{OnePlaceIsFree, WaitingHasNotBegun, NotBegunWaits}
 use Rattle.rules.proofs.Ranges.{or-none}
 use Rattle.rules.proofs.Lists.{each_map, keep_all}
 use Rattle.rules.proofs.Queues.{Distinct, rising_other}
@@ -41,11 +42,7 @@ none_with t g cs e =
     (each_map (λ c. has_ticket t c ≡ false) (λ c. has_ticket t c && g c ≡ false) (λ c p. rw p) cs e)
 
 -- held and not begun is waiting
-pub held_waits :
-    (k t : ℕ) (cs : List Charge)
-    → some (has_ticket t) cs ≡ true
-    → some (λ c. has_ticket t c && is_begun k c) cs ≡ false
-    → some (λ c. has_ticket t c && is_waiting k c) cs ≡ true
+pub held_waits : NotBegunWaits
 held_waits k t [] h b = h
 held_waits k t (c ∷ cs) h b = go (has_ticket t c) (is_begun k c) h b (held_waits k t cs)
   where
@@ -95,19 +92,11 @@ distinct_not_begun k t (c ∷ cs) r h =
     go false y none u ih = ih u
 
 -- of one feeder
-pub waits_not_begun :
-    (k t i : ℕ) (cs : List Charge)
-    → Rising i cs
-    → some (λ c. has_ticket t c && is_waiting k c) cs ≡ true
-    → some (λ c. has_ticket t c && is_begun k c) cs ≡ false
+pub waits_not_begun : WaitingHasNotBegun
 waits_not_begun k t i cs r h = distinct_not_begun k t cs (rising_other i cs r) h
 
 -- "its place is free"
-pub place_free :
-    (t i : ℕ) (cs : List Charge)
-    → Rising i cs
-    → some (has_ticket t) cs ≡ true
-    → suc (length (without_ticket t cs)) ≡ length cs
+pub place_free : OnePlaceIsFree
 place_free t i [] r h = absurd (true≢false (sym h))
 place_free t i (c ∷ cs) r h = go (has_ticket t c) (none_behind t c cs r.1) h (place_free t (suc c.ticket) cs r.1)
   where

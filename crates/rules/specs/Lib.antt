@@ -24,3 +24,4 @@ pub mod CasesOfFeeders
 pub mod CasesOfCandidates
 pub mod CasesFromStations
 pub mod Cases
+pub mod laws

@@ -1,0 +1,10 @@
+// What a withdrawal leaves.
+ghost use Rattle.rules.specs.laws.Withdrawals.{OnePlaceIsFree, WaitingHasNotBegun, NotBegunWaits};
+
+/// A withdrawal frees one place, and a ticket that is held waits exactly where it has not begun.
+#[tactic(auto, using(crate::proofs::Withdrawing::place_free, crate::proofs::Withdrawing::waits_not_begun, crate::proofs::Withdrawing::held_waits))]
+pub fn withdrawals()
+    ensures place_free { OnePlaceIsFree }
+    ensures waiting { WaitingHasNotBegun }
+    ensures not_begun { NotBegunWaits }
+{}
