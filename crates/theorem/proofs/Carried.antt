@@ -15,7 +15,7 @@ use Rattle.theorem.specs.AfterCalls.{ForAnyCalls, known_after, AfterAnyCalls}
 use Rattle.theorem.specs.EveryEnquiry.{EnquiryAnswers}
 use Rattle.theorem.proofs.Chains.{chain_left, theorem}
 
--- What demand 3 gives of a list of calls of the rules holds of the station asked for and of what is known.
+-- What follows from `DemandThree`, of a list of calls of the rules, holds of the station asked for and of what is known of the calls made.
 pub carried :
     (P : State → Past → Type 0)
     → ((s : State) (calls : List Call) → DemandThree step s calls → P s (past step s calls))

@@ -1,16 +1,19 @@
 -- Of openings.
 use mathlib.Core.Path.{◌≡◌, refl, sym, ap, ◌∙◌}
-use Prim.Native.Nat.{ℕ, zero, suc}
-use mathlib.Core.Bool.{false, true≢false}
+use mathlib.Core.Logic.{◌⊎◌}
+use Prim.Native.Nat.{ℕ, zero, suc, ◌<◌}
+use mathlib.Core.Bool.{false, ◌||◌, true≢false}
+use lib.Dec.{ltb, eqb}
 use mathlib.Core.List.{[], map}
 use Rattle.rules.specs.Basics.{first_of}
-use Rattle.rules.specs.Calls.{Asked, opened, answering, fresh, least, open_refusals, opening}
+use Rattle.rules.specs.Calls.{Asked, bound_of, opened, answering, settings_read, fresh, least, open_refusals, opening}
 use Rattle.rules.proofs.Tables.{first_of_none}
 use Rattle.rules.proofs.Granted.{open_refusals_numbered}
 use Rattle.guarantee.specs.Past.{is_refused}
 use Rattle.guarantee.specs.DemandOne.{NoneApplies}
-use Rattle.theorem.specs.EveryOpening.{OpeningRefusedByTheTable, LeastBesideARefusal, OpenedAsAsked}
+use Rattle.theorem.specs.EveryOpening.{OpeningRefusedByTheTable, opening_conditions, OpeningRefusedForTheFirst, LeastBesideARefusal, OpenedAsAsked}
 use Rattle.theorem.proofs.Chains.{theorem}
+use Rattle.theorem.proofs.Conditions.{Matches, first_holds, below_is, equal_is, either_is, some_is}
 
 -- of an opening that is not refused no condition applies
 opening_none : (x : Asked) → is_refused (opening x).answer ≡ false → NoneApplies (open_refusals x)
@@ -33,6 +36,39 @@ opening_refused x answer first opens k =
     let g = theorem x answer first opens [] tt in
     let r = g.one_opening.refused_by.number k in
     ((λ e. r.0 (sym g.opened ∙ e)), (λ h. g.opened ∙ r.1 h))
+
+-- its table and the conditions in words
+opening_matches : (x : Asked) → Matches (open_refusals x) (opening_conditions x)
+opening_matches x = (
+  either_is (ltb x.count 1) (ltb 4 x.count) (below_is x.count 1) (below_is 4 x.count),
+  refl,
+  (λ a. (
+    some_is (λ y. ltb y.limit 1 || ltb 60 y.limit) (λ y. (y.limit < 1) ⊎ (60 < y.limit))
+        (λ y. either_is (ltb y.limit 1) (ltb 60 y.limit) (below_is y.limit 1) (below_is 60 y.limit)) (settings_read x),
+    refl,
+    (λ b. (
+      some_is (λ y. ltb 100 y.percent) (λ y. 100 < y.percent) (λ y. below_is 100 y.percent) (settings_read x),
+      refl,
+      (λ c. (
+        some_is (λ y. eqb (bound_of y.limit y.percent) 0) (λ y. bound_of y.limit y.percent ≡ 0)
+            (λ y. equal_is (bound_of y.limit y.percent) 0) (settings_read x),
+        refl,
+        (λ d. (
+          some_is (λ y. ltb 5 y.tail) (λ y. 5 < y.tail) (λ y. below_is 5 y.tail) (settings_read x),
+          refl,
+          (λ e.
+              (either_is (ltb x.site 1) (ltb 720 x.site) (below_is x.site 1) (below_is 720 x.site), refl, (λ f. tt))),
+        )),
+      )),
+    )),
+  )),
+)
+
+pub opening_refused_for : OpeningRefusedForTheFirst
+opening_refused_for x answer first opens k =
+    let r = opening_refused x answer first opens k in
+    let w = first_holds (open_refusals x) (opening_conditions x) k (opening_matches x) in
+    ((λ e. w.0 (r.0 e)), (λ h. r.1 (w.1 h)))
 
 pub least_beside : LeastBesideARefusal
 least_beside x answer first opens e =

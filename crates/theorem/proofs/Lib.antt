@@ -1,5 +1,7 @@
 pub mod Carried
+pub mod Causes
 pub mod Chains
+pub mod Conditions
 pub mod Determined
 pub mod EveryAnswer
 pub mod EveryCall
@@ -9,3 +11,8 @@ pub mod EveryOpening
 pub mod EveryOrder
 pub mod EveryTicket
 pub mod EveryWithdrawal
+pub mod Ordered
+pub mod Planned
+pub mod Refused
+pub mod Single
+pub mod Soundness

@@ -1,6 +1,6 @@
 -- What an opening gives, whatever it asks for: N, c and r of each feeder, how many feeders, and W.
-use Rattle.std.specs.Prelude.{◌↔◌, ◌≡◌, ℕ, true, false, map, Result}
-use Rattle.rules.specs.Calls.{Asked, Answer, refused, opened, fresh, least, open_refusals}
+use Rattle.std.specs.Prelude.{◌⊎◌, ◌↔◌, ◌≡◌, ℕ, ◌<◌, true, false, List, [], ◌∷◌, map, Result}
+use Rattle.rules.specs.Calls.{Asked, Answer, refused, opened, bound_of, settings_read, fresh, least, open_refusals}
 use Rattle.guarantee.specs.Past.{is_refused}
 use Rattle.guarantee.specs.DemandOne.{FirstIs}
 use Rattle.refusals.specs.declared.Refusal.{Refusal}
@@ -9,6 +9,7 @@ use Rattle.station.specs.declared.bounds.Opened.{Opened}
 use Rattle.station.specs.View.{view}
 use Rattle.station.specs.Opened.{open_answer}
 use Rattle.theorem.specs.Theorem.{MeetsOpen}
+use Rattle.theorem.specs.Single.{OfSome, Condition, when, FirstToHold}
 
 -- it holds of every opening: of what was asked for, of the answer, and of the station that it gave
 abbrev pub OfEveryOpening : (Asked → Answer → Station → Type 0) → Type 0
@@ -19,6 +20,22 @@ OfEveryOpening Holds =
 abbrev pub OpeningRefusedByTheTable : Type 0
 OpeningRefusedByTheTable =
     OfEveryOpening (λ x told first. (k : ℕ) → (told ≡ refused k) ↔ FirstIs (open_refusals x) k)
+
+-- what an opening is refused for, in words: 1, 2, 3 and 19 where it is so of any feeder up to the count
+abbrev pub opening_conditions : Asked → List Condition
+opening_conditions x =
+    when ((x.count < 1) ⊎ (4 < x.count)) 27
+    ∷ when (OfSome (λ y. (y.limit < 1) ⊎ (60 < y.limit)) (settings_read x)) 1
+    ∷ when (OfSome (λ y. 100 < y.percent) (settings_read x)) 2
+    ∷ when (OfSome (λ y. bound_of y.limit y.percent ≡ 0) (settings_read x)) 3
+    ∷ when (OfSome (λ y. 5 < y.tail) (settings_read x)) 19
+    ∷ when ((x.site < 1) ⊎ (720 < x.site)) 28
+    ∷ []
+
+-- And that is the first of the conditions in words.
+abbrev pub OpeningRefusedForTheFirst : Type 0
+OpeningRefusedForTheFirst =
+    OfEveryOpening (λ x told first. (k : ℕ) → (told ≡ refused k) ↔ FirstToHold (opening_conditions x) k)
 
 -- Beside a refused one stands the fresh station of one feeder, N 1, c 100 and r 0, under W 720.
 abbrev pub LeastBesideARefusal : Type 0

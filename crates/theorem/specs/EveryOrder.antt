@@ -1,11 +1,12 @@
 -- What holds of every accepted order after any calls: `s` is the station asked for, and `h` is what is known of the calls.
 -- "Stays" is said of an order whose ticket was not withdrawn (`staying_orders` in crates/guarantee/specs/Past.antt).
-use Rattle.std.specs.Prelude.{◌≡◌, ◌+◌, ◌≤◌, ◌<◌, List, ◌++◌}
+use Rattle.std.specs.Prelude.{◌↔◌, ◌≡◌, ℕ, ◌+◌, ◌≤◌, ◌<◌, true, List, ◌++◌}
 use Rattle.rules.specs.Basics.{Each}
+use Rattle.rules.specs.Load.{active}
 use Rattle.rules.specs.Site.{State}
 use Rattle.rules.specs.Valid.{IsFeeder}
 use Rattle.rules.specs.Calls.{step}
-use Rattle.guarantee.specs.Past.{Past, times_reported, start_of, end_of, staying_orders, total_time, last_minute}
+use Rattle.guarantee.specs.Past.{Past, times_reported, start_of, end_of, active_until, load_of, staying_orders, total_time, last_minute}
 use Rattle.theorem.specs.Theorem.{Made}
 use Rattle.theorem.specs.AfterCalls.{About, known_after}
 
@@ -16,6 +17,13 @@ OnAFeeder s h = Each (λ o. IsFeeder s o.feeder) h.orders
 -- An order that stays does not start before its order minute, which is the clock at its commit.
 abbrev pub NotBeforeItsOrderMinute : State → Past → Type 0
 NotBeforeItsOrderMinute s h = Each (λ o. o.minute ≤ start_of step h o) (staying_orders h)
+
+-- It draws in every minute from its start to its end and the r minutes after it, without a break, and in no other.
+abbrev pub UnbrokenForItsFullTime : State → Past → Type 0
+UnbrokenForItsFullTime s h =
+    Each
+    (λ o. (t : ℕ) → (active (load_of step h o) t ≡ true) ↔ ((start_of step h o ≤ t) × (t < active_until step h o)))
+    (staying_orders h)
 
 -- One that has begun, its start being below the clock, has been reported exactly once.
 abbrev pub ReportedOnceBegun : State → Past → Type 0

@@ -1,4 +1,5 @@
 pub mod AfterCalls
+pub mod Causes
 pub mod Determined
 pub mod EveryAnswer
 pub mod EveryCall
@@ -8,4 +9,9 @@ pub mod EveryOpening
 pub mod EveryOrder
 pub mod EveryTicket
 pub mod EveryWithdrawal
+pub mod Ordered
+pub mod Planned
+pub mod Refused
+pub mod Single
+pub mod Soundness
 pub mod Theorem

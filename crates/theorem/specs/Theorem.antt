@@ -4,6 +4,9 @@
 -- `apply` or, where the station is lent, `make` (crates/calls/src/lib.rt), any calls with any numbers and any lists, each on the station
 -- that the last one left. `MeetsOpen` below is the contract of `open`, and `MeetsApply` that of the other two: src/lib.rt calls them, and
 -- the checker has proved there that what they give meets these. Nothing else is asked of the code.
+--
+-- What follows from it, sentence by sentence and with no record to open, stands in EveryMinute, EveryOrder, EveryTicket, EveryEnquiry,
+-- EveryWithdrawal, EveryAnswer and EveryOpening: each sentence is a clause of a function in src/.
 use Rattle.std.specs.Prelude.{◌≡◌, ℕ, true, List, [], ◌∷◌, map, Result}
 use Rattle.rules.specs.Basics.{Each}
 use Rattle.rules.specs.Calls as rules
@@ -96,14 +99,14 @@ pub record Guaranteed (x : Asked) (answer : Result Opened Refusal) (first : Stat
   -- and where it is refused, it leaves the very station, every place of its arrays
   pub unchanged :
       (m : Made) → MeetsApply (left first calls) m → is_refused (answer_of m.answer) ≡ true → m.station ≡ left first calls
-  -- what demand 3 reads off a list of calls is what was seen of these
+  -- what is read off a list of calls of the rules is what was seen of these
   pub seen : known (beginning (view first)) calls ≡ past step (view first) (map call_made calls)
-  -- Demand 1, of the opening and of every call made to the station that is left
+  -- what is refused, of the opening and of every call made to the station that is left
   pub one_opening : DemandOneOpening opening x
   pub one : (call : rules.Call) → DemandOne step (view (left first calls)) call
-  -- Demand 2, of the station that is left
+  -- which starts, plans, boards and withdrawals a call gives there
   pub two : DemandTwo step (view (left first calls))
-  -- Demand 3, of the whole list
+  -- and what is promised of the whole list
   pub three : DemandThree step (view first) (map call_made calls)
 
 abbrev pub Theorem : Type 0

@@ -1,11 +1,12 @@
 // What every opening gives.
 
-ghost use Rattle.theorem.specs.EveryOpening.{OpeningRefusedByTheTable, LeastBesideARefusal, OpenedAsAsked};
+ghost use Rattle.theorem.specs.EveryOpening.{OpeningRefusedByTheTable, OpeningRefusedForTheFirst, LeastBesideARefusal, OpenedAsAsked};
 
-/// An opening is refused with the first number of its table that applies, and beside it stands the least
-/// station; one that is not refused gives the station that was asked for.
+/// An opening is refused with the first number of its table that applies, and beside it stands the
+/// least station; one that is not refused gives the station that was asked for.
 pub fn every_opening()
-    ensures refused { OpeningRefusedByTheTable }
+    ensures table { OpeningRefusedByTheTable }
+    ensures first { OpeningRefusedForTheFirst }
     ensures beside { LeastBesideARefusal }
     ensures opened { OpenedAsAsked }
 {}

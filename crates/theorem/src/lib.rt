@@ -9,6 +9,9 @@ pub mod every_opening;
 pub mod every_order;
 pub mod every_ticket;
 pub mod every_withdrawal;
+pub mod order_calls;
+pub mod plan_calls;
+pub mod refused_calls;
 
 ghost use Rattle.station.specs.View.{Valid};
 ghost use Rattle.station.specs.Opened.{asked_of};
@@ -21,12 +24,14 @@ use station::bounds::Opened;
 use station::open::Asked;
 use station::{Done, Station};
 
+/// An opening of which the theorem speaks: what `Station::open` gives is what it asks of one.
 pub fn open(asked: Asked) -> Done<Result<Opened, Refusal>, Station>
     ensures { MeetsOpen (asked_of asked) result.answer result.station }
 {
     Station::open(asked)
 }
 
+/// A call of which the theorem speaks, on a station by value: `calls::apply` gives what it asks of one.
 pub fn apply(
     station: Station,
     call: Call,
@@ -39,6 +44,7 @@ pub fn apply(
     calls::apply(station, call, numbers, list)
 }
 
+/// The same where the station is lent to the call.
 pub fn make(
     station: &mut Station,
     call: Call,
@@ -51,8 +57,8 @@ pub fn make(
     calls::make(station, call, numbers, list)
 }
 
-/// Whatever is asked for at the opening, and whatever calls are then made, each on the station that the
-/// last one left: every answer and every list is the one of the rules, and what they promise holds.
+/// Whatever is asked for at the opening, and whatever calls are then made, each on the station that
+/// the last one left: every answer and every list is that of the rules, and what they promise holds.
 pub fn theorem()
     ensures { Theorem }
 {}

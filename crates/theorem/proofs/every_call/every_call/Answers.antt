@@ -4,7 +4,7 @@ use Rattle.theorem.proofs.every_call.every_call.Goals as goal
 pub returns : goal.returns
 returns c =
     record {
-      refused = call_refused;
+      table = call_refused;
       answered = others_answered;
       starts = starts_and_plans;
     }
