@@ -7,7 +7,7 @@ use Rattle.guarantee.specs.Past.{Gives, Order, past, staying_orders, withdrawn_o
 use Rattle.guarantee.specs.DemandThree.{DemandThree}
 use Rattle.rules.proofs.Lists.{each_both}
 use Rattle.guarantee.proofs.Each.{each_in}
-use Rattle.excluded.specs.FieldsThree.{Field, limit, balance, site, feeders, tickets, not_early, in_time, reported, not_reported, waits, charges, finished, gone_not_reported, gone_not_held, no_other, unmoved, Holds}
+use Rattle.excluded.specs.FieldsThree.{Field, limit, balance, site, feeders, tickets, not_early, in_time, reported, not_reported, waits, charges, finished, gone_not_reported, gone_not_held, no_other, no_other_found, unmoved, Holds}
 
 module _ (gives : Gives) (s : State) (calls : List Call) where
   field_holds : DemandThree gives s calls → (f : Field) → Holds gives s calls f
@@ -26,6 +26,7 @@ module _ (gives : Gives) (s : State) (calls : List Call) where
   field_holds d gone_not_reported = each_in (λ o k. k.not_reported) (withdrawn_orders (past gives s calls)) d.gone
   field_holds d gone_not_held = each_in (λ o k. k.not_held_lem) (withdrawn_orders (past gives s calls)) d.gone
   field_holds d no_other = d.no_other
+  field_holds d no_other_found = d.no_other_found
   field_holds d unmoved = d.unmoved
 
   fields_hold : ((f : Field) → Holds gives s calls f) → DemandThree gives s calls
@@ -57,6 +58,7 @@ module _ (gives : Gives) (s : State) (calls : List Call) where
             (each_both _ _ gs (d gone_not_reported) (d gone_not_held));
         in_time = d in_time;
         no_other = d no_other;
+        no_other_found = d no_other_found;
         unmoved = d unmoved;
       }
 

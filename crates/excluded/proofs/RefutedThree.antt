@@ -12,7 +12,7 @@ use Rattle.rules.specs.Entry.{lent_list, preview, commit, offer, replan_latest}
 use Rattle.rules.specs.Calls.{refused, waiting, charging, move, board, withdraw, opening, previewing, committing, moving, offering, replanning_latest, enquiring, boarding, withdrawing}
 use Rattle.guarantee.specs.DemandThree.{DemandThree}
 use Rattle.excluded.specs.WrongOrders.{own_line_only, neighbours_only, limit_ignored, charges_counted, rates_in_limit_only, tails_left_out, tails_in_limit_only, fixed_start, preview_takes_ticket, shown_before_taken, ticket_skipped, own_feeder_only, first_feeder, zero_for_one}
-use Rattle.excluded.specs.WrongMoves.{start_at_clock_left_out, first_report_only, reported_twice, start_at_target_reported, nobody_reported, slow_clock, dropped_early, dropped_late, dropped_at_its_end, never_dropped, shown_late, shown_begun, shown_early, end_with_tail}
+use Rattle.excluded.specs.WrongMoves.{start_at_clock_left_out, first_report_only, reported_twice, start_at_target_reported, nobody_reported, stranger_held, slow_clock, dropped_early, dropped_late, dropped_at_its_end, never_dropped, shown_late, shown_begun, shown_early, end_with_tail}
 use Rattle.excluded.specs.WrongBoards.{board_takes_ticket}
 use Rattle.excluded.specs.WrongWithdrawals.{balance_untested, begun_withdrawn, ticket_given_again, withdrawn_held}
 use Rattle.excluded.specs.WrongPlans.{untested, rate_lost, begun_moved}
@@ -193,6 +193,14 @@ never_dropped_lem d =
 nobody_reported_lem : DemandThree nobody_reported one (move 1 lent_list ∷ []) → ⊥
 unfolding opening
 nobody_reported_lem d = false≢true (d.no_other 65536 (omega arith))
+
+-- `no_other_found`: no order was accepted, and a charge is found
+pub stranger_held_lem : DemandThree stranger_held one (move 1 lent_list ∷ []) → ⊥
+unfolding opening enquiring
+stranger_held_lem d =
+    let h : waiting 1 1 ≡ refused 15 = d.no_other_found 65536 refl in
+    let z : ◌≡◌ {A = ℕ} 0 1 = cc in
+    omega arith
 
 -- `unmoved`: at clock 9 ticket 2 was shown with start 8, and it is reported with 10
 shown_early_lem : DemandThree shown_early one (single ∷ from 1 10 ∷ move 9 lent_list ∷ move 11 lent_list ∷ []) → ⊥

@@ -1,7 +1,7 @@
--- The test of each field of demand 3 is true exactly where the field holds.
-use mathlib.Core.Path.{◌≡◌, refl, ap}
+-- The test of each field of demand 3 is true exactly where the field holds, but for one, whose test tells it of most stations.
+use mathlib.Core.Path.{◌≡◌, refl, sym, ap, ◌∙◌}
 use Prim.Native.Nat.{ℕ, suc, ◌+◌, ◌≤◌}
-use mathlib.Core.Bool.{Bool, true, false, cond}
+use mathlib.Core.Bool.{Bool, true, false, cond, ◌||◌, false≢true}
 use mathlib.Core.List.{List, [], ◌∷◌, ◌++◌, map}
 use native.Mathlib.Omega.{arith}
 use lib.Dec.{eqb}
@@ -9,7 +9,8 @@ use lib.ListN.{length}
 use borrow.Author.Tests.{eqb-true, eq-eqb}
 use Rattle.rules.specs.Basics.{Each, some}
 use Rattle.rules.specs.Load.{IsLine}
-use Rattle.rules.specs.Site.{State, feeder_of}
+use Rattle.rules.specs.Charge.{Charge, has_ticket}
+use Rattle.rules.specs.Site.{State, feeder_of, site_charges}
 use Rattle.rules.specs.Valid.{IsFeeder}
 use Rattle.rules.specs.Calls.{refused, waiting, charging, Call}
 use Rattle.rules.proofs.Ranges.{and_left, and_right, and_both, throughout_at, throughout_all}
@@ -17,8 +18,8 @@ use Rattle.guarantee.specs.Past.{Gives, Order, Report, Past, beginning, extended
 use Rattle.guarantee.specs.DemandThree.{Unmoved}
 use Rattle.excluded.specs.Same.{every}
 use Rattle.excluded.specs.Minutes.{limit_from, balance_from}
-use Rattle.excluded.specs.FieldsThree.{Field, limit, balance, site, feeders, tickets, not_early, in_time, reported, not_reported, waits, charges, finished, gone_not_reported, gone_not_held, no_other, unmoved, Holds}
-use Rattle.excluded.specs.TestsThree.{numbered, after_each, unmoved_from, on_each, is_feeder, loads_on, tested}
+use Rattle.excluded.specs.FieldsThree.{Field, limit, balance, site, feeders, tickets, not_early, in_time, reported, not_reported, waits, charges, finished, gone_not_reported, gone_not_held, no_other, no_other_found, unmoved, Holds}
+use Rattle.excluded.specs.TestsThree.{numbered, after_each, unmoved_from, on_each, is_feeder, loads_on, charge_ordered, tested, by_charges, RefusesOthers}
 use Rattle.excluded.proofs.Tests.{Tests, leb_tests, ltb_tests, eqb_tests, every_tests, both_tests, where_so_tests}
 use Rattle.excluded.proofs.TestsMinutes.{limit_tests, balance_tests, site_tests}
 use Rattle.excluded.proofs.Same.{same_answer_lem}
@@ -117,51 +118,54 @@ feeder_tests s f =
 
 -- Each field
 
-pub three_tested : (gives : Gives) (s : State) (calls : List Call) (f : Field) → Tests (tested gives s calls f) (Holds gives s calls f)
-three_tested gives s calls limit =
+pub three_tested :
+    (gives : Gives) (s : State) (calls : List Call) (f : Field)
+    → by_charges f ≡ false
+    → Tests (tested gives s calls f) (Holds gives s calls f)
+three_tested gives s calls limit other =
     let h : Past = past gives s calls in
     let law = each_feeder s
     (λ f. limit_from (feeder_of s f).limit 0 (loads_on gives h f))
     (λ f. (l t : ℕ) → IsLine l → 0 ≤ t → count_in gives h f l t ≤ (feeder_of s f).limit)
     (λ f. limit_tests (feeder_of s f).limit 0 (loads_on gives h f)) in
     ((λ e f l t i j. law.0 e f i l t j (omega arith)), (λ p. law.1 (λ f i l t j k. p f l t i j)))
-three_tested gives s calls balance =
+three_tested gives s calls balance other =
     let h : Past = past gives s calls in
     let law = each_feeder s
     (λ f. balance_from (feeder_of s f).bound 0 (loads_on gives h f))
     (λ f. (l m t : ℕ) → IsLine l → IsLine m → 0 ≤ t → count_in gives h f l t ≤ count_in gives h f m t + (feeder_of s f).bound)
     (λ f. balance_tests (feeder_of s f).bound 0 (loads_on gives h f)) in
     ((λ e f l m t i j k. law.0 e f i l m t j k (omega arith)), (λ p. law.1 (λ f i l m t j k z. p f l m t i j k)))
-three_tested gives s calls site =
+three_tested gives s calls site other =
     let h : Past = past gives s calls in
     let law = site_tests s.site 0 [] (map (load_of gives h) (staying_orders h)) in
     ((λ e t. let p = law.0 e t (omega arith) in omega arith), (λ p. law.1 (λ t k. let q = p t in omega arith)))
-three_tested gives s calls feeders = every_tests (λ o. feeder_tests s o.feeder) (past gives s calls).orders
-three_tested gives s calls tickets = tickets_tests 1 (past gives s calls).orders
-three_tested gives s calls not_early =
+three_tested gives s calls feeders other = every_tests (λ o. feeder_tests s o.feeder) (past gives s calls).orders
+three_tested gives s calls tickets other = tickets_tests 1 (past gives s calls).orders
+three_tested gives s calls not_early other =
     let h : Past = past gives s calls in
     every_tests (λ o. leb_tests o.minute (start_of gives h o)) (staying_orders h)
-three_tested gives s calls in_time =
+three_tested gives s calls in_time other =
     let h : Past = past gives s calls in
     every_tests (λ o. leb_tests (end_of gives h o) (last_minute 0 h.orders + total_time h.tails h.orders)) (staying_orders h)
-three_tested gives s calls reported =
+three_tested gives s calls reported other =
     let h : Past = past gives s calls in
     every_tests
     (λ o. where_so_tests (ltb_tests (start_of gives h o) h.clock) (eqb_tests (times_reported h.reports o.ticket) 1))
     (staying_orders h)
-three_tested gives s calls not_reported =
+three_tested gives s calls not_reported other =
     let h : Past = past gives s calls in
     every_tests
     (λ o. where_so_tests (leb_tests h.clock (start_of gives h o)) (eqb_tests (times_reported h.reports o.ticket) 0))
     (staying_orders h)
-three_tested gives s calls waits =
+three_tested gives s calls waits other =
     let h : Past = past gives s calls in
     every_tests
     (λ o.
     where_so_tests (leb_tests h.clock (start_of gives h o))
     (same_answer_lem (enquiry gives h o.ticket) (waiting (start_of gives h o) o.rate)))
     (staying_orders h)
-three_tested gives s calls charges =
+three_tested gives s calls charges other =
     let h : Past = past gives s calls in
     every_tests
     (λ o.
@@ -169,20 +173,21 @@ three_tested gives s calls charges =
     (where_so_tests (ltb_tests h.clock (active_until gives h o))
     (same_answer_lem (enquiry gives h o.ticket) (charging (start_of gives h o) (end_of gives h o) o.rate))))
     (staying_orders h)
-three_tested gives s calls finished =
+three_tested gives s calls finished other =
     let h : Past = past gives s calls in
     every_tests
     (λ o. where_so_tests (leb_tests (active_until gives h o) h.clock) (same_answer_lem (enquiry gives h o.ticket) (refused 15)))
     (staying_orders h)
-three_tested gives s calls gone_not_reported =
+three_tested gives s calls gone_not_reported other =
     let h : Past = past gives s calls in
     every_tests (λ o. eqb_tests (times_reported h.reports o.ticket) 0) (withdrawn_orders h)
-three_tested gives s calls gone_not_held =
+three_tested gives s calls gone_not_held other =
     let h : Past = past gives s calls in
     every_tests (λ o. same_answer_lem (enquiry gives h o.ticket) (refused 15)) (withdrawn_orders h)
-three_tested gives s calls no_other =
+three_tested gives s calls no_other other =
     every_reported (λ t. some (λ (o : Order). eqb o.ticket t) (past gives s calls).orders) (past gives s calls).reports
-three_tested gives s calls unmoved =
+three_tested gives s calls no_other_found other = absurd (false≢true (sym other))
+three_tested gives s calls unmoved other =
     let there : Past = past gives s calls in
     let each = after_each_lem (unmoved_from gives there) gives (beginning s) calls in
     let at : (here : Past) → Tests (unmoved_from gives there here) (Each (Unmoved gives here there) (staying_orders here))
@@ -194,3 +199,49 @@ three_tested gives s calls unmoved =
       (λ e part rest q. (at (past gives s part)).0 (each.0 e part rest q)),
       (λ p. each.1 (λ part rest q. (at (past gives s part)).1 (p part rest q))),
     )
+
+-- The charges held
+
+-- a ticket that no order has is not that of a charge, where each charge is of an order
+none_has :
+    (h : Past) (t : ℕ) (cs : List Charge)
+    → every (charge_ordered h) cs ≡ true
+    → some (λ (o : Order). eqb o.ticket t) h.orders ≡ false
+    → some (has_ticket t) cs ≡ false
+none_has h t [] e n = refl
+none_has h t (c ∷ cs) e n =
+    go (eqb c.ticket t) refl (none_has h t cs (and_right (charge_ordered h c) (every (charge_ordered h) cs) e) n)
+  where
+    go : (b : Bool) → eqb c.ticket t ≡ b → some (has_ticket t) cs ≡ false → b || some (has_ticket t) cs ≡ false
+    go true q rest =
+        let same : c.ticket ≡ t = eqb-true c.ticket t q in
+        absurd (false≢true (sym n ∙ rw same at (and_left (charge_ordered h c) (every (charge_ordered h) cs) e)))
+    go false q rest = rest
+
+pub found_tested :
+    (gives : Gives) (s : State) (calls : List Call)
+    → RefusesOthers gives
+    → tested gives s calls no_other_found ≡ true
+    → Holds gives s calls no_other_found
+found_tested gives s calls refuses e t n =
+    let h : Past = past gives s calls in
+    refuses h.station t (none_has h t (site_charges h.station) e n)
+
+pub charges_only : (f : Field) → by_charges f ≡ true → f ≡ no_other_found
+charges_only limit e = absurd (false≢true e)
+charges_only balance e = absurd (false≢true e)
+charges_only site e = absurd (false≢true e)
+charges_only feeders e = absurd (false≢true e)
+charges_only tickets e = absurd (false≢true e)
+charges_only not_early e = absurd (false≢true e)
+charges_only in_time e = absurd (false≢true e)
+charges_only reported e = absurd (false≢true e)
+charges_only not_reported e = absurd (false≢true e)
+charges_only waits e = absurd (false≢true e)
+charges_only charges e = absurd (false≢true e)
+charges_only finished e = absurd (false≢true e)
+charges_only gone_not_reported e = absurd (false≢true e)
+charges_only gone_not_held e = absurd (false≢true e)
+charges_only no_other e = absurd (false≢true e)
+charges_only unmoved e = absurd (false≢true e)
+charges_only no_other_found e = refl

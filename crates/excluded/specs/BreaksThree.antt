@@ -7,13 +7,13 @@ use Rattle.rules.specs.Calls.{settings, Asked, Call, move, board, withdraw, open
 use Rattle.guarantee.specs.Past.{Gives}
 use Rattle.excluded.specs.Same.{same_state}
 use Rattle.excluded.specs.WrongOrders.{own_line_only, neighbours_only, limit_ignored, charges_counted, rates_in_limit_only, tails_left_out, tails_in_limit_only, fixed_start, preview_takes_ticket, shown_before_taken, ticket_skipped, site_ignored, own_feeder_only, begun_others_only, site_only_at_its_start, first_feeder, zero_for_one}
-use Rattle.excluded.specs.WrongMoves.{start_at_clock_left_out, first_report_only, reported_twice, start_at_target_reported, nobody_reported, slow_clock, dropped_early, dropped_late, dropped_at_its_end, never_dropped, shown_late, shown_begun, shown_early, end_with_tail}
+use Rattle.excluded.specs.WrongMoves.{start_at_clock_left_out, first_report_only, reported_twice, start_at_target_reported, nobody_reported, stranger_held, slow_clock, dropped_early, dropped_late, dropped_at_its_end, never_dropped, shown_late, shown_begun, shown_early, end_with_tail}
 use Rattle.excluded.specs.WrongBoards.{board_takes_ticket}
 use Rattle.excluded.specs.WrongWithdrawals.{balance_untested, begun_withdrawn, ticket_given_again, withdrawn_held}
 use Rattle.excluded.specs.WrongPlans.{untested, rate_lost, begun_moved}
 use Rattle.excluded.specs.WrongRestores.{begun_forgotten, tickets_given_again, clock_lost}
 use Rattle.excluded.specs.Stations.{pair_of}
-use Rattle.excluded.specs.FieldsThree.{Field, limit, balance, site, feeders, tickets, not_early, in_time, reported, not_reported, waits, charges, finished, gone_not_reported, gone_not_held, no_other, unmoved, fields, place, Holds}
+use Rattle.excluded.specs.FieldsThree.{Field, limit, balance, site, feeders, tickets, not_early, in_time, reported, not_reported, waits, charges, finished, gone_not_reported, gone_not_held, no_other, no_other_found, unmoved, fields, place, Holds}
 use Rattle.excluded.specs.Breaks.{Entry, agrees_by, only_of}
 use Rattle.excluded.specs.TestsThree.{tested}
 
@@ -147,6 +147,10 @@ wrong_entries =
     ∷ only zero_for_one one (from_on 0 1 0 ∷ []) (feeders ∷ [])
     ∷ []
 
+-- no order was accepted, and an enquiry of ticket 65,536 finds a charge
+abbrev pub stranger : Breach
+stranger = only stranger_held one (to 1 ∷ []) (no_other_found ∷ [])
+
 -- what an opening asks for that leads to this site
 abbrev pub asked_for : State → Asked
 asked_for s =
@@ -163,5 +167,8 @@ is_opened s = same_state (opening (asked_for s)).state s
 abbrev pub by_rules : Breach → Breach
 by_rules e = only step e.thing.first e.thing.calls []
 
+abbrev pub all_wrong : List Breach
+all_wrong = stranger ∷ wrong_entries
+
 abbrev pub entries : List Breach
-entries = wrong_entries ++ map by_rules wrong_entries
+entries = all_wrong ++ map by_rules all_wrong

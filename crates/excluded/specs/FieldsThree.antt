@@ -1,5 +1,5 @@
 -- The fields of demand 3 one by one.
-use Rattle.std.specs.Prelude.{◌≡◌, ℕ, ◌+◌, ◌≤◌, ◌<◌, true, List, [], ◌∷◌, ◌++◌, eqb}
+use Rattle.std.specs.Prelude.{◌≡◌, ℕ, ◌+◌, ◌≤◌, ◌<◌, true, false, List, [], ◌∷◌, ◌++◌, eqb}
 use Rattle.rules.specs.Basics.{Each, some}
 use Rattle.rules.specs.Load.{IsLine}
 use Rattle.rules.specs.Site.{State, feeder_of}
@@ -25,6 +25,7 @@ pub data Field : Type 0 where
   gone_not_held : Field
   in_time : Field
   no_other : Field
+  no_other_found : Field
   unmoved : Field
 
 abbrev pub fields : List Field
@@ -44,6 +45,7 @@ fields =
     ∷ gone_not_held
     ∷ in_time
     ∷ no_other
+    ∷ no_other_found
     ∷ unmoved
     ∷ []
 
@@ -64,7 +66,8 @@ place gone_not_reported = 11
 place gone_not_held = 12
 place in_time = 13
 place no_other = 14
-place unmoved = 15
+place no_other_found = 15
+place unmoved = 16
 
 -- what a field says; all together they are demand 3 (`three_fields` in proofs/FieldsThree.antt)
 abbrev pub Holds : Gives → State → List Call → Field → Type 0
@@ -115,6 +118,10 @@ Holds gives s calls no_other =
     (t : ℕ)
     → 1 ≤ times_reported (past gives s calls).reports t
     → some (λ (o : Order). eqb o.ticket t) (past gives s calls).orders ≡ true
+Holds gives s calls no_other_found =
+    (t : ℕ)
+    → some (λ (o : Order). eqb o.ticket t) (past gives s calls).orders ≡ false
+    → enquiry gives (past gives s calls) t ≡ refused 15
 Holds gives s calls unmoved =
     (part rest : List Call)
     → calls ≡ part ++ rest

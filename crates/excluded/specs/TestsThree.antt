@@ -1,14 +1,16 @@
--- A test of each field of demand 3 that computes on a list of calls. Each is true exactly where its field holds:
--- `three_tested` in proofs/TestsThree.antt.
-use Rattle.std.specs.Prelude.{ℕ, suc, ◌+◌, Bool, true, ◌&&◌, List, [], ◌∷◌, map, ltb, leb, eqb, length}
+-- A test of each field of demand 3 that computes on a list of calls. Each is true exactly where its field holds (`three_tested` in
+-- proofs/TestsThree.antt), but for one. No test of finitely many enquiries tells that no ticket but those of orders is found: that test
+-- looks at the charges held, and tells it of stations that refuse an enquiry where no charge has the ticket (`found_tested`).
+use Rattle.std.specs.Prelude.{◌≡◌, ℕ, suc, ◌+◌, Bool, true, false, ◌&&◌, List, [], ◌∷◌, map, ltb, leb, eqb, length}
 use Rattle.rules.specs.Basics.{throughout, some}
 use Rattle.rules.specs.Load.{Load}
-use Rattle.rules.specs.Site.{State, feeder_of}
-use Rattle.rules.specs.Calls.{refused, waiting, charging, Call}
+use Rattle.rules.specs.Charge.{Charge, has_ticket}
+use Rattle.rules.specs.Site.{State, feeder_of, site_charges}
+use Rattle.rules.specs.Calls.{refused, waiting, charging, Call, enquire}
 use Rattle.guarantee.specs.Past.{Gives, Order, Report, Past, beginning, extended, past, staying_orders, withdrawn_orders, on_feeder, times_reported, enquiry, start_of, end_of, active_until, load_of, total_time, last_minute}
 use Rattle.excluded.specs.Same.{every, where_so, same_answer}
 use Rattle.excluded.specs.Minutes.{limit_from, balance_from, site_from}
-use Rattle.excluded.specs.FieldsThree.{Field, limit, balance, site, feeders, tickets, not_early, in_time, reported, not_reported, waits, charges, finished, gone_not_reported, gone_not_held, no_other, unmoved}
+use Rattle.excluded.specs.FieldsThree.{Field, limit, balance, site, feeders, tickets, not_early, in_time, reported, not_reported, waits, charges, finished, gone_not_reported, gone_not_held, no_other, no_other_found, unmoved, place}
 
 abbrev pub numbered : ℕ → List Order → Bool
 numbered i [] = true
@@ -25,6 +27,10 @@ unmoved_from gives there here =
 
 abbrev pub reported_order : Past → Report → Bool
 reported_order h r = some (λ (o : Order). eqb o.ticket r.ticket) h.orders
+
+-- a charge that is held is of an accepted order
+abbrev pub charge_ordered : Past → Charge → Bool
+charge_ordered h c = some (λ (o : Order). eqb o.ticket c.ticket) h.orders
 
 -- of each feeder by its number
 abbrev pub on_each : State → (ℕ → Bool) → Bool
@@ -73,7 +79,17 @@ tested_on gives s calls h gone_not_reported =
 tested_on gives s calls h gone_not_held =
     every (λ o. same_answer (enquiry gives h o.ticket) (refused 15)) (withdrawn_orders h)
 tested_on gives s calls h no_other = every (reported_order h) h.reports
+tested_on gives s calls h no_other_found = every (charge_ordered h) (site_charges h.station)
 tested_on gives s calls h unmoved = after_each (unmoved_from gives h) gives (beginning s) calls
 
 abbrev pub tested : Gives → State → List Call → Field → Bool
 tested gives s calls f = tested_on gives s calls (past gives s calls) f
+
+-- the field whose test goes by the charges held
+abbrev pub by_charges : Field → Bool
+by_charges f = eqb (place f) (place no_other_found)
+
+-- an enquiry is refused where no charge that is held has the ticket
+abbrev pub RefusesOthers : Gives → Type 0
+RefusesOthers gives =
+    (s : State) (t : ℕ) → some (has_ticket t) (site_charges s) ≡ false → (gives s (enquire t)).answer ≡ refused 15

@@ -6,7 +6,7 @@ use Rattle.rules.specs.Search.{earliest}
 use Rattle.rules.specs.Site.{Feeder, State, charges_on, site_charges, limits_of, with_charges}
 use Rattle.rules.specs.Calls.{moved, Result, new_charge, is_passed, start_before, pairs, written, enquiring}
 use Rattle.guarantee.specs.Past.{Gives}
-use Rattle.excluded.specs.Parts.{with_moves, with_search_and_moves, with_enquiries, saying, ticketing, clocking, feeders_by, put_off, tail_charged, charges_by}
+use Rattle.excluded.specs.Parts.{with_moves, with_search_and_moves, with_enquiries, saying, leaving, ticketing, clocking, feeders_by, put_off, tail_charged, charges_by}
 
 -- a move that reports the charges for which `passed` holds of the old clock and the target, and others after them, and drops
 -- what is finished at another minute
@@ -44,6 +44,15 @@ start_at_target_reported = with_moves (reporting (λ clock target c. is_passed c
 -- each report ends with a ticket that nobody has
 abbrev pub nobody_reported : Gives
 nobody_reported = with_moves (λ s target list. moved_by is_passed (new_charge (ticketing 65536 s) 1 1 1 1 1 0 ∷ []) (λ g. target) s target list)
+
+-- a move leaves a charge of a ticket that nobody has on each feeder, and an enquiry finds it
+abbrev pub stranger_held : Gives
+stranger_held =
+    with_moves
+    (λ s target list.
+    let r : Result = moved_by is_passed [] (λ g. target) s target list in
+    let stranger : Charge = new_charge (ticketing 65536 r.state) 1 1 1 1 1 target in
+    leaving (feeders_by (λ g. with_charges g (g.charges ++ (stranger ∷ []))) r.state) r)
 
 -- a clock that is a minute slow, for orders and for reports: charges start before their order minute
 abbrev pub slow_clock : Gives
