@@ -5,7 +5,8 @@ use mathlib.Core.List.{List}
 use Rattle.rules.specs.Basics.{Each}
 use Rattle.excluded.specs.Same.{every}
 use Rattle.excluded.specs.Breaks.{Entry, Exactly, agrees_by}
-use Rattle.excluded.proofs.Tests.{Tests, both_tests, every_tests, not_tests}
+use Rattle.excluded.specs.LawsOfTests.{Tests}
+use Rattle.excluded.proofs.Tests.{both_tests, every_tests, not_tests}
 
 module _
     (Thing : Type 0) (Field : Type 0) (Holds : Thing → Field → Type 0) (test : Thing → Field → Bool)

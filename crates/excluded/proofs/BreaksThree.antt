@@ -11,26 +11,27 @@ use Rattle.rules.specs.Search.{earliest}
 use Rattle.rules.specs.Replan.{place_all, latest}
 use Rattle.rules.specs.Judgement.{judged}
 use Rattle.rules.specs.Charge.{Charge, is_waiting, waiting_charges, has_ticket}
-use Rattle.rules.specs.Site.{Feeder, State, with_charges, joined}
-use Rattle.rules.specs.Calls.{refused, waiting, Call, opening, previewing, committing, moving, offering, replanning_latest, enquiring, boarding, withdrawing, step}
+use Rattle.rules.specs.Site.{Feeder, with_charges, joined}
+use Rattle.rules.specs.Calls.{refused, waiting, opening, previewing, committing, moving, offering, replanning_latest, enquiring, boarding, withdrawing, step}
 use Rattle.rules.proofs.Ranges.{and_left, and_right, or_left, or_right}
 use Rattle.rules.proofs.Lists.{each_append, each_map, some_append}
 use Rattle.guarantee.specs.DemandThree.{DemandThree}
 use Rattle.guarantee.proofs.DemandThree.{demand_three}
 use Rattle.guarantee.proofs.Each.{each_image}
 use Rattle.excluded.specs.Same.{every}
-use Rattle.excluded.specs.Breaks.{Exactly, alone_in}
-use Rattle.excluded.specs.FieldsThree.{Field, no_other_found, fields, place}
+use Rattle.excluded.specs.Breaks.{Exactly}
+use Rattle.excluded.specs.FieldsThree.{Field, no_other_found, fields}
 use Rattle.excluded.specs.TestsThree.{by_charges, RefusesOthers}
-use Rattle.excluded.specs.BreaksThree.{Trial, HoldsOf, test_of, agrees, Breach, only, one, to, stranger, wrong_entries, asked_for, is_opened, by_rules, all_wrong, entries}
+use Rattle.excluded.specs.BreaksThree.{Trial, HoldsOf, test_of, agrees, Breach, one, to, stranger, wrong_entries, asked_for, is_opened, by_rules, all_wrong}
 use Rattle.excluded.specs.WrongMoves.{stranger_held}
+use Rattle.excluded.specs.LawsOfEntries.{EntriesOfListsAgree, RulesBreakNone, ExactlyTheseOfLists, EachAloneOfLists}
 use Rattle.excluded.proofs.Tests.{is_true, every_tests, not_tests}
 use Rattle.excluded.proofs.Same.{same_state_lem}
 use Rattle.excluded.proofs.FieldsThree.{three_fields}
 use Rattle.excluded.proofs.TestsThree.{three_tested, charges_only, found_tested}
 
 -- the checker computes every test on every list
-pub entries_hold : every agrees all_wrong ≡ true
+pub entries_hold : EntriesOfListsAgree
 unfolding limited within_site balanced sound earliest place_all latest judged opening previewing committing moving offering replanning_latest enquiring boarding withdrawing
 entries_hold = refl
 
@@ -285,7 +286,7 @@ each_of P h [] = tt
 each_of P h (a ∷ l) = (h a, each_of P h l)
 
 -- the rules break no field, on any list of calls: that is demand 3 of them
-rules_exactly : (s : State) (calls : List Call) → is_opened s ≡ true → Exactly Trial Field HoldsOf (only step s calls [])
+pub rules_exactly : RulesBreakNone
 rules_exactly s calls e =
     let d : DemandThree step s calls =
     subst (λ t. DemandThree step t calls) ((same_state_lem (opening (asked_for s)).state s).0 e) (demand_three (asked_for s) calls) in
@@ -293,7 +294,7 @@ rules_exactly s calls e =
     record { breaks = tt; keeps = each_of (HoldsOf (record { gives = step; first = s; calls = calls })) holds fields }
 
 -- so each wrong station breaks the fields that its entry names, and no other, and the rules break none
-pub exactly_three : Each (Exactly Trial Field HoldsOf) entries
+pub exactly_three : ExactlyTheseOfLists
 exactly_three =
     each_append (Exactly Trial Field HoldsOf) all_wrong (map by_rules all_wrong) (
       stranger_exactly (and_left (agrees stranger) (every agrees wrong_entries) entries_hold),
@@ -305,5 +306,5 @@ exactly_three =
     ((every_tests (λ (e : Breach). is_true (is_opened e.thing.first)) all_wrong).0 first_opened)))
 
 -- `begun_moved` breaks several fields; each field is broken alone by another station
-pub alone_three : every (alone_in place all_wrong) fields ≡ true
+pub alone_three : EachAloneOfLists
 alone_three = refl

@@ -1,5 +1,4 @@
 -- The fields of demand 3 one by one are demand 3.
-use mathlib.Core.Logic.{◌↔◌}
 use mathlib.Core.List.{List}
 use Rattle.rules.specs.Site.{State}
 use Rattle.rules.specs.Calls.{Call}
@@ -8,6 +7,7 @@ use Rattle.guarantee.specs.DemandThree.{DemandThree}
 use Rattle.rules.proofs.Lists.{each_both}
 use Rattle.guarantee.proofs.Each.{each_in}
 use Rattle.excluded.specs.FieldsThree.{Field, limit, balance, site, feeders, tickets, not_early, in_time, reported, not_reported, waits, charges, finished, gone_not_reported, gone_not_held, no_other, no_other_found, unmoved, Holds}
+use Rattle.excluded.specs.LawsOfFields.{ListIsItsFields}
 
 module _ (gives : Gives) (s : State) (calls : List Call) where
   field_holds : DemandThree gives s calls → (f : Field) → Holds gives s calls f
@@ -62,5 +62,5 @@ module _ (gives : Gives) (s : State) (calls : List Call) where
         unmoved = d unmoved;
       }
 
-  pub three_fields : DemandThree gives s calls ↔ ((f : Field) → Holds gives s calls f)
-  three_fields = (field_holds, fields_hold)
+pub three_fields : ListIsItsFields
+three_fields gives s calls = (field_holds gives s calls, fields_hold gives s calls)

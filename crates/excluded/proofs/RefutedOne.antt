@@ -18,6 +18,8 @@ use Rattle.excluded.specs.WrongOrders.{shown_as_waiting, any_sound_start, shown_
 use Rattle.excluded.specs.WrongRefusals.{line_accepted, last_row, lowest_number, any_order_asked, rate_above_bound, shown_first, other_number, always_full, hurry_refused, standstill_refused, ticket_used_up, list_cleared, ticket_not_said, opened_as_asked, opening_writes, limit_said, percent_lost, zero_bound, small_product_refused, rounded_down, long_tail_opened, tail_looked_at_first, refused_tail_kept, tail_lost, places_once, any_site}
 use Rattle.excluded.specs.WrongWithdrawals.{balance_untested, begun_withdrawn, rest_looked_at_first, start_at_clock_refused}
 use Rattle.excluded.specs.Stations.{station, station_two, station_f, station_h, pair_of, pair_fresh}
+use Rattle.excluded.specs.LawsOfWrongCalls.{WrongCallsAreExcluded}
+use Rattle.excluded.specs.LawsOfWrongCalls.{WrongOpeningsAreExcluded}
 use Rattle.guarantee.proofs.Tables.{first_of_is, is_first_of}
 
 -- Calls to a fresh station of 1, 100
@@ -279,3 +281,46 @@ any_site_lem d =
     let h : opened (1 ∷ 1 ∷ []) ≡ refused 28 = (d.refused_by.number 28).1 (first_of_is 27 (open_refusals (pair_of 721 1 100)) refl) in
     let z : ◌≡◌ {A = ℕ} 0 1 = cc in
     omega arith
+
+pub calls_excluded : WrongCallsAreExcluded
+calls_excluded = (
+  line_accepted_lem,
+  last_row_lem,
+  lowest_number_lem,
+  last_row_asked,
+  any_order_asked_lem,
+  rate_above_bound_lem,
+  any_sound_start_lem,
+  shown_ignored_lem,
+  other_number_lem,
+  shown_first_lem,
+  balance_untested_lem,
+  begun_withdrawn_lem,
+  rest_looked_at_first_lem,
+  start_at_clock_refused_lem,
+  always_full_lem,
+  hurry_refused_lem,
+  standstill_refused_lem,
+  ticket_used_up_lem,
+  list_cleared_lem,
+  shown_as_waiting_lem,
+  ticket_not_said_lem,
+  zero_for_one_lem,
+  places_once_lem,
+)
+
+pub openings_excluded : WrongOpeningsAreExcluded
+openings_excluded = (
+  zero_bound_lem,
+  small_product_refused_lem,
+  opened_as_asked_lem,
+  opening_writes_lem,
+  limit_said_lem,
+  percent_lost_lem,
+  rounded_down_lem,
+  long_tail_opened_lem,
+  tail_looked_at_first_lem,
+  refused_tail_kept_lem,
+  tail_lost_lem,
+  any_site_lem,
+)

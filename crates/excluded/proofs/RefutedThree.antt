@@ -18,6 +18,7 @@ use Rattle.excluded.specs.WrongWithdrawals.{balance_untested, begun_withdrawn, t
 use Rattle.excluded.specs.WrongPlans.{untested, rate_lost, begun_moved}
 use Rattle.excluded.specs.WrongRestores.{begun_forgotten, tickets_given_again, clock_lost}
 use Rattle.excluded.specs.BreaksThree.{one, two, two_even, four, one_tailed, two_tailed, from, from_rated, single, four_orders, from_on, pair, pair_wide}
+use Rattle.excluded.specs.LawsOfWrongLists.{WrongListsAreExcluded}
 use Rattle.excluded.proofs.Refuting.{feeder_one, line_one, line_two, line_three}
 
 -- Limit, balance and tickets
@@ -266,3 +267,47 @@ first_feeder_lem d = let h : 2 ≤ 1 = d.limit 2 1 0 (record { low = omega arith
 zero_for_one_lem : DemandThree zero_for_one one (from_on 0 1 0 ∷ []) → ⊥
 unfolding limited within_site balanced sound earliest opening committing enquiring
 zero_for_one_lem d = let h : 1 ≤ 0 = d.feeders.0.low in omega arith
+
+pub lists_excluded : WrongListsAreExcluded
+lists_excluded = (
+  limit_ignored_lem,
+  fixed_start_lem,
+  own_line_only_lem,
+  neighbours_only_lem,
+  charges_counted_lem,
+  rates_in_limit_only_lem,
+  tails_left_out_lem,
+  tails_in_limit_only_lem,
+  ticket_skipped_lem,
+  preview_takes_ticket_lem,
+  board_takes_ticket_lem,
+  slow_clock_lem,
+  shown_before_taken_lem,
+  ends_later,
+  start_at_clock_left_out_lem,
+  first_report_only_lem,
+  reported_twice_lem,
+  start_at_target_reported_lem,
+  shown_begun_lem,
+  rate_lost_lem,
+  shown_late_lem,
+  dropped_early_lem,
+  dropped_at_its_end_lem,
+  end_with_tail_lem,
+  begun_moved_lem,
+  dropped_late_lem,
+  never_dropped_lem,
+  nobody_reported_lem,
+  stranger_held_lem,
+  shown_early_lem,
+  begun_forgotten_lem,
+  tickets_given_again_lem,
+  clock_lost_lem,
+  balance_untested_lem,
+  begun_withdrawn_lem,
+  withdrawn_held_lem,
+  ticket_given_again_lem,
+  own_feeder_only_lem,
+  first_feeder_lem,
+  zero_for_one_lem,
+)

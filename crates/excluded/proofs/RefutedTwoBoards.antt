@@ -13,6 +13,7 @@ use Rattle.guarantee.specs.DemandTwo.{shown_by, DemandTwo}
 use Rattle.excluded.specs.WrongBoards.{asked_counted, zero_for_not_held, stops_at_not_held, later_cleared, board_takes_ticket}
 use Rattle.excluded.specs.Stations.{begun_and_waiting}
 use Rattle.excluded.specs.BreaksTwoBoards.{asked, list}
+use Rattle.excluded.specs.LawsOfWrongPlans.{WrongBoardsAreExcluded}
 
 -- `answer`: two charges have a ticket up to 3, and three tickets are asked for
 asked_counted_lem : DemandTwo asked_counted begun_and_waiting → ⊥
@@ -52,3 +53,12 @@ unfolding boarding
 board_takes_ticket_lem d =
     let h : ◌≡◌ {A = ℕ} 6 5 = ap (λ (s : State). s.next) (d.boards asked list).same_station in
     omega arith
+
+pub boards_excluded : WrongBoardsAreExcluded
+boards_excluded = (
+  asked_counted_lem,
+  zero_for_not_held_lem,
+  stops_at_not_held_lem,
+  later_cleared_lem,
+  board_takes_ticket_lem,
+)

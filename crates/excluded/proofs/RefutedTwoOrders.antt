@@ -18,6 +18,7 @@ use Rattle.excluded.specs.WrongOrders.{own_line_only, limit_ignored, queued, las
 use Rattle.excluded.specs.WrongMoves.{slow_clock}
 use Rattle.excluded.specs.Starts.{is_earliest}
 use Rattle.excluded.specs.Stations.{station, station_five, station_three, station_two, station_h, station_pair}
+use Rattle.excluded.specs.LawsOfWrongPlans.{WrongOrdersAreExcluded}
 use Rattle.excluded.proofs.Refuting.{line_one, line_two}
 use Rattle.excluded.proofs.TestsMinutes.{plan_tests}
 use Rattle.excluded.proofs.TestsStarts.{earliest_tests}
@@ -163,3 +164,22 @@ others_put_off_lem d =
     ((commit_start others_put_off station_h 1 2 10 60 1 0 d refl).others_same
     (commit_earliest others_put_off station_h 1 2 10 60 1 0 d refl refl)) in
     omega arith
+
+pub orders_excluded : WrongOrdersAreExcluded
+orders_excluded = (
+  shown_as_waiting_lem,
+  slow_clock_lem,
+  limit_ignored_lem,
+  own_line_only_lem,
+  queued_order,
+  last_end_shown_lem,
+  own_feeder_only_lem,
+  preview_takes_ticket_lem,
+  preview_writes_lem,
+  other_ticket_lem,
+  other_number_lem,
+  shown_ignored_lem,
+  any_sound_start_lem,
+  shown_before_taken_lem,
+  others_put_off_lem,
+)

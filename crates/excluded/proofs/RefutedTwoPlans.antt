@@ -19,6 +19,7 @@ use Rattle.guarantee.specs.DemandTwo.{Better, Taken, GivenStarts, DemandTwo}
 use Rattle.excluded.specs.WrongPlans.{untested, never_taken, offer_cleared, taken_later, begun_put_off, line_changed, rate_lost, taken_for_ticket, kept_for_ticket, late_with_tails, always_kept, spent_after_none, by_latest_start_in_lines, rounds_invented, tested_alone}
 use Rattle.excluded.specs.Stations.{station, station_four, station_h, station_short, station_h_two, station_tailed, station_rated, waiting_since, begun_and_waiting, station_beside}
 use Rattle.excluded.specs.BreaksTwoPlans.{offer_j}
+use Rattle.excluded.specs.LawsOfWrongPlans.{WrongPlansAreExcluded}
 use Rattle.guarantee.proofs.Taking.{not_taken}
 use Rattle.guarantee.proofs.DemandTwo.{demand_two}
 use Rattle.excluded.proofs.Refuting.{line_one, line_two}
@@ -188,3 +189,26 @@ rounds_invented_lem d =
     let h : planned 7 0 0 3 ≡ planned 7 0 0 1 = (d.replans_lines 1 3).answer (refl, (refl, tt)) in
     let z : ◌≡◌ {A = ℕ} 3 1 = cc in
     omega arith
+
+pub plans_excluded : WrongPlansAreExcluded
+plans_excluded = (
+  untested_three,
+  untested_four,
+  untested_five,
+  untested_six,
+  untested_seven,
+  tested_alone_lem,
+  never_taken_lem,
+  taken_later_lem,
+  begun_put_off_lem,
+  line_changed_lem,
+  rate_lost_lem,
+  taken_for_ticket_lem,
+  kept_for_ticket_lem,
+  offer_cleared_lem,
+  late_with_tails_lem,
+  always_kept_lem,
+  spent_after_none_lem,
+  latest_start_in_lines,
+  rounds_invented_lem,
+)

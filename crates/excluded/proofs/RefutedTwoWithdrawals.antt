@@ -11,6 +11,7 @@ use Rattle.guarantee.specs.DemandTwo.{DemandTwo}
 use Rattle.excluded.specs.WrongRefusals.{ticket_used_up}
 use Rattle.excluded.specs.WrongWithdrawals.{balance_untested, begun_withdrawn, start_at_clock_refused, others_replanned, ticket_given_again, withdrawn_held}
 use Rattle.excluded.specs.Stations.{station_f, station_h}
+use Rattle.excluded.specs.LawsOfWrongPlans.{WrongWithdrawalsAreExcluded}
 use Rattle.excluded.proofs.Refuting.{line_one, line_two}
 use Rattle.excluded.proofs.TestsMinutes.{plan_tests}
 
@@ -65,3 +66,14 @@ ticket_used_up_lem d =
   where
     not_withdrawn : refused 25 ≡ withdrawn → ⊥
     not_withdrawn e = let z : ◌≡◌ {A = ℕ} 0 1 = cc in omega arith
+
+pub withdrawals_excluded : WrongWithdrawalsAreExcluded
+withdrawals_excluded = (
+  balance_untested_lem,
+  begun_withdrawn_lem,
+  start_at_clock_refused_lem,
+  others_replanned_lem,
+  ticket_given_again_lem,
+  withdrawn_held_lem,
+  ticket_used_up_lem,
+)

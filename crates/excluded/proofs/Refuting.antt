@@ -1,16 +1,15 @@
 -- What the refutations of wrong stations share.
-use mathlib.Core.Path.{◌≡◌, refl}
+use mathlib.Core.Path.{refl}
 use Prim.Native.Nat.{◌≤◌}
 use native.Mathlib.Omega.{arith}
 use lib.ListN.{length}
 use Rattle.rules.specs.Load.{IsLine}
 use Rattle.rules.specs.Site.{State}
 use Rattle.rules.specs.Valid.{IsFeeder}
-use Rattle.rules.specs.Calls.{Call, preview, commit, move, offer, replan_latest, replan_lines, enquire, board, withdraw, moving, step}
-use Rattle.excluded.specs.Parts.{with_moves}
+use Rattle.rules.specs.Calls.{preview, commit, move, offer, replan_latest, replan_lines, enquire, board, withdraw}
+use Rattle.excluded.specs.LawsOfStations.{PartsAreTheRules}
 
--- with nothing put in their place, the parts are the rules: a wrong station differs in its one part only
-unaltered : (s : State) (c : Call) → with_moves moving s c ≡ step s c
+pub unaltered : PartsAreTheRules
 unaltered s (preview f line p d rate) = refl
 unaltered s (commit f line p d rate shown) = refl
 unaltered s (move target list) = refl

@@ -11,7 +11,8 @@ use Rattle.rules.specs.Site.{Feeder, State}
 use Rattle.rules.specs.Calls.{Answer, refused, opened, previewed, committed, moved, planned, waiting, charging, looked, withdrawn}
 use Rattle.rules.proofs.Ranges.{and_left, and_right, and_both}
 use Rattle.excluded.specs.Same.{same_each, same_list, in_numbers, same_answer, of_charge, same_charges, of_feeder, same_feeder, of_state, same_state}
-use Rattle.excluded.proofs.Tests.{Tests, eqb_tests}
+use Rattle.excluded.specs.LawsOfTests.{Tests}
+use Rattle.excluded.proofs.Tests.{eqb_tests}
 
 pub same_each_lem :
     {A : Type 0} (same : A → A → Bool) → ((a b : A) → Tests (same a b) (a ≡ b)) → (l m : List A) → Tests (same_each same l m) (l ≡ m)

@@ -1,19 +1,16 @@
 -- An opening and calls lead to each of the stations that are written down.
-use mathlib.Core.Path.{◌≡◌, refl}
-use mathlib.Core.List.{List, [], ◌∷◌, ◌++◌}
+use mathlib.Core.Path.{refl}
+use mathlib.Core.List.{[], ◌∷◌, ◌++◌}
 use Rattle.rules.specs.Load.{limited, within_site, balanced, sound}
 use Rattle.rules.specs.Search.{earliest}
 use Rattle.rules.specs.CasesAToL.{orders_e, orders_h}
-use Rattle.rules.specs.Site.{State}
 use Rattle.rules.specs.Entry.{lent_list, one_feeder, commit}
 use Rattle.rules.specs.Calls as calls
 use Rattle.rules.specs.Calls.{Asked, Call, move, withdraw, opening, committing, moving, withdrawing}
 use Rattle.guarantee.specs.Demands.{reached}
 use Rattle.excluded.specs.Stations.{station, station_five, station_three, station_four, station_two, station_h, station_h_two, station_f, station_short, station_tailed, station_rated, waiting_since, begun_and_waiting, pair_of, pair_fresh, station_pair, station_pair_wide, station_site, station_beside, station_gap, station_pair_h}
+use Rattle.excluded.specs.LawsOfStations.{Reached, StationsAreReached}
 use Rattle.excluded.proofs.Same.{same_state_lem}
-
-abbrev Reached : Asked → List Call → State → Type 0
-Reached x calls s = reached x calls ≡ s
 
 station_reached : Reached (one_feeder 1 100 0) [] station
 unfolding opening
@@ -121,3 +118,27 @@ gap_reached =
 pair_h_reached : Reached (pair_of 720 1 100) orders_h station_pair_h
 unfolding limited within_site balanced sound earliest opening committing
 pair_h_reached = (same_state_lem (reached (pair_of 720 1 100) orders_h) station_pair_h).0 refl
+
+pub stations_reached : StationsAreReached
+stations_reached = (
+  station_reached,
+  five_reached,
+  three_reached,
+  four_reached,
+  two_reached,
+  h_reached,
+  h_two_reached,
+  f_reached,
+  short_reached,
+  tailed_reached,
+  rated_reached,
+  waiting_since_reached,
+  begun_and_waiting_reached,
+  pair_fresh_reached,
+  pair_reached,
+  pair_wide_reached,
+  site_reached,
+  beside_reached,
+  gap_reached,
+  pair_h_reached,
+)

@@ -13,10 +13,7 @@ use Rattle.rules.proofs.Ranges.{and_left, and_right, and_both}
 use Rattle.guarantee.specs.DemandOne.{NoneApplies}
 use Rattle.excluded.specs.Same.{every, where_so, same_test}
 use Rattle.excluded.specs.Free.{Free, none_applies, free}
-
--- a test of a fact
-abbrev pub Tests : Bool → Type 0 → Type 0
-Tests b P = (b ≡ true) ↔ P
+use Rattle.excluded.specs.LawsOfTests.{Tests}
 
 pub leb_tests : (a b : ℕ) → Tests (leb a b) (a ≤ b)
 leb_tests a b = (leb-true a b, le-leb a b)

@@ -1,5 +1,4 @@
 -- The test of each field of `Better` is true exactly where the field holds, and the fields one by one are `Better`.
-use mathlib.Core.Logic.{◌↔◌}
 use mathlib.Core.Path.{refl}
 use Rattle.rules.specs.Basics.{Each}
 use Rattle.rules.specs.Load.{last_until}
@@ -8,11 +7,14 @@ use Rattle.rules.specs.Site.{feeder_of, site_charges, others_of}
 use Rattle.guarantee.specs.DemandTwo.{Better}
 use Rattle.excluded.specs.Same.{every}
 use Rattle.excluded.specs.FieldsBetter.{Merit, not_before_clock, not_before_order, unbroken, limit, balance, site, no_later, less_late, merits, Plan, held_of, new_of, last_of, Merits, merited}
+use Rattle.excluded.specs.LawsOfTests.{Tests}
+use Rattle.excluded.specs.LawsOfFields.{BetterIsItsFields}
+use Rattle.excluded.specs.LawsOfTests.{BetterIsTested}
 use Rattle.guarantee.proofs.Taking.{each_unbroken}
-use Rattle.excluded.proofs.Tests.{Tests, leb_tests, ltb_tests, every_tests}
+use Rattle.excluded.proofs.Tests.{leb_tests, ltb_tests, every_tests}
 use Rattle.excluded.proofs.TestsMinutes.{limit_tests, balance_tests, site_tests}
 
-pub better_tested : (x : Plan) (m : Merit) → Tests (merited x m) (Merits x m)
+pub better_tested : BetterIsTested
 better_tested x not_before_clock = every_tests (λ u. leb_tests x.station.clock u) x.list
 better_tested x not_before_order = every_tests (λ c. leb_tests c.order_minute c.start) (new_of x)
 better_tested x unbroken = ((λ e. each_unbroken (new_of x)), (λ p. refl))
@@ -45,9 +47,6 @@ module _ (x : Plan) where
         less_late = h less_late;
       }
 
-  pub better_fields : Better x.station x.feeder x.list (new_of x) ↔ ((m : Merit) → Merits x m)
-  better_fields = (field_merits, merits_better)
-
   every_merit : Each (Merits x) merits → (m : Merit) → Merits x m
   every_merit p not_before_clock = p.0
   every_merit p not_before_order = p.1.0
@@ -67,3 +66,6 @@ module _ (x : Plan) where
     (λ e. merits_better (every_merit ((every_tests (better_tested x) merits).0 e))),
     (λ b. (every_tests (better_tested x) merits).1 (all_merits (field_merits b))),
   )
+
+pub better_fields : BetterIsItsFields
+better_fields x = (field_merits x, merits_better x)

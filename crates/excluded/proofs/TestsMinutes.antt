@@ -13,7 +13,8 @@ use Rattle.rules.proofs.Counts.{count_past, limited_at, limited_all, balanced_at
 use Rattle.rules.proofs.Sites.{last_until_append}
 use Rattle.guarantee.specs.DemandTwo.{SoundPlan}
 use Rattle.excluded.specs.Minutes.{limit_from, balance_from, site_from, plan_sound}
-use Rattle.excluded.proofs.Tests.{Tests, both_tests}
+use Rattle.excluded.specs.LawsOfTests.{Tests}
+use Rattle.excluded.proofs.Tests.{both_tests}
 
 drawn_past : (xs : List Load) (t : ℕ) → last_until xs ≤ t → drawn xs t ≡ 0
 drawn_past [] t h = refl

@@ -9,8 +9,10 @@ use Rattle.rules.specs.Calls.{Answer, refused, opened, previewed, committed, mov
 use Rattle.guarantee.specs.Past.{is_refused}
 use Rattle.guarantee.specs.DemandOne.{FirstIs, AnswerTo}
 use Rattle.excluded.specs.Same.{same_list, same_answer, number_in}
-use Rattle.excluded.specs.FieldsOne.{Field, number, same_station, same_list_lem, answered, Trial, called_on, opened_by, tried, OwnAnswer, Holds, refusal_in, first_in, answers_to, own_answer, tested}
-use Rattle.excluded.proofs.Tests.{Tests, is_true, none_tests, both_tests, either_tests, where_so_tests}
+use Rattle.excluded.specs.FieldsOne.{number, same_station, same_list_lem, answered, Trial, called_on, opened_by, tried, OwnAnswer, refusal_in, first_in, answers_to, own_answer}
+use Rattle.excluded.specs.LawsOfTests.{Tests}
+use Rattle.excluded.specs.LawsOfTests.{CallsAreTested}
+use Rattle.excluded.proofs.Tests.{is_true, none_tests, both_tests, either_tests, where_so_tests}
 use Rattle.excluded.proofs.Same.{same_list_lem as same_lists, same_answer_lem, same_state_lem}
 
 -- The number
@@ -157,7 +159,7 @@ own_tests (opened_by opens x) =
 
 -- Each field
 
-pub one_tested : (r : Trial) (f : Field) → Tests (tested r f) (Holds r f)
+pub one_tested : CallsAreTested
 one_tested r number = number_tests (tried r).result.answer (tried r).rows
 one_tested r same_station =
     where_so_tests (is_true (is_refused (tried r).result.answer)) (same_state_lem (tried r).result.state (tried r).station)

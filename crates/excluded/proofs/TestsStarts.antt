@@ -12,7 +12,8 @@ use Rattle.rules.specs.Site.{State, charges_on}
 use Rattle.rules.proofs.Ranges.{fails, below_or_not, throughout_at, throughout_all}
 use Rattle.guarantee.specs.DemandTwo.{SoundPlan, EarliestStart}
 use Rattle.excluded.specs.Starts.{sound_with, no_earlier, is_earliest}
-use Rattle.excluded.proofs.Tests.{Tests, leb_tests, fails_tests, both_tests}
+use Rattle.excluded.specs.LawsOfTests.{Tests}
+use Rattle.excluded.proofs.Tests.{leb_tests, fails_tests, both_tests}
 use Rattle.excluded.proofs.TestsMinutes.{plan_tests}
 
 module _ (s : State) (f : ℕ) (a : Draw) where

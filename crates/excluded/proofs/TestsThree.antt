@@ -18,9 +18,11 @@ use Rattle.guarantee.specs.Past.{Gives, Order, Report, Past, beginning, extended
 use Rattle.guarantee.specs.DemandThree.{Unmoved}
 use Rattle.excluded.specs.Same.{every}
 use Rattle.excluded.specs.Minutes.{limit_from, balance_from}
-use Rattle.excluded.specs.FieldsThree.{Field, limit, balance, site, feeders, tickets, not_early, in_time, reported, not_reported, waits, charges, finished, gone_not_reported, gone_not_held, no_other, no_other_found, unmoved, Holds}
-use Rattle.excluded.specs.TestsThree.{numbered, after_each, unmoved_from, on_each, is_feeder, loads_on, charge_ordered, tested, by_charges, RefusesOthers}
-use Rattle.excluded.proofs.Tests.{Tests, leb_tests, ltb_tests, eqb_tests, every_tests, both_tests, where_so_tests}
+use Rattle.excluded.specs.FieldsThree.{Field, limit, balance, site, feeders, tickets, not_early, in_time, reported, not_reported, waits, charges, finished, gone_not_reported, gone_not_held, no_other, no_other_found, unmoved}
+use Rattle.excluded.specs.TestsThree.{numbered, after_each, unmoved_from, on_each, is_feeder, loads_on, charge_ordered, by_charges}
+use Rattle.excluded.specs.LawsOfTests.{Tests}
+use Rattle.excluded.specs.LawsOfTests.{ListsAreTested, FoundIsTested}
+use Rattle.excluded.proofs.Tests.{leb_tests, ltb_tests, eqb_tests, every_tests, both_tests, where_so_tests}
 use Rattle.excluded.proofs.TestsMinutes.{limit_tests, balance_tests, site_tests}
 use Rattle.excluded.proofs.Same.{same_answer_lem}
 
@@ -118,10 +120,7 @@ feeder_tests s f =
 
 -- Each field
 
-pub three_tested :
-    (gives : Gives) (s : State) (calls : List Call) (f : Field)
-    → by_charges f ≡ false
-    → Tests (tested gives s calls f) (Holds gives s calls f)
+pub three_tested : ListsAreTested
 three_tested gives s calls limit other =
     let h : Past = past gives s calls in
     let law = each_feeder s
@@ -218,11 +217,7 @@ none_has h t (c ∷ cs) e n =
         absurd (false≢true (sym n ∙ rw same at (and_left (charge_ordered h c) (every (charge_ordered h) cs) e)))
     go false q rest = rest
 
-pub found_tested :
-    (gives : Gives) (s : State) (calls : List Call)
-    → RefusesOthers gives
-    → tested gives s calls no_other_found ≡ true
-    → Holds gives s calls no_other_found
+pub found_tested : FoundIsTested
 found_tested gives s calls refuses e t n =
     let h : Past = past gives s calls in
     refuses h.station t (none_has h t (site_charges h.station) e n)

@@ -1,12 +1,13 @@
 -- The test of each field of demand 2 for boards is true exactly where the field holds, and the fields one by one are what
 -- demand 2 says of a board.
-use mathlib.Core.Logic.{◌↔◌}
 use Rattle.guarantee.specs.DemandTwo.{BoardShown}
-use Rattle.excluded.specs.FieldsTwoBoards.{Field, answer, shown, same_station, Trial, call_of, result_of, answer_of, list_of, Holds, tested}
-use Rattle.excluded.proofs.Tests.{Tests, free_tests}
+use Rattle.excluded.specs.FieldsTwoBoards.{Field, answer, shown, same_station, Trial, call_of, result_of, answer_of, list_of, Holds}
+use Rattle.excluded.specs.LawsOfFields.{BoardIsItsFields}
+use Rattle.excluded.specs.LawsOfTests.{BoardsAreTested}
+use Rattle.excluded.proofs.Tests.{free_tests}
 use Rattle.excluded.proofs.Same.{same_list_lem, same_answer_lem, same_state_lem}
 
-pub boards_tested : (r : Trial) (f : Field) → Tests (tested r f) (Holds r f)
+pub boards_tested : BoardsAreTested
 boards_tested r answer = free_tests r.station (call_of r) (same_answer_lem (result_of r).answer (answer_of r))
 boards_tested r shown = free_tests r.station (call_of r) (same_list_lem (result_of r).list (list_of r))
 boards_tested r same_station = same_state_lem (result_of r).state r.station
@@ -22,8 +23,8 @@ module _ (r : Trial) where
   field_holds o shown = o.shown
   field_holds o same_station = o.same_station
 
-  pub board_fields : Whole ↔ ((f : Field) → Holds r f)
-  board_fields = (
-    field_holds,
-    (λ h. record { answer = h answer; shown = h shown; same_station = h same_station }),
-  )
+pub board_fields : BoardIsItsFields
+board_fields r = (
+  field_holds r,
+  (λ h. record { answer = h answer; shown = h shown; same_station = h same_station }),
+)

@@ -1,11 +1,12 @@
 -- The test of each field of demand 2 for commits is true exactly where the field holds, and the fields one by one are what
 -- demand 2 says of a commit.
-use mathlib.Core.Logic.{◌↔◌}
 use Rattle.rules.specs.Calls.{refused, committed, draw_for}
 use Rattle.guarantee.specs.DemandTwo.{CommitStart}
-use Rattle.excluded.specs.Free.{Free}
-use Rattle.excluded.specs.FieldsTwoCommits.{Field, answer, refusal, others_same, Trial, result_of, order_of, Earliest, taken, Claim, Holds, earliest, test, tested}
-use Rattle.excluded.proofs.Tests.{Tests, free_tests, where_so_tests, same_tests, not_tests}
+use Rattle.excluded.specs.FieldsTwoCommits.{Field, answer, refusal, others_same, Trial, result_of, order_of, Earliest, taken, Claim, earliest, test}
+use Rattle.excluded.specs.LawsOfTests.{Tests}
+use Rattle.excluded.specs.LawsOfFields.{CommitIsItsFields}
+use Rattle.excluded.specs.LawsOfTests.{CommitsAreTested}
+use Rattle.excluded.proofs.Tests.{free_tests, where_so_tests, same_tests, not_tests}
 use Rattle.excluded.proofs.TestsStarts.{earliest_tests}
 use Rattle.excluded.proofs.Same.{same_answer_lem, same_state_lem}
 
@@ -18,7 +19,7 @@ claim_tested r answer =
 claim_tested r refusal = where_so_tests (not_tests (shown_tests r)) (same_answer_lem (result_of r).answer (refused 16))
 claim_tested r others_same = where_so_tests (shown_tests r) (same_state_lem (result_of r).state (taken r))
 
-pub commits_tested : (r : Trial) (f : Field) → Tests (tested r f) (Holds r f)
+pub commits_tested : CommitsAreTested
 commits_tested r f =
     free_tests r.station (order_of r) (claim_tested r f)
 
@@ -33,8 +34,8 @@ module _ (r : Trial) where
   field_holds o refusal = o.refusal
   field_holds o others_same = o.others_same
 
-  pub commit_fields : Free r.station (order_of r) Whole ↔ ((f : Field) → Holds r f)
-  commit_fields = (
-    (λ o f q. field_holds (o q) f),
-    (λ h q. record { answer = h answer q; refusal = h refusal q; others_same = h others_same q }),
-  )
+pub commit_fields : CommitIsItsFields
+commit_fields r = (
+  (λ o f q. field_holds r (o q) f),
+  (λ h q. record { answer = h answer q; refusal = h refusal q; others_same = h others_same q }),
+)

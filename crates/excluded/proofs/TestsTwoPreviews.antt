@@ -1,6 +1,5 @@
 -- The test of each field of demand 2 for previews is true exactly where the field holds, and the fields one by one are what
 -- demand 2 says of a preview.
-use mathlib.Core.Logic.{◌↔◌}
 use mathlib.Core.Path.{◌≡◌, sym, ap, subst, ◌∙◌}
 use Prim.Native.Nat.{ℕ}
 use Rattle.rules.specs.Charge.{loads_of}
@@ -9,13 +8,15 @@ use Rattle.rules.specs.Calls.{previewed, lent, draw_for, refusals}
 use Rattle.guarantee.specs.DemandOne.{NoneApplies}
 use Rattle.guarantee.specs.DemandTwo.{EarliestStart, PreviewStart}
 use Rattle.excluded.specs.Same.{number_in}
-use Rattle.excluded.specs.FieldsTwoPreviews.{Field, answer, not_early, limit, balance, site, earliest, same_station, same_list_lem, Trial, call_of, result_of, start_of, loads_with, Holds, tested}
-use Rattle.excluded.proofs.Tests.{Tests, leb_tests, free_tests}
+use Rattle.excluded.specs.FieldsTwoPreviews.{Field, answer, not_early, limit, balance, site, earliest, same_station, same_list_lem, Trial, call_of, result_of, start_of, loads_with, Holds}
+use Rattle.excluded.specs.LawsOfFields.{PreviewIsItsFields}
+use Rattle.excluded.specs.LawsOfTests.{PreviewsAreTested}
+use Rattle.excluded.proofs.Tests.{leb_tests, free_tests}
 use Rattle.excluded.proofs.TestsMinutes.{limit_tests, balance_tests, site_tests}
 use Rattle.excluded.proofs.TestsStarts.{no_earlier_tests}
 use Rattle.excluded.proofs.Same.{same_list_lem as same_lists, same_answer_lem, same_state_lem}
 
-pub previews_tested : (r : Trial) (f : Field) → Tests (tested r f) (Holds r f)
+pub previews_tested : PreviewsAreTested
 previews_tested r answer = free_tests r.station (call_of r) (same_answer_lem (result_of r).answer (previewed (start_of r)))
 previews_tested r not_early = free_tests r.station (call_of r) (leb_tests r.station.clock (start_of r))
 previews_tested r limit =
@@ -65,22 +66,22 @@ module _ (r : Trial) where
   field_holds o same_station = o.same_station
   field_holds o same_list_lem = o.same_list_lem
 
-  pub preview_fields : Whole ↔ ((f : Field) → Holds r f)
-  preview_fields = (
-    field_holds,
-    (λ h.
-        record {
-          answer =
-              λ q. (
-                start_of r,
-                h answer q,
-                record {
-                  not_early = h not_early q;
-                  sound = record { limit = h limit q; balance = h balance q; site = h site q };
-                  earliest = h earliest q;
-                },
-              );
-          same_station = h same_station;
-          same_list_lem = h same_list_lem;
-        }),
-  )
+pub preview_fields : PreviewIsItsFields
+preview_fields r = (
+  field_holds r,
+  (λ h.
+      record {
+        answer =
+            λ q. (
+              start_of r,
+              h answer q,
+              record {
+                not_early = h not_early q;
+                sound = record { limit = h limit q; balance = h balance q; site = h site q };
+                earliest = h earliest q;
+              },
+            );
+        same_station = h same_station;
+        same_list_lem = h same_list_lem;
+      }),
+)

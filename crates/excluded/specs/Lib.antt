@@ -28,3 +28,10 @@ pub mod BreaksTwoBoards
 pub mod FieldsTwoWithdrawals
 pub mod BreaksTwoWithdrawals
 pub mod BreaksThree
+pub mod LawsOfWrongCalls
+pub mod LawsOfWrongPlans
+pub mod LawsOfWrongLists
+pub mod LawsOfFields
+pub mod LawsOfTests
+pub mod LawsOfEntries
+pub mod LawsOfStations
