@@ -76,6 +76,11 @@ told_of Withdrawn = withdrawn
 abbrev pub answer_of : Result Answer Refusal → rules.Answer
 answer_of = answer_by told_of
 
+-- one answer is handed on as another: in the words of the rules it is what it was, whatever words keep it where it is not refused
+abbrev pub HandedOn : {A : Type 0} → (A → Answer → Type 0) → Result A Refusal → Result Answer Refusal → Type 0
+HandedOn {A} told before after =
+    (words : A → rules.Answer) → ((x : A) (y : Answer) → told x y → told_of y ≡ words x) → answer_of after ≡ answer_by words before
+
 -- exactly what one step of the rules gives
 pub record Applies (s : State) (call : Call) (numbers before after : List ℕ) (answer : Result Answer Refusal) (next : Station) : Type 0 where
   pub gives : Gives (step s (call_of call numbers before)) (answer_of answer) next (list_after call numbers after)

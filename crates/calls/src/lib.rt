@@ -4,9 +4,10 @@
 pub mod yard;
 
 ghost use Rattle.std.specs.Prelude.{◌≡◌};
+ghost use Rattle.std.specs.Result.{ForOk};
 ghost use Rattle.station.specs.View.{view, Valid};
 ghost use Rattle.site.specs.Answers.{enquiry_answer};
-ghost use Rattle.calls.specs.Applied.{answer_of, Applies};
+ghost use Rattle.calls.specs.Applied.{answer_of, Applies, HandedOn};
 
 use ordering::Order;
 use ordering::commit::{Committed, commit};
@@ -20,6 +21,7 @@ use site::clock::{Moved, move_clock};
 use site::enquiry::{Enquiry, enquire};
 use site::withdraw::withdraw;
 use station::{Done, Station};
+use yard::Yard;
 
 #[derive(Clone, Copy)]
 pub enum Call {
@@ -89,9 +91,24 @@ pub fn make(
     }
 }
 
-// The same by value: the answer, and the station after the call.
+// What a method of a yard gave, as any call gives it: `told` makes of its answer that of any call.
+fn hand_on<A, F: FnOnce(A) -> Answer>(
+    done: Done<Result<A, Refusal>, Yard>,
+    told: F,
+) -> Done<Result<Answer, Refusal>, Station>
+    requires { ForOk done.answer (F.pre told) }
+    ensures answer { HandedOn (F.post told) done.answer result.answer }
+    ensures station { result.station ≡ done.station.station }
+{
+    Done {
+        answer: done.answer.map(told),
+        station: done.station.station,
+    }
+}
+
+// The same by value, through the methods of a yard: the answer, and the station after the call.
 pub fn apply(
-    mut station: Station,
+    station: Station,
     call: Call,
     numbers: &[u32],
     list: &mut [u32],
@@ -99,6 +116,24 @@ pub fn apply(
     requires { Valid station }
     ensures { Applies (view station) call numbers.now list.old list.new result.answer result.station }
 {
-    let answer = make(&mut station, call, numbers, list);
-    Done { answer, station }
+    let yard = Yard { station };
+    match call {
+        Call::Preview { order } => hand_on(yard.preview(order), Answer::Previewed),
+        Call::Commit { order, shown } => hand_on(yard.commit(order, shown), Answer::Committed),
+        Call::Move { target } => hand_on(yard.move_clock(target, list), Answer::Moved),
+        Call::Offer { feeder } => hand_on(yard.offer(feeder, numbers), Answer::Planned),
+        Call::ReplanLatest { feeder } => hand_on(yard.replan_latest(feeder), Answer::Planned),
+        Call::ReplanLines { feeder, allowance } => {
+            hand_on(yard.replan_lines(feeder, allowance), Answer::Planned)
+        }
+        Call::Enquire { ticket } => {
+            let Done { answer, station } = yard.enquire(ticket);
+            Done {
+                answer: answer_enquiry(answer),
+                station: station.station,
+            }
+        }
+        Call::Board => hand_on(yard.board(numbers, list), Answer::Looked),
+        Call::Withdraw { ticket } => hand_on(yard.withdraw(ticket), |()| Answer::Withdrawn),
+    }
 }
