@@ -22,9 +22,10 @@ use Rattle.layout.proofs.Calling.{feeders_stay}
 use Rattle.layout.proofs.Refusing.{saving_written, saving_several}
 use Rattle.layout.proofs.RoundTrip.{restored_saved}
 use Rattle.layout.proofs.Comparing.{none_differs}
-use Rattle.service.specs.Left.{told, counted, told_over, Left, left, called, Whole}
+use Rattle.service.specs.Left.{told, counted, Left, left, called, Whole}
 use Rattle.bus.specs.Images.{opened_over}
-use Rattle.bus.specs.Chains.{Made, calls, opens, left_by, chained, opened_one, opening_over, result_of, results_of, behind, left_of, left_of_each}
+use Rattle.bus.specs.Chains.{Made, calls, opens, left_by, chained, opened_one, opening_over, result_of, results_of, behind, left_of, left_of_each, ChainsAfterAnOpening}
+use Rattle.bus.specs.Returns.{NoBlockDiffers}
 
 -- A refusal keeps the station
 
@@ -87,7 +88,7 @@ called_saved s numbers c v =
     ∙ left_of_lem s numbers (step s c) (refused_stays s c)
 
 -- an opening over an image of the right size, whatever it holds
-opened_left : (numbers image : List ℕ) (x : Asked) → Whole image → opened_over numbers image x ≡ left numbers image (opened_one x)
+pub opened_left : (numbers image : List ℕ) (x : Asked) → Whole image → opened_over numbers image x ≡ left numbers image (opened_one x)
 unfolding opened_over
 opened_left numbers image x h = go (has_one (opening x).state) refl
   where
@@ -98,7 +99,7 @@ opened_left numbers image x h = go (has_one (opening x).state) refl
 abbrev keeping : State → Result → Bool → Result
 keeping s r b = cond b (record { answer = r.answer; state = s; list = r.list }) r
 
-kept_left :
+pub kept_left :
     (s : State) (numbers : List ℕ) (r : Result) (b : Bool)
     → (told r.answer).is_refused ≡ b
     → left numbers (image_of s) r ≡ left_of s numbers (keeping s r b)
@@ -106,7 +107,7 @@ unfolding left
 kept_left s numbers r true e = rw e
 kept_left s numbers r false e = rw e
 
-opened_saved : (s : State) (numbers : List ℕ) (x : Asked) → opened_over numbers (image_of s) x ≡ left_of s numbers (opening_over s x)
+pub opened_saved : (s : State) (numbers : List ℕ) (x : Asked) → opened_over numbers (image_of s) x ≡ left_of s numbers (opening_over s x)
 opened_saved s numbers x =
     opened_left numbers (image_of s) x (image_length s)
     ∙ kept_left s numbers (opened_one x) (told (opened_one x).answer).is_refused refl
@@ -115,7 +116,7 @@ left_by_lem : (s : State) (m : Made) → Held s → left_by (image_of s) m ≡ l
 left_by_lem s (calls numbers c) v = called_saved s numbers c v
 left_by_lem s (opens numbers x) v = opened_saved s numbers x
 
-opening_held : (x : Asked) → length (opening x).state.feeders ≡ 1 → Held (opening x).state
+pub opening_held : (x : Asked) → length (opening x).state.feeders ≡ 1 → Held (opening x).state
 opening_held x e = record { one = e; valid = opening_valid x }
 
 -- an opening of the bus is refused, or of one feeder
@@ -153,24 +154,25 @@ results_run s (x ∷ cs) = ap (λ (rs : List Result). step s x.1 ∷ rs) (result
 -- From an opening
 
 -- of one feeder, and not refused
-module _ (numbers image : List ℕ) (x : Asked) (w : Whole image) (one : length (opening x).state.feeders ≡ 1)
-    (granted : (told (opening x).answer).is_refused ≡ false) where
-  pub opened_image : (opened_over numbers image x).image ≡ image_of (opening x).state
-  unfolding left
-  opened_image =
-      ap (λ (l : Left). l.image) (opened_left numbers image x w)
-      ∙ rw (eq-eqb (length (opening x).state.feeders) 1 one, granted)
+pub opened_image :
+    (numbers image : List ℕ) (x : Asked)
+    → Whole image
+    → length (opening x).state.feeders ≡ 1
+    → (told (opening x).answer).is_refused ≡ false
+    → (opened_over numbers image x).image ≡ image_of (opening x).state
+unfolding left
+opened_image numbers image x w one granted =
+    ap (λ (l : Left). l.image) (opened_left numbers image x w)
+    ∙ rw (eq-eqb (length (opening x).state.feeders) 1 one, granted)
 
-  -- any list of C calls and further openings on the image of an opening, whatever the image was before
-  pub chained_opened :
-      (ms : List Made) → chained (opened_over numbers image x).image ms ≡ left_of_each (opening x).state ms (results_of (opening x).state ms)
-  chained_opened ms =
-      ap (λ (after : List ℕ). chained after ms) opened_image
-      ∙ chained_saved (opening x).state ms (opening_held x one)
+-- any list of C calls and further openings on the image of an opening, whatever the image was before
+pub chained_opened : ChainsAfterAnOpening
+chained_opened numbers image x w one granted ms =
+    ap (λ (after : List ℕ). chained after ms) (opened_image numbers image x w one granted)
+    ∙ chained_saved (opening x).state ms (opening_held x one)
 
 -- A call that keeps the station
 
 -- no block differs where the station stays, as after a preview or an enquiry
-pub kept_none :
-    (s : State) (c : Call) → (step s c).state ≡ s → told_over (image_of s) (step s c).answer (step s c).state ≡ counted 0 (told (step s c).answer)
+pub kept_none : NoBlockDiffers
 kept_none s c e = ap (λ (blocks : ℕ). counted blocks (told (step s c).answer)) (ap (λ (x : State). differing (image_of s) (image_of x)) e ∙ none_differs (image_of s))

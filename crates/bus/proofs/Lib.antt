@@ -2,3 +2,4 @@ pub mod Copying
 pub mod Openings
 pub mod Chaining
 pub mod Returning
+pub mod InForce

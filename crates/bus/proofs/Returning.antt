@@ -1,5 +1,4 @@
 -- A C call returns 0 exactly where nothing is refused: neither the image nor the call or the opening.
-use mathlib.Core.Logic.{◌↔◌}
 use mathlib.Core.Path.{◌≡◌, refl, sym, ap, ◌∙◌}
 use Prim.Native.Nat.{ℕ, zero, suc}
 use mathlib.Core.Bool.{Bool, true, false, true≢false}
@@ -24,6 +23,7 @@ use Rattle.guarantee.specs.DemandOne.{NoneApplies}
 use Rattle.guarantee.proofs.DemandOne.{answer_not_refused, valid_demand_one, demand_one_opening}
 use Rattle.service.specs.Left.{told, left, called, Whole}
 use Rattle.bus.specs.Images.{opened_over}
+use Rattle.bus.specs.Returns.{ZeroOfACall, ZeroOfAnOpening}
 use Rattle.bus.proofs.Openings.{saved_one}
 
 granted_number : (a : Answer) → is_refused a ≡ false → (told a).number ≡ 0
@@ -57,9 +57,7 @@ before_zero : (k : ℕ) (s : State) (list : List ℕ) (r : Result) → (told (an
 before_zero zero s list r e = refl
 before_zero (suc k) s list r e = absurd (omega (arith, e))
 
-pub zero_returned :
-    (numbers image : List ℕ) (c : Call)
-    → ((called numbers image c).number ≡ 0) ↔ (((restoring image).refusal ≡ 0) × NoneApplies (refusals (restoring image).state c))
+pub zero_returned : ZeroOfACall
 unfolding called left
 zero_returned numbers image c =
     let s : State = (restoring image).state in
@@ -87,15 +85,13 @@ unfolding opening
 open_zero x e = first_of_none (open_refusals x) (open_refusals_numbered x) (before_zero (first_of (open_refusals x)) _ [] _ e)
 
 -- as many feeders as were asked for
-as_many : (x : Asked) → NoneApplies (open_refusals x) → length (opening x).state.feeders ≡ x.count
+pub as_many : (x : Asked) → NoneApplies (open_refusals x) → length (opening x).state.feeders ≡ x.count
 as_many x h =
     ap (λ (s : State). length s.feeders) ((demand_one_opening x).answered h).1
     ∙ map_length fresh_feeder (settings_read x)
     ∙ length_tabulate (λ (i : ℕ). get_or x.settings i (settings 0 0 0)) x.count 0
 
-pub zero_opened :
-    (numbers image : List ℕ) (x : Asked)
-    → ((opened_over numbers image x).number ≡ 0) ↔ (Whole image × NoneApplies (open_refusals x) × (x.count ≡ 1))
+pub zero_opened : ZeroOfAnOpening
 unfolding opened_over left
 zero_opened numbers image x =
     let s : State = (opening x).state in (

@@ -1,10 +1,10 @@
 -- C calls one after another, openings among them, each on the image that the last one left.
-use Rattle.std.specs.Prelude.{ℕ, cond, List, [], ◌∷◌}
+use Rattle.std.specs.Prelude.{◌≡◌, ℕ, false, cond, List, [], ◌∷◌, length}
 use Rattle.rules.specs.Site.{State}
 use Rattle.rules.specs.Calls.{Asked, refused, Result, opening, Call, step, written}
 use Rattle.layout.specs.Image.{image_of}
 use Rattle.layout.specs.Saving.{has_one}
-use Rattle.service.specs.Left.{Left, told, told_over, leaving, called}
+use Rattle.service.specs.Left.{Left, told, told_over, leaving, called, Whole}
 use Rattle.bus.specs.Images.{opened_over}
 
 -- a call with the list lent to it, or an opening; and what stood behind its references before
@@ -57,3 +57,14 @@ abbrev pub left_of_each : State → List Made → List Result → List Left
 left_of_each s [] rs = []
 left_of_each s (m ∷ ms) [] = []
 left_of_each s (m ∷ ms) (r ∷ rs) = left_of s (behind m) r ∷ left_of_each r.state ms rs
+
+-- Any C calls and further openings on the image of an opening that is not refused, whatever the image was before, return and leave what
+-- the rules answer to the station.
+abbrev pub ChainsAfterAnOpening : Type 0
+ChainsAfterAnOpening =
+    (numbers image : List ℕ) (x : Asked)
+    → Whole image
+    → length (opening x).state.feeders ≡ 1
+    → (told (opening x).answer).is_refused ≡ false
+    → (ms : List Made)
+    → chained (opened_over numbers image x).image ms ≡ left_of_each (opening x).state ms (results_of (opening x).state ms)

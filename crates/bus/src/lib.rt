@@ -7,6 +7,7 @@ pub mod board;
 pub mod clock;
 pub mod copy;
 pub mod enquiry;
+pub mod laws;
 pub mod open;
 pub mod order;
 pub mod plan;

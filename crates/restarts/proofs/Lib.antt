@@ -7,3 +7,4 @@ pub mod Restarts
 pub mod Claims
 pub mod OnTheBus
 pub mod Refusals
+pub mod Minutes

@@ -19,7 +19,7 @@ refused_three : (calls : List Call) → DemandThree step (fresh least) calls
 unfolding opening
 refused_three calls = demand_three least calls
 
-claimed : (b : Beginning) (calls : List Call) → ValidState (first b) → ClaimedFrom b calls
+pub claimed : (b : Beginning) (calls : List Call) → ValidState (first b) → ClaimedFrom b calls
 claimed (an_opening x) calls v = demand_three x calls
 claimed (an_image image) calls v = from_elsewhere (restoring image).state calls v
 claimed a_refused_restore calls v = refused_three calls
@@ -34,7 +34,7 @@ seen_all c l [] t = refl
 seen_all c l (e ∷ events) t =
     rw (shown_due c l e t, seen_all (does c e) (next l e) events (together_next c l e t))
 
-first_together : (x : Asked) → Together (opened x) (unsaved x)
+pub first_together : (x : Asked) → Together (opened x) (unsaved x)
 first_together x = record { station = refl; images = refl; now = opening_valid x; saved = tt }
 
 pub across : AcrossRestarts

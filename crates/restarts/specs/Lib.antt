@@ -7,3 +7,4 @@ pub mod OrdersElsewhere
 pub mod RestoreAndSave
 pub mod Cases
 pub mod CasesElsewhere
+pub mod Minutes
