@@ -7,8 +7,9 @@ use native.Mathlib.Omega.{arith}
 use lib.ListN.{length, get_or}
 use Rattle.rules.specs.Basics.{Each, keep}
 use Rattle.rules.specs.Charge.{Charge}
-use Rattle.rules.specs.Site.{Feeder, State, no_feeder, feeder_of, joined, site_charges}
-use Rattle.rules.specs.Valid.{Apart, ValidState}
+use Rattle.rules.specs.Site.{Feeder, no_feeder, feeder_of, joined}
+use Rattle.rules.specs.Valid.{Apart}
+use Rattle.rules.specs.laws.Withdrawals.{TicketsStandOnce}
 use Rattle.rules.proofs.Lists.{each_append, keep_each}
 use Rattle.rules.proofs.Sorting.{InOrder}
 use Rattle.rules.proofs.Queues.{Distinct, rising_other}
@@ -62,7 +63,7 @@ distinct_joined (g ∷ gs) d a =
     (distinct_joined gs (λ i h. d (suc i) (omega arith)) (λ i j h k. a (suc i) (suc j) (omega arith) (omega arith)))
     (apart_joined g.charges gs (λ i h. a 0 (suc i) (omega arith) (omega arith)))
 
-pub site_distinct : (s : State) → ValidState s → Distinct (site_charges s)
+pub site_distinct : TicketsStandOnce
 site_distinct s v =
     distinct_joined s.feeders
     (by_place s (λ g. Distinct g.charges) (λ f h. rising_other 1 (feeder_of s f).charges (v.plan f h).rising))

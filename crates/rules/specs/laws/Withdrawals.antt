@@ -2,7 +2,13 @@
 use Rattle.std.specs.Prelude.{◌≡◌, ℕ, suc, true, false, ◌&&◌, List, length}
 use Rattle.rules.specs.Basics.{some}
 use Rattle.rules.specs.Charge.{Charge, is_begun, is_waiting, has_ticket, without_ticket}
-use Rattle.rules.specs.Valid.{Rising}
+use Rattle.rules.specs.Site.{State, site_charges}
+use Rattle.rules.specs.Valid.{Rising, ValidState}
+use Rattle.rules.specs.laws.Arrangements.{InOrder}
+
+-- No ticket stands twice on a valid station, whichever feeders hold its charges.
+abbrev pub TicketsStandOnce : Type 0
+TicketsStandOnce = (s : State) → ValidState s → InOrder (λ a b. a.ticket ≡ b.ticket → ⊥) (site_charges s)
 
 -- Tickets rise along the charges of a feeder, so without a ticket that it holds it has one charge less.
 abbrev pub OnePlaceIsFree : Type 0
