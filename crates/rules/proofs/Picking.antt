@@ -15,8 +15,8 @@ use Rattle.rules.specs.Search.{Caps}
 use Rattle.rules.specs.Priority.{Crowd, crowd_of, taken_before, Pick, chosen, foremost, Fitting, fits_at, first_fit, picked, without_ticket}
 use Rattle.rules.specs.Replan.{all, place_on, of_line}
 use Rattle.rules.specs.Valid.{Rising}
-pub use Rattle.rules.specs.laws.Rounds.{tickets, up_to_line, LinesPlaced}
-use Rattle.rules.specs.laws.Rounds.{LinesHaveEveryCharge, ChargesUnderCapsArePlaced}
+pub use Rattle.rules.specs.laws.Placing.{tickets, up_to_line, LinesPlaced}
+use Rattle.rules.specs.laws.Placing.{LinesHaveEveryCharge, ChargesUnderCapsArePlaced}
 use Rattle.rules.proofs.Ranges.{below_or_not, first-none, found_or_not}
 use Rattle.rules.proofs.Lists.{map-append, keep_each}
 use Rattle.rules.proofs.Searches.{under_past}

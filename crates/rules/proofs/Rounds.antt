@@ -9,7 +9,7 @@ use borrow.Author.Tests.{leb-true, leb-false, le-leb}
 use Rattle.rules.specs.Load.{IsLine, on_lines}
 use Rattle.rules.specs.Search.{Caps}
 use Rattle.rules.specs.Replan.{lowest_line, largest_line, smallest_line, lowered, Outcome, ends, lowers, go_on, rounds_from}
-pub use Rattle.rules.specs.laws.Rounds.{AtLeast}
+pub use Rattle.rules.specs.laws.Placing.{AtLeast}
 use Rattle.rules.specs.laws.Rounds.{LoweredCapsAreAtLeast}
 use Rattle.rules.proofs.Ranges.{fails, below_or_not}
 use Rattle.rules.proofs.Counts.{on_lines_at, on_lines_all}

@@ -13,7 +13,8 @@ use Rattle.rules.specs.Priority.{fits_at}
 use Rattle.rules.specs.Replan.{none, Placed, all, stuck, standing, place_lines, placed_active, Outcome, ends, lowers, after_round, round, rounds_from, by_lines}
 use Rattle.rules.specs.Site.{State, feeder_of, charges_on, others_of, limits_of}
 use Rattle.rules.specs.Valid.{ValidCharge, IsFeeder, ValidState}
-use Rattle.rules.specs.laws.Rounds.{AtLeast, CapsOf, whole, after, RoundPlacesAll}
+use Rattle.rules.specs.laws.Placing.{AtLeast}
+use Rattle.rules.specs.laws.Rounds.{CapsOf, whole, after, RoundPlacesAll}
 use Rattle.rules.proofs.Lists.{each_map, keep_each}
 use Rattle.rules.proofs.Rounding.{bound_at_most}
 use Rattle.rules.proofs.Rounds.{lowered_at_least, LeavesIn, rounds_played}

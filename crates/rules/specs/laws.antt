@@ -4,6 +4,7 @@ pub mod Openings
 pub mod Arrangements
 pub mod Orders
 pub mod Weights
+pub mod Placing
 pub mod Rounds
 pub mod Fitting
 pub mod Soundness

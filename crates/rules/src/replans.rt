@@ -2,8 +2,8 @@
 ghost use Rattle.rules.specs.laws.Orders.{LatestStartsAreInOrder, LatestStartsCompareAsSums};
 ghost use Rattle.rules.specs.laws.Weights.{TestedTableKeepsTheRule, WeightsKeepTheRule, FadingKeepsItsBound};
 ghost use Rattle.rules.specs.laws.Weights.{WeightIsFading, WeightEndsWithTheTable, TestedTableHasTheWeights};
-ghost use Rattle.rules.specs.laws.Rounds.{LoweredCapsAreAtLeast, ChargesUnderCapsArePlaced, LinesHaveEveryCharge};
-ghost use Rattle.rules.specs.laws.Rounds.{StandingIsWithinTheSite, EveryRoundPlacesAll, NoOtherRoundIsPlayed};
+ghost use Rattle.rules.specs.laws.Placing.{ChargesUnderCapsArePlaced, LinesHaveEveryCharge};
+ghost use Rattle.rules.specs.laws.Rounds.{LoweredCapsAreAtLeast, StandingIsWithinTheSite, EveryRoundPlacesAll, NoOtherRoundIsPlayed};
 ghost use Rattle.rules.specs.laws.Fitting.{FitsExactlyInTheRun, UnfitStaysUnfit, NoneBelowStaysNone};
 ghost use Rattle.rules.specs.laws.Fitting.{StartsOfALineRise, NoneComesBeforeTheTaken};
 
