@@ -1,4 +1,5 @@
--- The test of each field of demand 3 is true exactly where the field holds, but for one, whose test tells it of most stations.
+-- The test of each field of what is said of a list of calls is true exactly where the field holds, but for one, whose test tells it of
+-- most stations.
 use mathlib.Core.Path.{◌≡◌, refl, sym, ap, ◌∙◌}
 use Prim.Native.Nat.{ℕ, suc, ◌+◌, ◌≤◌}
 use mathlib.Core.Bool.{Bool, true, false, cond, ◌||◌, false≢true}

@@ -1,4 +1,4 @@
--- A test of each field of demand 3 that computes on a list of calls. Each is true exactly where its field holds (`three_tested` in
+-- A test of each field of what is said of a whole list of calls, which computes on one. Each is true exactly where its field holds (`three_tested` in
 -- proofs/TestsThree.antt), but for one. No test of finitely many enquiries tells that no ticket but those of orders is found: that test
 -- looks at the charges held, and tells it of stations that refuse an enquiry where no charge has the ticket (`found_tested`).
 use Rattle.std.specs.Prelude.{◌≡◌, ℕ, suc, ◌+◌, Bool, true, false, ◌&&◌, List, [], ◌∷◌, map, ltb, leb, eqb, length}

@@ -37,7 +37,8 @@ pub fn fields_are_all()
     ensures lists { ListIsItsFields }
 {}
 
-/// Each field has a test that the checker computes, and the test is true exactly where the field holds.
+/// Each field has a test that the checker computes, and the test is true exactly where the field holds. That no ticket but those of orders
+/// is found, it tells of every station that refuses an enquiry of a ticket that no charge has.
 #[tactic(none)]
 pub fn fields_are_tested()
     ensures calls { CallsAreTested }

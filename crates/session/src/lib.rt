@@ -4,12 +4,14 @@
 
 pub mod turn;
 
+ghost use Rattle.session.specs.Turns.{EveryChain};
 ghost use Rattle.session.specs.LawsOfChains.{EndedRequestsAreAnswered, WholeInputIsAnswered, SmallRunIsAnswered};
 
 /// Turns one after another, whatever was read for each, answer all that was read: at any time every request that has ended, and at the
 /// end of the input the whole of it.
-#[tactic(auto, using(crate::proofs::Chains::ended_answered, crate::proofs::Chains::whole_answered))]
+#[tactic(auto, using(crate::proofs::Chains::every_chain, crate::proofs::Chains::ended_answered, crate::proofs::Chains::whole_answered))]
 pub fn every_chain()
+    ensures both { EveryChain }
     ensures so_far { EndedRequestsAreAnswered }
     ensures whole { WholeInputIsAnswered }
 {}
