@@ -34,7 +34,7 @@ use Rattle.planner.specs.Placed.{plan_of, AllPlaced}
 use Rattle.planner.proofs.Growing.{plan_length}
 use Rattle.lines.specs.declared.place.Task.{Task}
 use Rattle.lines.specs.Lines.{lines_placed, CanPlace, LinesUnder, ShowsStanding}
-use Rattle.lines.specs.Rounds.{asked_in, Comparable, Plays}
+use Rattle.lines.specs.Rounds.{Round, asked_in, Comparable, Plays}
 use Rattle.lines.proofs.Extremes.{largest_alike, smallest_alike}
 use Rattle.lines.proofs.Asking.{round_balanced, round_ends, round_lowers}
 use Rattle.lines.proofs.Ending.{lines_end}
@@ -67,12 +67,14 @@ module _ {size : ℕ} {k : Task} {p : Profile} {by_place : List ℕ}
     found : (cap : Caps) (shown : CapsShown k.caps.now b.limits.site cap) → first_unbalanced (terms_of b) b.clock (loads cap shown) ≡ found_at u
     found cap shown = first b.clock (loads cap shown) b.limits.limit b.limits.site (loads_lent b.others) (plan cap shown).plan.shows
 
-    pub plays_balanced : {listed : Starts} → u ≡ None → WaitingStarts b.clock c by_place listed.items → Plays k (Break (Ok listed))
-    plays_balanced e s =
-        record {
+    pub plays_balanced :
+        {listed : Starts} {r : Round} → u ≡ None → WaitingStarts b.clock c by_place listed.items → r ≡ Break (Ok listed) → Plays k r
+    plays_balanced e s told =
+        rw told
+        (record {
           same = λ cap shown. round_balanced cap b (plan cap shown) (found cap shown ∙ ap found_at e) s;
           fits = s.many;
-        }
+        })
 
     module _ {t : ℕ} (e : u ≡ Some t) where
       range : (b.clock ≤ t) × (t < b.clock + (last_until some_loads - b.clock))

@@ -1,6 +1,6 @@
 -- One charge more on a plan, whatever start it is given.
 use mathlib.Core.Path.{◌≡◌, refl, sym, ◌∙◌, ap, subst}
-use Prim.Native.Nat.{ℕ, ◌+◌, ◌*◌, max, ◌≤◌, ◌<◌}
+use Prim.Native.Nat.{ℕ, ◌+◌, ◌*◌, ◌^◌, max, ◌≤◌, ◌<◌}
 use mathlib.Core.Bool.{Bool, true, false}
 use mathlib.Core.List.{List, [], ◌∷◌, ◌++◌, append_assoc}
 use native.Mathlib.Omega.{arith}
@@ -41,6 +41,19 @@ module _ (y : Limits) (clock : ℕ) (c : Charges) (placed : List Charge) where
   pub grown : (x : Charge) (s : ℕ) → plan_of y clock c (placed ++ (starting x s ∷ [])) ≡ added (plan_of y clock c placed) (draw_of x) s
   grown x s =
       rw (loads_append placed (starting x s ∷ []), ← append_assoc (standing y clock (charges_of c)) (loads_of placed) (load_of (starting x s) ∷ [])) refl
+
+-- where one load may be added any other of a rate may, if it ends in time
+pub add_other :
+    {p : Profile} {size s t : ℕ} {a b : code.Draw} → CanAdd p size a s → 1 ≤ b.rate → b.rate ≤ 2 → t + b.time < 2 ^ 32 → CanAdd p size b t
+add_other can low high ends =
+    record {
+      formed = can.formed;
+      small = can.small;
+      room = can.room;
+      most = can.most;
+      is_rate = record { low = low; high = high };
+      ends_fit = ends;
+    }
 
 module _ {y : Limits} {clock : ℕ} {c : Charges} {placed : List Charge} {p : Profile} {starts : List ℕ} (h : Listed c)
     (v : PlanShown y clock c placed p starts) (i s : ℕ) (low : i < c.held)

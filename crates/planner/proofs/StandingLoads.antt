@@ -72,9 +72,10 @@ module _ (b : Beside) where
     pub own_can_add : {size : ℕ} → Spacious b size → CanAddStarted p size xs 0 before
     own_can_add space = can_add_before s before xs (rw lent v.plannable) (omega (arith, space.enough, few)) space.most
 
-    pub own_shown : {q : Profile} → StartedAdded p q xs 0 before → Shows q b.clock (seen (terms_of b) (begun_charges before (charges_of c)))
-    own_shown a =
-        rw (loads_begun before (charges_of c), ← started_before_lem before (loads_of (charges_of c)), ← lent) (a b.clock (loads_lent b.others) s)
+    pub own_shown :
+        {q : Profile} (high : ℕ) → high ≡ before → StartedAdded p q xs 0 high → Shows q b.clock (seen (terms_of b) (begun_charges before (charges_of c)))
+    own_shown high e a =
+        rw (← e, loads_begun high (charges_of c), ← started_before_lem high (loads_of (charges_of c)), ← lent) (a b.clock (loads_lent b.others) s)
 
 -- all charges start before the largest number of 32 bits
 all_before : (c : Charges) → Profiled c → loads_of (begun_charges 4294967295 (charges_of c)) ≡ loads_of (charges_of c)
@@ -83,6 +84,6 @@ all_before c v =
     ∙ started_all 4294967295 (loads_of (charges_of c)) (plannable_below (loads_of (charges_of c)) v.plannable)
 
 pub all_shown :
-    {p : Profile} (b : Beside) {c : Charges} → Profiled c → Shows p b.clock (seen (terms_of b) (begun_charges 4294967295 (charges_of c))) →
-    Shows p b.clock (seen (terms_of b) (charges_of c))
-all_shown {p} b {c} v s = rw (all_before c v) at s
+    {p : Profile} (b : Beside) {c : Charges} → Profiled c → (before : ℕ) → before ≡ 4294967295 →
+    Shows p b.clock (seen (terms_of b) (begun_charges before (charges_of c))) → Shows p b.clock (seen (terms_of b) (charges_of c))
+all_shown {p} b {c} v before e s = rw (e, all_before c v) at s

@@ -68,8 +68,8 @@ small_step p f s l hl m h =
     )
 
 -- two splits: step i of q begins where the load does, or at the clock, and step j where it ends
-module _ {p p₁ q : Profile} {places start from : ℕ} {steps : Range ℕ} {a : Draw} (can : CanAdd p places a start) (e : from ≡ max (first_minute p) start)
-    (begun : from < start + a.time) (s₁ : Split p p₁ from steps.start) (s₂ : Split p₁ q (start + a.time) steps.end) where
+module _ {p p₁ q : Profile} {places start from until : ℕ} {steps : Range ℕ} {a : Draw} (can : CanAdd p places a start) (e : from ≡ max (first_minute p) start)
+    (begun : from < until) (s₁ : Split p p₁ from steps.start) (s₂ : Split p₁ q until steps.end) where
   i_begins : get_or (minutes_of q) steps.start 0 ≡ from
   i_begins = s₂.earlier steps.start s₁.below (omega (arith, s₁.begins)) ∙ s₁.begins
 
@@ -98,7 +98,12 @@ module _ {p p₁ q : Profile} {places start from : ℕ} {steps : Range ℕ} {a :
         fits = λ m b. omega (arith, small line hl m (omega (arith, s₂.below)));
       }
 
-  module _ {r : Profile} (raised : Raised q steps a.line a.rate r) where
+  -- it ends with the load, and what is raised is the load's rate on its line
+  module _ {line rate : ℕ} {r : Profile} (ends_with : until ≡ start + a.time) (own_line : line ≡ a.line) (own_rate : rate ≡ a.rate)
+      (raised_by : Raised q steps line rate r) where
+    raised : Raised q steps a.line a.rate r
+    raised = rw (← own_line, ← own_rate) raised_by
+
     -- clipped to the clock, the load is the same in every minute from there on
     clipped : (u : ℕ) → first_minute p ≤ u → leb from u ≡ leb start u
     clipped u a =
@@ -112,7 +117,7 @@ module _ {p p₁ q : Profile} {places start from : ℕ} {steps : Range ℕ} {a :
         ap (λ (n : ℕ). level_at (minutes_of r) (line_of r l) n u) raised.size ∙ ap (λ (x : List ℕ). level_at x (line_of r l) (length q) u) raised.minutes
         ∙ raise_level q s₂.formed.rises i_below s₂.below (raised.each l hl) u (omega (arith, s₁.starts, s₂.starts))
         ∙ ap (λ (x : ℕ). level_of q l u + cond (leb x u && ltb u (get_or (minutes_of q) steps.end 0)) (share a.line a.rate l) 0) i_begins
-        ∙ ap (λ (x : ℕ). level_of q l u + cond (leb from u && ltb u x) (share a.line a.rate l) 0) s₂.begins
+        ∙ ap (λ (x : ℕ). level_of q l u + cond (leb from u && ltb u x) (share a.line a.rate l) 0) (s₂.begins ∙ ends_with)
         ∙ ap (λ (b : Bool). level_of q l u + cond (b && ltb u (start + a.time)) (share a.line a.rate l) 0) (clipped u c)
         ∙ ap (λ (x : ℕ). x + draws (load_from (draw_of a) start) l u) (same_level l hl u c)
 
@@ -128,6 +133,6 @@ module _ {p p₁ q : Profile} {places start from : ℕ} {steps : Range ℕ} {a :
           starts = ap (λ (x : List ℕ). get_or x 0 0) raised.minutes ∙ s₂.starts ∙ s₁.starts;
           ends = λ b h c k lt.
               subst (λ (x : List ℕ). get_or x k 0 ≤ b) (sym raised.minutes)
-              (s₂.ends b (s₁.ends b h (omega (arith, h 0 can.formed.some))) c k (omega (arith, raised.size)));
+              (s₂.ends b (s₁.ends b h (omega (arith, h 0 can.formed.some))) (omega (arith, c)) k (omega (arith, raised.size)));
           level = new_level;
         }

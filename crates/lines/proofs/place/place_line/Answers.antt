@@ -4,6 +4,7 @@ use mathlib.Core.Path.{refl, ap}
 use Prim.Native.Nat.{ℕ}
 use lib.ListN.{length}
 use Rattle.std.proofs.lemmas.List.Edits.{length-remove}
+use Rattle.planner.proofs.Growing.{add_other}
 use Rattle.lines.proofs.Beginning.{own_range, line_crowd, line_start}
 use Rattle.lines.proofs.Following.{can_next}
 use Rattle.lines.proofs.Continuing.{next_can_add, line_next}
@@ -27,13 +28,14 @@ next_charge-requires g c =
     (rw (← c.steps.ensures, ← c.as_slice.ensures.0) at (c.loop-next.invariant c.requires.0.capped.cap c.requires.0.capped.shown))
 
 pub add-requires : goal.add-requires
-add-requires g c = (
-  omega (arith, c.requires.0.space.most),
-  rw (← c.steps.ensures)
-      (next_can_add c.in-Some.ensures c.requires.0 refl c.requires.0.capped.shown
-      (rw (← c.steps.ensures, ← c.as_slice.ensures.0) at (c.loop-next.invariant c.requires.0.capped.cap c.requires.0.capped.shown))
-      c.draw_at-draw.ensures),
-)
+add-requires g c =
+    let x =
+    next_can_add c.in-Some.ensures c.requires.0 refl c.requires.0.capped.shown
+    (rw (← c.steps.ensures, ← c.as_slice.ensures.0) at (c.loop-next.invariant c.requires.0.capped.cap c.requires.0.capped.shown))
+    c.draw_at-draw.ensures in (
+      omega (arith, c.requires.0.space.most),
+      rw (← c.steps.ensures) (add_other x (omega (arith, x.is_rate.low)) (omega (arith, x.is_rate.high)) (omega (arith, x.ends_fit))),
+    )
 
 pub loop-next-smaller : goal.loop-next-smaller
 loop-next-smaller g c =

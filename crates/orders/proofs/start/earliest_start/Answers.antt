@@ -3,8 +3,14 @@ use Rattle.orders.proofs.Windows.{window_can_add}
 use Rattle.orders.proofs.Seeking.{seeking_begin, seeking_can, seeking_bounds, seeking_found, seeking_on}
 use Rattle.orders.proofs.start.earliest_start.Goals as goal
 
+pub returns-then-reach-until : goal.returns-then-reach-until
+returns-then-reach-until g c = seeking_found c.requires.plan c.loop-until.invariant c.add_started.ensures (rw c.steps.ensures at c.first_fitting-start.ensures.high) (rw c.steps.ensures at c.first_fitting-start.ensures.first) (omega (arith, c.if-reach-until.true))
+
 pub loop-until-init : goal.loop-until-init
 loop-until-init g c = seeking_begin c.new-profile.ensures (omega arith) (omega arith)
+
+pub loop-until-preserved : goal.loop-until-preserved
+loop-until-preserved g c = seeking_on c.requires.plan c.loop-until.invariant c.add_started.ensures (rw c.steps.ensures at c.first_fitting-start.ensures.high) (rw c.steps.ensures at c.first_fitting-start.ensures.first) (omega (arith, c.if-reach-until.false)) (omega arith) (omega arith)
 
 pub add_started-requires : goal.add_started-requires
 add_started-requires g c =
@@ -15,9 +21,6 @@ first_fitting-start-requires g c = rw c.steps.ensures (seeking_can c.requires.pl
 
 pub overflow_add-reach : goal.overflow_add-reach
 overflow_add-reach g c = omega (arith, seeking_bounds c.requires.plan c.loop-until.invariant c.add_started.ensures (rw c.steps.ensures at c.first_fitting-start.ensures.high))
-
-pub returns-then-reach-until : goal.returns-then-reach-until
-returns-then-reach-until g c = seeking_found c.requires.plan c.loop-until.invariant c.add_started.ensures (rw c.steps.ensures at c.first_fitting-start.ensures.high) (rw c.steps.ensures at c.first_fitting-start.ensures.first) (omega (arith, c.if-reach-until.true))
 
 pub overflow_sub-until : goal.overflow_sub-until
 overflow_sub-until g c = omega (arith, seeking_bounds c.requires.plan c.loop-until.invariant c.add_started.ensures (rw c.steps.ensures at c.first_fitting-start.ensures.high))
@@ -30,6 +33,3 @@ overflow_add-until-in-loop-until-2 g c = omega (arith, seeking_bounds c.requires
 
 pub loop-until-smaller : goal.loop-until-smaller
 loop-until-smaller g c = omega (arith, seeking_bounds c.requires.plan c.loop-until.invariant c.add_started.ensures (rw c.steps.ensures at c.first_fitting-start.ensures.high), c.if-reach-until.false)
-
-pub loop-until-preserved : goal.loop-until-preserved
-loop-until-preserved g c = seeking_on c.requires.plan c.loop-until.invariant c.add_started.ensures (rw c.steps.ensures at c.first_fitting-start.ensures.high) (rw c.steps.ensures at c.first_fitting-start.ensures.first) (omega (arith, c.if-reach-until.false)) (omega arith) (omega arith)

@@ -7,6 +7,7 @@ use Rattle.planner.specs.declared.cause.Cause.{Cause}
 use Rattle.planner.specs.declared.cause.Cause.TheVariants.{NoStart}
 use Rattle.planner.proofs.Showing.{listed_profiled}
 use Rattle.planner.proofs.Queueing.{queue_latest_start}
+use Rattle.planner.proofs.Growing.{add_other}
 use Rattle.planner.proofs.Plans.{placed_start, placed_end, next_can_start, next_alone, next_stuck, next_can_add, next_placed}
 use Rattle.planner.proofs.Proposing.{latest_none, latest_starts}
 use Rattle.planner.proofs.latest.latest.Goals as goal
@@ -38,10 +39,9 @@ returns-in_err-start g c =
 
 pub add-requires : goal.add-requires
 add-requires g c =
-    let u = queue_latest_start c.requires.1.listed c.as_slice-place-items.ensures.0 c.by_latest_start-queue.ensures in (
-      omega (arith, c.requires.0.most),
-      next_can_add c.requires.1 u c.loop-place.invariant c.requires.0 c.loop-place-test.true c.draw_at-draw.ensures (rw c.steps.ensures at c.earliest.ensures) (rw c.in_ok-start.was at c.ok_or.ensures.ok_part),
-    )
+    let u = queue_latest_start c.requires.1.listed c.as_slice-place-items.ensures.0 c.by_latest_start-queue.ensures in
+    let x = next_can_add c.requires.1 u c.loop-place.invariant c.requires.0 c.loop-place-test.true c.draw_at-draw.ensures (rw c.steps.ensures at c.earliest.ensures) (rw c.in_ok-start.was at c.ok_or.ensures.ok_part) in
+    (omega (arith, c.requires.0.most), add_other x (omega (arith, x.is_rate.low)) (omega (arith, x.is_rate.high)) (omega (arith, x.ends_fit)))
 
 pub loop-place-preserved : goal.loop-place-preserved
 loop-place-preserved g c =
