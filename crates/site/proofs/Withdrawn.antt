@@ -1,5 +1,5 @@
 -- A withdrawal from the feeder that holds the ticket: what the plan that is left has to be, and that the result is that of the rules.
-use mathlib.Core.Path.{◌≡◌, refl, sym, ap, ◌∙◌}
+use mathlib.Core.Path.{◌≡◌, refl, sym, ap, subst, ◌∙◌}
 use Prim.Native.Nat.{ℕ, ◌+◌, ◌≤◌, ◌<◌}
 use mathlib.Core.Bool.{Bool, true, false, not, ◌&&◌}
 use mathlib.Core.List.{List, [], ◌∷◌}
@@ -119,7 +119,7 @@ module _ (s : Station) (ticket : ℕ) (v : Valid s) where
 
     module _
         {kept : Charges} (r : Holds (without_ticket ticket (charges_of seen_own)) kept) (h : s.clock ≤ (charge_at seen_own k).start)
-        {x : Surroundings} {b : Beside} (g : Surrounds s f x) (l : Lends x b)
+        {x y : Surroundings} {b : Beside} (g : Surrounds s f x) (same : y ≡ x) (l : Lends y b)
         {test : Bool} (q : test ≡ sound (terms_of b) b.clock (seen (terms_of b) (charges_of kept))) where
       charges_left : charges_of kept ≡ without_ticket ticket (charges_on (view s) (f + 1))
       charges_left = rw own_is at r.charges ∙ ap (without_ticket ticket) (sym on_feeder_lem)
@@ -130,7 +130,7 @@ module _ (s : Station) (ticket : ℕ) (v : Valid s) where
           (with (is_waiting s.clock) (rw (le-ltb (charge_at own k).start s.clock (rw own_is at h))))
 
       beside : BesideOf s f b
-      beside = lent_beside o.inside g l
+      beside = lent_beside o.inside g (subst (λ (z : Surroundings). Lends z b) same l)
 
       whole : sound (limits_of (view s) (f + 1)) s.clock (seen (limits_of (view s) (f + 1)) (without_ticket ticket (charges_on (view s) (f + 1)))) ≡ test
       whole =

@@ -39,10 +39,10 @@ pub returns-then-not-plan_sound : goal.returns-then-not-plan_sound
 returns-then-not-plan_sound c =
     let o = holder_some c.args.station.now c.args.ticket c.holder.ensures c.in_ok-holder.ensures.ok_part in
     withdraw_unsound c.args.station.now c.args.ticket c.requires o c.index-station-holder.result {kept = c.without-kept.result} c.without-kept.ensures (omega (arith, c.if-charges-holder.false))
-    {b = c.lent.result} c.surroundings-surroundings.ensures c.lent.ensures c.plan_sound.ensures c.if-not-plan_sound.true (search)
+    {b = c.lent.result} c.surroundings-surroundings.ensures (search rules) c.lent.ensures c.plan_sound.ensures c.if-not-plan_sound.true (search)
 
 pub returns : goal.returns
 returns c =
     let o = holder_some c.args.station.now c.args.ticket c.holder.ensures c.in_ok-holder.ensures.ok_part in
     withdraw_taken c.args.station.now c.args.ticket c.requires o c.index-station-holder.result {kept = c.without-kept.result} c.without-kept.ensures (omega (arith, c.if-charges-holder.false))
-    {b = c.lent.result} c.surroundings-surroundings.ensures c.lent.ensures c.plan_sound.ensures _ c.if-not-plan_sound.false
+    {b = c.lent.result} c.surroundings-surroundings.ensures (search rules) c.lent.ensures c.plan_sound.ensures _ c.if-not-plan_sound.false
