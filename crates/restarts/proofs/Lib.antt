@@ -6,5 +6,5 @@ pub mod Together
 pub mod Restarts
 pub mod Claims
 pub mod OnTheBus
-pub mod Refusals
 pub mod Minutes
+pub mod Refusals

@@ -1,10 +1,10 @@
 pub mod Events
 pub mod Restarts
 pub mod Bus
+pub mod Minutes
 pub mod Claims
 pub mod Elsewhere
 pub mod OrdersElsewhere
 pub mod RestoreAndSave
 pub mod Cases
 pub mod CasesElsewhere
-pub mod Minutes

@@ -1,32 +1,31 @@
 -- The causes for keeping the old starts, in words.
 use mathlib.Core.Logic.{◌⊎◌, inl, inr, ◌↔◌}
-use mathlib.Core.Path.{◌≡◌, refl, sym, ap, subst, ◌∙◌}
-use Prim.Native.Nat.{ℕ, zero, suc, ◌+◌, ◌-◌, max, ◌≤◌, ◌<◌}
+use mathlib.Core.Path.{◌≡◌, refl, sym, ◌∙◌}
+use Prim.Native.Nat.{ℕ, zero, suc, ◌+◌, ◌-◌, ◌≤◌, ◌<◌}
 use mathlib.Core.Bool.{Bool, true, false, not, ◌&&◌, true≢false}
-use mathlib.Core.List.{List, [], ◌∷◌, ◌++◌}
+use mathlib.Core.List.{List, ◌++◌}
 use native.Mathlib.Omega.{arith}
 use lib.Dec.{ltb, leb}
-use borrow.Author.Tests.{ltb-true, lt-ltb, ltb-false, le-ltb, leb-true, leb-false, le-leb, lt-leb}
-use Rattle.rules.specs.Basics.{throughout, some, first_of, Each}
+use borrow.Author.Tests.{ltb-true, ltb-false, leb-false}
+use Rattle.rules.specs.Basics.{throughout, Each}
 use Rattle.rules.specs.Load.{Load, count, counts, drawn, last_until, IsLine, on_lines, Limits, limited, balanced, whole_of, within_site, limit_at, balance_at, from_on}
 use Rattle.rules.specs.Charge.{Charge, loads_of, seen, lateness}
 use Rattle.rules.specs.Replan.{starts, none}
-use Rattle.rules.specs.Judgement.{restarted, causes, judged}
-use Rattle.rules.specs.Site.{State, feeder_of, charges_on, site_charges, others_of, limits_of}
-use Rattle.rules.specs.Valid.{IsFeeder, ValidState}
-use Rattle.rules.proofs.Ranges.{fails, and_left, and_right, below_or_not}
+use Rattle.rules.specs.Judgement.{causes, judged}
+use Rattle.rules.specs.Site.{feeder_of, charges_on, others_of, limits_of}
+use Rattle.rules.specs.Valid.{IsFeeder}
+use Rattle.rules.proofs.Ranges.{and_left, and_right}
 use Rattle.rules.proofs.Counts.{limited_at, within_at, balanced_at, from_on_at, limit_past, balance_past}
 use Rattle.rules.proofs.Restarts.{each_restarted}
 use Rattle.rules.proofs.Sites.{count_beside, whole_beside, lines_own, last_seen, until_append}
 use Rattle.rules.proofs.Holding.{last_site, lines_valid}
-use Rattle.guarantee.specs.DemandOne.{FirstIs}
 use Rattle.guarantee.proofs.Tables.{first_of_is, is_first_of}
 use Rattle.station.specs.declared.Station.{Station}
 use Rattle.station.specs.View.{view, Valid}
-use Rattle.theorem.specs.Single.{OfSome, when, FirstToHold}
-use Rattle.theorem.specs.Planned.{with_starts, end_now, end_with}
+use Rattle.theorem.specs.Single.{FirstToHold}
+use Rattle.theorem.specs.Proposed.{with_starts, end_now, end_with}
 use Rattle.theorem.specs.Causes.{IsOverfull, IsUneven, causes_against, CauseIsTheFirst, CauseOfNoStarts}
-use Rattle.theorem.proofs.Conditions.{Matches, first_holds, below_is, some_is, not_is}
+use Rattle.theorem.proofs.Conditions.{Matches, first_holds, below_is, some_is}
 use Rattle.theorem.proofs.Planned.{cause_tested, there_tested}
 
 -- A test that fails somewhere

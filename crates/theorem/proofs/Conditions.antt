@@ -5,7 +5,8 @@ use Prim.Native.Nat.{ℕ, ◌≤◌, ◌<◌}
 use mathlib.Core.Bool.{Bool, true, false, not, ◌&&◌, ◌||◌, true≢false}
 use mathlib.Core.List.{List, [], ◌∷◌, ◌++◌}
 use lib.Dec.{ltb, leb, eqb}
-use borrow.Author.Tests.{ltb-true, lt-ltb, leb-true, le-leb, eqb-true, eq-eqb, not-false}
+use native.Mathlib.Omega.{arith}
+use borrow.Author.Tests.{ltb-true, ltb-false, lt-ltb, leb-true, le-leb, eqb-true, eq-eqb}
 use Rattle.rules.specs.Basics.{some, Each}
 use Rattle.rules.proofs.Ranges.{fails, or_left, or_right}
 use Rattle.guarantee.specs.DemandOne.{FirstIs, NoneApplies}
@@ -85,6 +86,11 @@ pub some_is :
 some_is f P same [] = ((λ e. true≢false (sym e)), (λ h. absurd h))
 some_is f P same (a ∷ l) = either_is (f a) (some f l) (same a) (some_is f P same l)
 
+pub some_map : {A : Type 0} (P Q : A → Type 0) → ((a : A) → P a → Q a) → (l : List A) → OfSome P l → OfSome Q l
+some_map P Q f [] h = absurd h
+some_map P Q f (a ∷ l) (inl p) = inl (f a p)
+some_map P Q f (a ∷ l) (inr h) = inr (some_map P Q f l h)
+
 pub none_is :
     {A : Type 0} (f : A → Bool) (P : A → Type 0)
     → ((a : A) → (f a ≡ true) ↔ P a)
@@ -113,3 +119,11 @@ equal_is a b = (eqb-true a b, eq-eqb a b)
 pub both_is : (a b : Bool) {A B : Type 0} → (a ≡ true) ↔ A → (b ≡ true) ↔ B → (a && b ≡ true) ↔ (A × B)
 both_is true b f g = ((λ e. (f.0 refl, g.0 e)), (λ h. g.1 h.1))
 both_is false b f g = ((λ e. absurd (true≢false (sym e))), (λ h. f.1 h.0))
+
+-- not below
+pub waits_is : (a b : ℕ) → (not (ltb a b) ≡ true) ↔ (b ≤ a)
+waits_is a b = go (ltb a b) refl
+  where
+    go : (t : Bool) → ltb a b ≡ t → (not t ≡ true) ↔ (b ≤ a)
+    go true e = ((λ p. absurd (true≢false (sym p))), (λ h. absurd (omega (arith, ltb-true a b e))))
+    go false e = ((λ p. ltb-false a b e), (λ h. refl))

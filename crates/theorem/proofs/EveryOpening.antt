@@ -1,16 +1,23 @@
 -- Of openings.
-use mathlib.Core.Path.{◌≡◌, refl, sym, ap, ◌∙◌}
 use mathlib.Core.Logic.{◌⊎◌}
-use Prim.Native.Nat.{ℕ, zero, suc, ◌<◌}
+use mathlib.Core.Path.{◌≡◌, refl, sym, ap, ◌∙◌}
+use Prim.Native.Nat.{ℕ, zero, suc, ◌+◌, ◌-◌, ◌<◌}
 use mathlib.Core.Bool.{false, ◌||◌, true≢false}
+use mathlib.Core.List.{List, [], ◌∷◌, map}
+use native.Mathlib.Omega.{arith}
 use lib.Dec.{ltb, eqb}
-use mathlib.Core.List.{[], map}
+use lib.ListN.{length, get_or}
 use Rattle.rules.specs.Basics.{first_of}
-use Rattle.rules.specs.Calls.{Asked, bound_of, opened, answering, settings_read, fresh, least, open_refusals, opening}
+use Rattle.rules.specs.Site.{State, no_feeder, feeder_of}
+use Rattle.rules.specs.Calls.{Settings, settings, Asked, bound_of, fresh_feeder, opened, answering, settings_read, fresh, least, open_refusals, opening}
+use Rattle.rules.proofs.Lists.{length_tabulate, get_d_tabulate}
 use Rattle.rules.proofs.Tables.{first_of_none}
 use Rattle.rules.proofs.Granted.{open_refusals_numbered}
+use Rattle.rules.proofs.Sites.{map_length}
 use Rattle.guarantee.specs.Past.{is_refused}
 use Rattle.guarantee.specs.DemandOne.{NoneApplies}
+use Rattle.station.specs.View.{view}
+use Rattle.station.proofs.Views.{view_length}
 use Rattle.theorem.specs.EveryOpening.{OpeningRefusedByTheTable, opening_conditions, OpeningRefusedForTheFirst, LeastBesideARefusal, OpenedAsAsked}
 use Rattle.theorem.proofs.Chains.{theorem}
 use Rattle.theorem.proofs.Conditions.{Matches, first_holds, below_is, equal_is, either_is, some_is}
@@ -71,12 +78,48 @@ opening_refused_for x answer first opens k =
     ((λ e. w.0 (r.0 e)), (λ h. r.1 (w.1 h)))
 
 pub least_beside : LeastBesideARefusal
-least_beside x answer first opens e =
+least_beside x answer first opens refuses =
     let g = theorem x answer first opens [] tt in
-    g.began ∙ g.one_opening.refused_by.same_station (sym (ap is_refused g.opened) ∙ e)
+    let e : view first ≡ fresh least
+    = g.began ∙ g.one_opening.refused_by.same_station (sym (ap is_refused g.opened) ∙ refuses) in (
+      sym (view_length first) ∙ ap (λ (s : State). length s.feeders) e,
+      ap (λ (s : State). s.site) e,
+      ap (λ (s : State). s.clock) e,
+      ap (λ (s : State). s.next) e,
+      ap (λ (s : State). feeder_of s 1) e,
+    )
+
+-- the bounds and the feeders of a fresh station
+fresh_bounds :
+    (xs : List Settings) → map (λ g. g.bound) (map fresh_feeder xs) ≡ map (λ y. bound_of y.limit y.percent) xs
+fresh_bounds [] = refl
+fresh_bounds (y ∷ xs) = ap (λ l. bound_of y.limit y.percent ∷ l) (fresh_bounds xs)
+
+fresh_at :
+    (xs : List Settings) (i : ℕ)
+    → i < length xs
+    → get_or (map fresh_feeder xs) i no_feeder ≡ fresh_feeder (get_or xs i (settings 0 0 0))
+fresh_at [] i h = absurd (omega arith)
+fresh_at (y ∷ xs) zero h = refl
+fresh_at (y ∷ xs) (suc i) h = fresh_at xs i (omega arith)
 
 pub opened_as_asked : OpenedAsAsked
-opened_as_asked x answer first opens e =
+opened_as_asked x answer first opens free =
     let g = theorem x answer first opens [] tt in
-    let r = g.one_opening.answered (opening_none x (sym (ap is_refused g.opened) ∙ e)) in
-    (g.opened ∙ r.0, g.began ∙ r.1)
+    let gave = g.one_opening.answered (opening_none x (sym (ap is_refused g.opened) ∙ free)) in
+    let e : view first ≡ fresh x = g.began ∙ gave.1 in
+    let read : length (settings_read x) ≡ x.count = length_tabulate (λ i. get_or x.settings i (settings 0 0 0)) x.count 0 in (
+      g.opened ∙ (gave.0 ∙ ap opened (fresh_bounds (settings_read x))),
+      sym (view_length first) ∙ (ap (λ (s : State). length s.feeders) e ∙ (map_length fresh_feeder (settings_read x) ∙ read)),
+      ap (λ (s : State). s.site) e,
+      ap (λ (s : State). s.clock) e,
+      ap (λ (s : State). s.next) e,
+      (λ f low high.
+          ap (λ (s : State). feeder_of s f) e
+          ∙ (fresh_at (settings_read x) (f - 1) (omega arith)
+          ∙ (ap fresh_feeder (get_d_tabulate (λ i. get_or x.settings i (settings 0 0 0)) x.count 0 (f - 1) (settings 0 0 0) (omega arith))
+          ∙ ap (λ (i : ℕ). fresh_feeder (get_or x.settings i (settings 0 0 0))) (from_zero (f - 1))))),
+    )
+  where
+    from_zero : (i : ℕ) → 0 + i ≡ i
+    from_zero i = omega arith

@@ -1,3 +1,6 @@
+pub mod AcrossRestarts
+pub mod ByLatestStart
+pub mod ByLines
 pub mod Carried
 pub mod Causes
 pub mod Chains
@@ -11,8 +14,15 @@ pub mod EveryOpening
 pub mod EveryOrder
 pub mod EveryTicket
 pub mod EveryWithdrawal
+pub mod Kept
+pub mod Looked
+pub mod Moved
 pub mod Ordered
+pub mod Places
 pub mod Planned
 pub mod Refused
+pub mod Rounds
+pub mod Saving
 pub mod Single
 pub mod Soundness
+pub mod Withdrawn

@@ -7,7 +7,7 @@ use mathlib.Core.List.{[], ◌∷◌, ◌++◌}
 use native.Mathlib.Omega.{arith}
 use native.Mathlib.Numerals.{add-one}
 use Rattle.rules.specs.Site.{charges_on, holding}
-use Rattle.rules.specs.Calls.{refused, previewed, committed, commit, refusals, order_refusals, is_start, start_for, draw_for, Result, lent, committing, step}
+use Rattle.rules.specs.Calls.{refused, previewed, committed, commit, refusals, order_refusals, is_start, start_for, draw_for, Result, committing}
 use Rattle.rules.proofs.Tables.{none_front}
 use Rattle.guarantee.specs.DemandOne.{NoneApplies}
 use Rattle.guarantee.specs.DemandTwo.{PreviewStart, CommitStart}
@@ -17,7 +17,7 @@ use Rattle.station.specs.View.{view, Valid}
 use Rattle.ordering.specs.declared.Order.{Order}
 use Rattle.calls.specs.declared.Call.TheVariants.{Preview, Commit}
 use Rattle.theorem.specs.Theorem.{Made, MeetsApply, given}
-use Rattle.theorem.specs.Single.{told, IsGranted}
+use Rattle.theorem.specs.Single.{answer_told, IsGranted}
 use Rattle.theorem.specs.Soundness.{IsEarliestStart}
 use Rattle.theorem.specs.Ordered.{PreviewShowsTheEarliest, PreviewChangesNothing, IsOrderable, CommitGivesTheEarliest, CommitRefusesAnother, charge_for, CommitAddsOneCharge}
 use Rattle.theorem.proofs.Single.{step_of, none_of, granted_of, list_of, very_station}
@@ -31,7 +31,7 @@ module _ (s : Station) (m : Made) (v : Valid s) (meets : MeetsApply s m) (o : Or
         (sym (step_of s m v meets (Preview o) named))
         ((valid_demand_two (view s) v.state).previews o.feeder o.line o.time o.due o.rate)
 
-    shows_earliest : IsGranted m → (start : ℕ) × (told m ≡ previewed start) × IsEarliestStart s o start
+    shows_earliest : IsGranted m → (start : ℕ) × (answer_told m ≡ previewed start) × IsEarliestStart s o start
     shows_earliest free =
         let r = shows.answer (none_of s m v meets (Preview o) named free) in
         (r.0, r.1, spelled_earliest s o r.0 r.2)
@@ -47,13 +47,13 @@ module _ (s : Station) (m : Made) (v : Valid s) (meets : MeetsApply s m) (o : Or
         (sym (step_of s m v meets (Commit o shown) named))
         ((valid_demand_two (view s) v.state).commits o.feeder o.line o.time o.due o.rate shown none)
 
-    gives_earliest : IsOrderable s o → (told m ≡ committed s.next shown) ↔ IsEarliestStart s o shown
+    gives_earliest : IsOrderable s o → (answer_told m ≡ committed s.next shown) ↔ IsEarliestStart s o shown
     gives_earliest none = (
       (λ e. spelled_earliest s o shown ((gives none).answer.0 e)),
       (λ w. (gives none).answer.1 (earliest_spelled s o shown w)),
     )
 
-    refuses_another : IsOrderable s o → (told m ≡ refused 16) ↔ (IsEarliestStart s o shown → ⊥)
+    refuses_another : IsOrderable s o → (answer_told m ≡ refused 16) ↔ (IsEarliestStart s o shown → ⊥)
     refuses_another none = (
       (λ e w. apart (sym e ∙ (gives none).answer.1 (earliest_spelled s o shown w))),
       (λ n. (gives none).refusal (λ w. n (spelled_earliest s o shown w))),
@@ -76,7 +76,7 @@ module _ (s : Station) (m : Made) (v : Valid s) (meets : MeetsApply s m) (o : Or
         ((not (is_start (start_for (view s) o.feeder (draw_for (view s) o.feeder o.line o.time o.rate)) shown), 16) ∷ [])
         none).0 in
         let gave = granted_of s m v meets (Commit o shown) named free in
-        let taken : told m ≡ committed s.next shown = ap (λ (r : Result). r.answer) gave in (
+        let taken : answer_told m ≡ committed s.next shown = ap (λ (r : Result). r.answer) gave in (
           (gives orderable).others_same ((gives orderable).answer.0 taken)
               ∙ ap (λ (n : ℕ). holding (view s) o.feeder (charges_on (view s) o.feeder ++ (charge_for s o shown ∷ [])) n)
               (sym (add-one s.next)),

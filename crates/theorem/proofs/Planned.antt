@@ -2,17 +2,15 @@
 use mathlib.Core.Logic.{◌↔◌}
 use mathlib.Core.Path.{◌≡◌, refl, sym, ap, subst, ◌∙◌}
 use Prim.Native.Nat.{ℕ}
-use mathlib.Core.List.{List, [], ◌∷◌}
-use native.Mathlib.Omega.{arith}
+use mathlib.Core.List.{List}
 use Rattle.rules.specs.Replan.{Proposal, starts}
 use Rattle.rules.specs.Site.{State, charges_on}
 use Rattle.rules.specs.Charge.{loads_of, lateness}
-use Rattle.rules.specs.Calls.{planned, refusals, lent, step}
-use Rattle.rules.specs.Judgement.{restarted}
+use Rattle.rules.specs.Calls.{planned, refusals, step}
 use Rattle.rules.specs.Valid.{IsFeeder, ValidState}
 use Rattle.rules.proofs.Granted.{feeder_granted}
 use Rattle.guarantee.specs.DemandOne.{NoneApplies}
-use Rattle.guarantee.specs.DemandTwo.{Taken, Better, GivenStarts, Tested, cause_of}
+use Rattle.guarantee.specs.DemandTwo.{Better, Tested, cause_of}
 use Rattle.guarantee.proofs.DemandTwo.{valid_demand_two}
 use Rattle.guarantee.proofs.Taking.{each_unbroken, none_before_order}
 use Rattle.station.specs.declared.Station.{Station}
@@ -21,8 +19,9 @@ use Rattle.calls.specs.declared.Call.{Call}
 use Rattle.calls.specs.declared.Call.TheVariants.{Preview, Commit, Move, Offer, ReplanLatest, ReplanLines, Enquire, Board, Withdraw}
 use Rattle.calls.specs.Applied.{call_of}
 use Rattle.theorem.specs.Theorem.{Made, MeetsApply, call_made, given}
-use Rattle.theorem.specs.Single.{told, IsGranted, HasCause, tests}
-use Rattle.theorem.specs.Planned.{Plan, plan, no_plan, plan_in, Proposes, with_starts, AreBetter, BetterStartsAreTaken, TakenStartsAreInOrder, TakenStartsAreGiven, OtherwiseTheStationStays, PlanIsAnswered, PlanWritesNothing}
+use Rattle.theorem.specs.Single.{answer_told, IsGranted, HasCause, tests}
+use Rattle.theorem.specs.Planned.{BetterStartsAreTaken, BetterOfferIsTaken, TakenStartsAreInOrder, TakenStartsAreGiven, OtherwiseTheStationStays, PlanIsAnswered, PlanWritesNothing}
+use Rattle.theorem.specs.Proposed.{Plan, plan, no_plan, plan_in, Proposes, with_starts, AreBetter}
 use Rattle.theorem.proofs.Single.{of_step, very_station, none_of, list_of}
 use Rattle.theorem.proofs.Soundness.{spelled_sound, sound_spelled}
 
@@ -82,7 +81,7 @@ module _
 
   pub answer_tested :
       IsGranted m
-      → told m
+      → answer_told m
       ≡ planned (cause_of (view s) f proposal) (lateness (charges_on (view s) f)) (lateness (charges_on (view m.station) f)) rounds
   answer_tested free = tested.answer (none_tested free)
 
@@ -101,7 +100,7 @@ module _
     )),
   )
     where
-      same : (b a r : ℕ) → told m ≡ planned cause b a r → cause_of (view s) f proposal ≡ cause
+      same : (b a r : ℕ) → answer_told m ≡ planned cause b a r → cause_of (view s) f proposal ≡ cause
       same b a r e =
           let q
           : planned (cause_of (view s) f proposal) (lateness (charges_on (view s) f)) (lateness (charges_on (view m.station) f)) rounds
@@ -152,6 +151,10 @@ module _
 
 pub better_starts_are_taken : BetterStartsAreTaken
 better_starts_are_taken s m v meets f rounds ss proposes free = better_starts s m v meets f rounds ss proposes free
+
+pub better_offer_is_taken : BetterOfferIsTaken
+better_offer_is_taken s m v meets f named free =
+    better_starts s m v meets f 0 m.numbers (ap (λ c. plan_in (view s) c m.numbers) named) free
 
 pub taken_starts_are_in_order : TakenStartsAreInOrder
 taken_starts_are_in_order s m v meets f rounds ss proposes h =

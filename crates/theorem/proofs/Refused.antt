@@ -1,23 +1,22 @@
 -- The tests of each call's table say the same as its conditions in words.
 use mathlib.Core.Logic.{◌⊎◌, inl, inr, ◌↔◌}
-use mathlib.Core.Path.{◌≡◌, refl, sym, ap, subst, ◌∙◌}
-use Prim.Native.Nat.{ℕ, suc, ◌*◌, ◌≤◌, ◌<◌}
-use mathlib.Core.Bool.{Bool, true, false, not, ◌&&◌, ◌||◌, true≢false}
+use mathlib.Core.Path.{◌≡◌, refl, sym, subst, ◌∙◌}
+use Prim.Native.Nat.{ℕ, suc, ◌*◌, ◌<◌}
+use mathlib.Core.Bool.{Bool, true, false, not, ◌&&◌, ◌||◌}
 use mathlib.Core.List.{List, [], ◌∷◌, ◌++◌}
 use native.Mathlib.Omega.{arith}
 use lib.Dec.{ltb, leb, eqb}
 use lib.ListN.{length}
 use borrow.Author.Tests.{leb-true, le-leb, not-false}
-use Rattle.rules.specs.Basics.{some, Each}
+use Rattle.rules.specs.Basics.{some}
 use Rattle.rules.specs.Load.{Load}
 use Rattle.rules.specs.Charge.{loads_of, is_begun, waiting_charges, has_ticket, without_ticket}
-use Rattle.rules.specs.Site.{State, feeder_of, charges_on, site_charges}
+use Rattle.rules.specs.Site.{feeder_of, charges_on, site_charges}
 use Rattle.rules.specs.Calls.{Answer, refused, committed, withdrawn, preview, commit, withdraw, refusals, order_refusals, is_start, start_for, draw_for, feeder_with, sound_without, rises_from, step}
 use Rattle.rules.specs.Calls as rules
 use Rattle.rules.proofs.Ranges.{and_right, and_both}
 use Rattle.rules.proofs.Lists.{each_append}
 use Rattle.rules.proofs.Withdrawing.{held_waits}
-use Rattle.guarantee.specs.Past.{is_refused}
 use Rattle.guarantee.specs.DemandOne.{FirstIs, NoneApplies}
 use Rattle.guarantee.specs.DemandTwo.{Waits, CommitStart, Withdrawal}
 use Rattle.guarantee.proofs.DemandOne.{valid_demand_one}
@@ -29,11 +28,11 @@ use Rattle.ordering.specs.declared.Order.{Order}
 use Rattle.calls.specs.declared.Call.{Call}
 use Rattle.calls.specs.declared.Call.TheVariants.{Preview, Commit, Move, Offer, ReplanLatest, ReplanLines, Enquire, Board, Withdraw}
 use Rattle.calls.specs.Applied.{call_of}
-use Rattle.theorem.specs.Theorem.{Made, MeetsApply, call_made, given}
-use Rattle.theorem.specs.Single.{told, tests, OfSome, when, FirstToHold}
+use Rattle.theorem.specs.Single.{tests, when}
 use Rattle.theorem.specs.Soundness.{IsSound, IsEarliestStart}
-use Rattle.theorem.specs.Refused.{no_such_feeder, order_conditions, Rises, conditions_by, RefusedByTheTable, RefusedForTheFirst, OthersAreAnswered, RefusalLeavesTheStation, RefusalLeavesTheList}
-use Rattle.theorem.proofs.Single.{of_step, very_station, refused_by, answered, written_stays}
+use Rattle.theorem.specs.Refused.{RefusedByTheTable, RefusedForTheFirst, OthersAreAnswered, RefusalLeavesTheStation, RefusalLeavesTheList}
+use Rattle.theorem.specs.Conditions.{order_conditions, Rises, conditions_by}
+use Rattle.theorem.proofs.Single.{very_station, refused_by, answered, written_stays}
 use Rattle.theorem.proofs.Soundness.{spelled_earliest, earliest_spelled, spelled_sound, sound_spelled}
 use Rattle.theorem.proofs.Conditions.{Matches, first_holds, matches_more, below_is, most_is, equal_is, either_is, both_is, not_is, some_is, none_is}
 

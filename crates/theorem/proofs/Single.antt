@@ -1,8 +1,7 @@
--- What a single call of a valid station gave is one step of the rules, so that demands 1 and 2 hold of it.
+-- What a single call of a valid station gave is one step of the rules, so that what they promise holds of it.
 use mathlib.Core.Path.{◌≡◌, refl, sym, ap, subst, ◌∙◌}
 use Prim.Native.Nat.{ℕ, zero, suc}
-use mathlib.Core.Bool.{true, false, true≢false}
-use mathlib.Core.List.{List}
+use mathlib.Core.Bool.{false, true≢false}
 use Rattle.rules.specs.Basics.{first_of}
 use Rattle.rules.specs.Site.{State}
 use Rattle.rules.specs.Calls as rules
@@ -10,7 +9,7 @@ use Rattle.rules.specs.Calls.{Result, answering, refusals, lent, granted, step}
 use Rattle.rules.proofs.Tables.{none_first_of}
 use Rattle.rules.proofs.Granted.{refusals_none}
 use Rattle.guarantee.specs.Past.{is_refused}
-use Rattle.guarantee.specs.DemandOne.{NoneApplies, RefusedBy, AnswerTo, DemandOne}
+use Rattle.guarantee.specs.DemandOne.{NoneApplies, RefusedBy, AnswerTo}
 use Rattle.guarantee.proofs.DemandOne.{valid_demand_one}
 use Rattle.station.specs.declared.Station.{Station}
 use Rattle.station.specs.View.{view, Valid}

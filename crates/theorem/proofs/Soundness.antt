@@ -1,5 +1,4 @@
--- The soundness of demand 2, spelled out over minutes and lines.
-use mathlib.Core.Logic.{◌↔◌}
+-- Soundness and the earliest start, as the rules have them and spelled out over minutes and lines.
 use mathlib.Core.List.{List}
 use Prim.Native.Nat.{ℕ}
 use Rattle.rules.specs.Load.{Load}
@@ -11,7 +10,7 @@ use Rattle.guarantee.specs.DemandTwo.{SoundPlan, EarliestStart}
 use Rattle.station.specs.declared.Station.{Station}
 use Rattle.station.specs.View.{view}
 use Rattle.ordering.specs.declared.Order.{Order}
-use Rattle.theorem.specs.Soundness.{IsSound, IsSoundFrom, IsEarliestStart}
+use Rattle.theorem.specs.Soundness.{IsSound, IsEarliestStart}
 
 pub spelled_sound : (s : Station) (f : ℕ) (loads : List Load) → SoundPlan (view s) f loads → IsSound s f loads
 spelled_sound s f loads p = (

@@ -7,7 +7,7 @@ use Rattle.rules.specs.Site.{feeder_of, charges_on, others_of}
 use Rattle.station.specs.declared.Station.{Station}
 use Rattle.station.specs.View.{view}
 use Rattle.theorem.specs.Single.{OfEveryCall, IsGranted, HasCause, OfSome, Condition, when, FirstToHold}
-use Rattle.theorem.specs.Planned.{Proposes, with_starts, end_now, end_with}
+use Rattle.theorem.specs.Proposed.{Proposes, with_starts, end_now, end_with}
 
 -- in some minute from the clock on a count is above the feeder's limit, or the site above its own
 abbrev pub IsOverfull : Station → ℕ → List Load → Type 0

@@ -1,6 +1,7 @@
 -- What an opening gives, whatever it asks for: N, c and r of each feeder, how many feeders, and W.
-use Rattle.std.specs.Prelude.{◌⊎◌, ◌↔◌, ◌≡◌, ℕ, ◌<◌, true, false, List, [], ◌∷◌, map, Result}
-use Rattle.rules.specs.Calls.{Asked, Answer, refused, opened, bound_of, settings_read, fresh, least, open_refusals}
+use Rattle.std.specs.Prelude.{◌⊎◌, ◌↔◌, ◌≡◌, ℕ, ◌-◌, ◌≤◌, ◌<◌, true, false, List, [], ◌∷◌, map, get_or, Result}
+use Rattle.rules.specs.Site.{Feeder, feeder_of}
+use Rattle.rules.specs.Calls.{Settings, Asked, Answer, refused, opened, settings, settings_read, bound_of, open_refusals}
 use Rattle.guarantee.specs.Past.{is_refused}
 use Rattle.guarantee.specs.DemandOne.{FirstIs}
 use Rattle.refusals.specs.declared.Refusal.{Refusal}
@@ -37,13 +38,40 @@ abbrev pub OpeningRefusedForTheFirst : Type 0
 OpeningRefusedForTheFirst =
     OfEveryOpening (λ x told first. (k : ℕ) → (told ≡ refused k) ↔ FirstToHold (opening_conditions x) k)
 
+-- a feeder of these settings that holds nothing
+abbrev pub empty_feeder : Settings → Feeder
+empty_feeder y =
+    record {
+      limit = y.limit;
+      percent = y.percent;
+      bound = bound_of y.limit y.percent;
+      tail = y.tail;
+      charges = [];
+    }
+
 -- Beside a refused one stands the fresh station of one feeder, N 1, c 100 and r 0, under W 720.
 abbrev pub LeastBesideARefusal : Type 0
-LeastBesideARefusal = OfEveryOpening (λ x told first. is_refused told ≡ true → view first ≡ fresh least)
+LeastBesideARefusal =
+    OfEveryOpening (λ x told first.
+    is_refused told ≡ true
+    → (first.count ≡ 1)
+    × (first.site ≡ 720)
+    × (first.clock ≡ 0)
+    × (first.next ≡ 1)
+    × (feeder_of (view first) 1 ≡ empty_feeder (settings 1 100 0)))
 
--- One that is not refused answers D of each feeder, and gives the station that was asked for: each feeder up to the count with its N, c, D and
--- r, W, clock 0, next ticket 1, and no charges.
+-- One that is not refused answers D of each feeder, and gives the station that was asked for: as many feeders, each with its settings, and W.
+-- Its clock is 0, its next ticket is 1, and it holds nothing.
 abbrev pub OpenedAsAsked : Type 0
 OpenedAsAsked =
     OfEveryOpening (λ x told first.
-    is_refused told ≡ false → (told ≡ opened (map (λ g. g.bound) (fresh x).feeders)) × (view first ≡ fresh x))
+    is_refused told ≡ false
+    → (told ≡ opened (map (λ y. bound_of y.limit y.percent) (settings_read x)))
+    × (first.count ≡ x.count)
+    × (first.site ≡ x.site)
+    × (first.clock ≡ 0)
+    × (first.next ≡ 1)
+    × ((f : ℕ)
+    → 1 ≤ f
+    → f ≤ x.count
+    → feeder_of (view first) f ≡ empty_feeder (get_or x.settings (f - 1) (settings 0 0 0))))

@@ -1,5 +1,5 @@
 -- What a preview and a commit give, in words.
-use Rattle.std.specs.Prelude.{◌↔◌, ◌≡◌, ℕ, ◌+◌, List, [], ◌∷◌, ◌++◌}
+use Rattle.std.specs.Prelude.{◌↔◌, ◌≡◌, ℕ, ◌+◌, [], ◌∷◌, ◌++◌}
 use Rattle.rules.specs.Charge.{Charge}
 use Rattle.rules.specs.Site.{feeder_of, charges_on, holding}
 use Rattle.rules.specs.Calls.{refused, previewed, committed, refusals}
@@ -9,14 +9,14 @@ use Rattle.station.specs.View.{view}
 use Rattle.ordering.specs.declared.Order.{Order}
 use Rattle.ordering.specs.Ordered.{preview_of}
 use Rattle.calls.specs.declared.Call.TheVariants.{Preview, Commit}
-use Rattle.theorem.specs.Single.{OfEveryCall, told, IsGranted}
+use Rattle.theorem.specs.Single.{OfEveryCall, answer_told, IsGranted}
 use Rattle.theorem.specs.Soundness.{IsEarliestStart}
 
 -- A preview that is not refused shows the earliest sound start.
 abbrev pub PreviewShowsTheEarliest : Type 0
 PreviewShowsTheEarliest =
     OfEveryCall (λ s m.
-    (o : Order) → m.call ≡ Preview o → IsGranted m → (start : ℕ) × (told m ≡ previewed start) × IsEarliestStart s o start)
+    (o : Order) → m.call ≡ Preview o → IsGranted m → (start : ℕ) × (answer_told m ≡ previewed start) × IsEarliestStart s o start)
 
 -- A preview changes nothing, refused or not.
 abbrev pub PreviewChangesNothing : Type 0
@@ -34,7 +34,7 @@ CommitGivesTheEarliest =
     (o : Order) (shown : ℕ)
     → m.call ≡ Commit o shown
     → IsOrderable s o
-    → (told m ≡ committed s.next shown) ↔ IsEarliestStart s o shown)
+    → (answer_told m ≡ committed s.next shown) ↔ IsEarliestStart s o shown)
 
 -- and is refused with 16 exactly where another start is.
 abbrev pub CommitRefusesAnother : Type 0
@@ -43,7 +43,7 @@ CommitRefusesAnother =
     (o : Order) (shown : ℕ)
     → m.call ≡ Commit o shown
     → IsOrderable s o
-    → (told m ≡ refused 16) ↔ (IsEarliestStart s o shown → ⊥))
+    → (answer_told m ≡ refused 16) ↔ (IsEarliestStart s o shown → ⊥))
 
 -- the charge of an order, with its start
 abbrev pub charge_for : Station → Order → ℕ → Charge

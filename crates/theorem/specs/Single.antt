@@ -12,14 +12,14 @@ abbrev pub OfEveryCall : (Station → Made → Type 0) → Type 0
 OfEveryCall Holds = (s : Station) (m : Made) → Valid s → MeetsApply s m → Holds s m
 
 -- the answer, in the words of the rules
-abbrev pub told : Made → Answer
-told m = answer_of m.answer
+abbrev pub answer_told : Made → Answer
+answer_told m = answer_of m.answer
 
 abbrev pub IsRefused : Made → Type 0
-IsRefused m = is_refused (told m) ≡ true
+IsRefused m = is_refused (answer_told m) ≡ true
 
 abbrev pub IsGranted : Made → Type 0
-IsGranted m = is_refused (told m) ≡ false
+IsGranted m = is_refused (answer_told m) ≡ false
 
 -- the tests of the rules that refuse the call, in their order, each with its number
 abbrev pub tests : Station → Made → List (Bool × ℕ)
@@ -27,7 +27,7 @@ tests s m = refusals (view s) (call_made m)
 
 -- an offer or a replan is answered with this cause: 0 where its list is taken, or else the reason for keeping the old starts
 abbrev pub HasCause : Made → ℕ → Type 0
-HasCause m cause = (before : ℕ) × (after : ℕ) × (rounds : ℕ) × (told m ≡ planned cause before after rounds)
+HasCause m cause = (before : ℕ) × (after : ℕ) × (rounds : ℕ) × (answer_told m ≡ planned cause before after rounds)
 
 -- it holds of some member of the list
 abbrev pub OfSome {ℓ} : {A : Type ℓ} → (A → Type 0) → List A → Type 0

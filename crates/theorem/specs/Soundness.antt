@@ -1,7 +1,7 @@
 -- When the plan of a feeder is sound, and the earliest start of an order, spelled out over minutes and lines.
-use Rattle.std.specs.Prelude.{◌≡◌, ℕ, ◌+◌, ◌≤◌, List}
+use Rattle.std.specs.Prelude.{ℕ, ◌+◌, ◌≤◌, List}
 use Rattle.rules.specs.Load.{Load, count, drawn, IsLine}
-use Rattle.rules.specs.Charge.{Charge, loads_of}
+use Rattle.rules.specs.Charge.{loads_of}
 use Rattle.rules.specs.Site.{feeder_of, charges_on, others_of}
 use Rattle.rules.specs.Search.{added}
 use Rattle.rules.specs.Calls.{draw_for}

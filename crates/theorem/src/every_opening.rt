@@ -2,7 +2,7 @@
 
 ghost use Rattle.theorem.specs.EveryOpening.{OpeningRefusedByTheTable, OpeningRefusedForTheFirst, LeastBesideARefusal, OpenedAsAsked};
 
-/// An opening is refused with the first number of its table that applies, and beside it stands the
+/// An opening is refused for the first condition of its table that applies, and beside it stands the
 /// least station; one that is not refused gives the station that was asked for.
 pub fn every_opening()
     ensures table { OpeningRefusedByTheTable }

@@ -1,6 +1,7 @@
 // The calls of which the theorem in specs/Theorem.antt speaks: the checker holds it here to the contracts of `open`, `apply` and `make`.
 #![tactic(auto)]
 
+pub mod clock_calls;
 pub mod every_answer;
 pub mod every_call;
 pub mod every_enquiry;
@@ -9,9 +10,12 @@ pub mod every_opening;
 pub mod every_order;
 pub mod every_ticket;
 pub mod every_withdrawal;
+pub mod keeping;
 pub mod order_calls;
+pub mod other_calls;
 pub mod plan_calls;
 pub mod refused_calls;
+pub mod restarting;
 
 ghost use Rattle.station.specs.View.{Valid};
 ghost use Rattle.station.specs.Opened.{asked_of};
@@ -63,7 +67,7 @@ pub fn theorem()
     ensures { Theorem }
 {}
 
-/// Two stations that show the same are the same: nothing of a station is hidden from the rules.
+/// Two valid stations that show the same are the same: what the rules see of a station is all of it.
 #[tactic(auto, using(crate::proofs::Determined::view_determines))]
 pub fn view_determines()
     ensures { ViewDetermines }

@@ -8,8 +8,9 @@ pub fn previews()
     ensures unchanged { PreviewChangesNothing }
 {}
 
-/// A commit gives the next ticket and exactly the start that was shown where this is the earliest sound one, and is refused with 16 where
-/// it is not. Nothing changes then but that the feeder holds one more charge.
+/// A commit gives the next ticket and exactly the start that was shown where this is the earliest
+/// sound one, and is refused with 16 where it is not. Nothing changes then but that the feeder
+/// holds one more charge.
 #[tactic(auto, using(crate::proofs::Ordered::commit_adds_one_charge))]
 pub fn commits()
     ensures earliest { CommitGivesTheEarliest }
