@@ -50,12 +50,12 @@ pub record GuaranteedAcross (b : Start) (events : List CodeEvent) : Type 0 where
   -- all that was seen on the way is what the rules say, and so is what any further call would give
   pub seen : AreAsTheRulesSay (lists_first b) events
   pub next : (m : Made) → MeetsApply (kept_after b events).station m → given m ≡ step (view (kept_after b events).station) (call_made m)
-  -- what demand 3 reads off the list in force is what was seen of it
+  -- what is known after the list in force is what was seen of it
   pub known_same : known_in_force (made_in_force b events) ≡ known_of (calls_in (made_in_force b events))
-  -- Demands 1 and 2, of the station that stands
+  -- single calls and plans are as they have to be, of the station that stands
   pub one : (call : rules.Call) → DemandOne step (view (kept_after b events).station) call
   pub two : DemandTwo step (view (kept_after b events).station)
-  -- Demand 3, of the list in force
+  -- and what is claimed of a list of calls holds of the one in force
   pub three : Claimed (calls_in (made_in_force b events))
 
 abbrev pub CodeAcrossRestarts : Type 0
