@@ -14,11 +14,11 @@ returns-then-largest-drawn c =
     asked_none c.args.plan.now c.args.standing.now c.args.minute c.args.bound (get_or c.args.plan.now c.place.result (empty_step 0)) (λ l i. sym (level_in c.args.plan.now (line_of c.args.plan.now l) c.place.ensures))
     c.largest_line-line.ensures c.largest.ensures (omega (arith, c.level-drawn.ensures)) c.if-largest-drawn.true
 
-pub overflow_add-cap : goal.overflow_add-cap
-overflow_add-cap c =
-    omega (arith, c.smallest.ensures, level_in c.args.plan.now (line_of c.args.plan.now 1) c.place.ensures, c.requires.small 1 line_one, c.requires.bound_most)
-
 pub returns : goal.returns
 returns c =
     asked_lowers c.args.plan.now c.args.standing.now c.args.minute c.args.bound (get_or c.args.plan.now c.place.result (empty_step 0)) (λ l i. sym (level_in c.args.plan.now (line_of c.args.plan.now l) c.place.ensures))
     c.largest_line-line.ensures c.largest.ensures (omega (arith, c.level-drawn.ensures)) c.if-largest-drawn.false c.smallest.ensures (omega arith) (omega arith)
+
+pub overflow_add-cap : goal.overflow_add-cap
+overflow_add-cap c =
+    omega (arith, c.smallest.ensures, level_in c.args.plan.now (line_of c.args.plan.now 1) c.place.ensures, c.requires.small 1 line_one, c.requires.bound_most)
