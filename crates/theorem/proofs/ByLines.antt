@@ -17,12 +17,12 @@ use Rattle.station.specs.declared.Station.{Station}
 use Rattle.station.specs.View.{view, Valid}
 use Rattle.calls.specs.declared.Call.TheVariants.{ReplanLines}
 use Rattle.theorem.specs.Theorem.{Made, MeetsApply}
-use Rattle.theorem.specs.Single.{IsGranted, HasCause}
+use Rattle.theorem.specs.Single.{IsGranted, HasCauseAfter}
 use Rattle.theorem.specs.Proposed.{plan, plan_in, Proposes}
 use Rattle.theorem.specs.ByLines.{StartsOfAnEvenRound, CauseOneIsNoneActive, CauseTwoIsAllowanceSpent}
 use Rattle.theorem.specs.Rounds.{IsRound, IsEvenAt, IsFirstUneven, IsFullest, AreCapsAfter}
 use Rattle.theorem.proofs.Single.{none_of}
-use Rattle.theorem.proofs.Planned.{cause_tested, there_tested}
+use Rattle.theorem.proofs.Planned.{cause_after_tested, there_tested}
 use Rattle.theorem.proofs.ByLatestStart.{own_cause}
 use Rattle.theorem.proofs.Rounds.{same_starts, none_apart, replanned, Ends, caps_of, even_ends, inactive_ends, lines_end, stops, spent}
 
@@ -48,11 +48,15 @@ module _
   end : Ends s v f there allowance replan
   end = lines_end s v f there allowance some
 
-  own : (k : ℕ) → 1 ≤ k → k ≤ 2 → HasCause m k ↔ (replan.proposal ≡ none k)
-  own k low high =
-      let t = cause_tested s m v meets f replan.proposal replan.rounds proposes free k in
+  own :
+      (k times : ℕ)
+      → 1 ≤ k
+      → k ≤ 2
+      → HasCauseAfter m k times ↔ ((replan.proposal ≡ none k) × (replan.rounds ≡ times))
+  own k times low high =
+      let t = cause_after_tested s m v meets f replan.proposal replan.rounds proposes free k times in
       let o = own_cause s v f there k low high replan.proposal in
-      ((λ e. o.0 (t.0 e)), (λ e. t.1 (o.1 e)))
+      ((λ e. (o.0 (t.0 e).0, (t.0 e).1)), (λ e. t.1 (o.1 e.0, e.1)))
 
   -- what comes of the replan is one thing
   differ : (p q : Proposal) (r : Replanned) (n : ℕ) → r ≡ replanned p n → r.proposal ≡ q → p ≡ q
@@ -127,22 +131,28 @@ module _
           proposes ∙ ap (λ (r : Replanned). plan f r.proposal r.rounds) is ∙ ap (λ (k : ℕ). plan f (starts ss) k) (sym times)
 
   none_active :
-      HasCause m 1
+      (rounds : ℕ)
+      → HasCauseAfter m 1 rounds
       ↔ ((n : ℕ)
       × (cap : Caps)
       × (placed : List Charge)
       × (t : ℕ)
       × (full : ℕ)
       × (n < allowance)
+      × (rounds ≡ n + 1)
       × AreCapsAfter s f n cap
       × IsRound s f cap placed
       × IsFirstUneven s f placed t
       × IsFullest s f placed t full
       × (placed_active placed full t ≡ false))
-  none_active = ((λ e. forth ((own 1 (omega arith) (omega arith)).0 e) end), (λ q. (own 1 (omega arith) (omega arith)).1 (back q)))
+  none_active rounds = (
+    (λ e. let c = (own 1 rounds (omega arith) (omega arith)).0 e in forth c.0 c.1 end),
+    (λ q. (own 1 rounds (omega arith) (omega arith)).1 (back q)),
+  )
     where
       forth :
           replan.proposal ≡ none 1
+          → replan.rounds ≡ rounds
           → Ends s v f there allowance replan
           → (n : ℕ)
           × (cap : Caps)
@@ -150,16 +160,17 @@ module _
           × (t : ℕ)
           × (full : ℕ)
           × (n < allowance)
+          × (rounds ≡ n + 1)
           × AreCapsAfter s f n cap
           × IsRound s f cap placed
           × IsFirstUneven s f placed t
           × IsFullest s f placed t full
           × (placed_active placed full t ≡ false)
-      forth g (inl (us, n, cap, less, after, q, is)) =
+      forth g made (inl (us, n, cap, less, after, q, is)) =
           absurd (none_apart 1 us (sym (differ (starts us) (none 1) replan (n + 1) is g)))
-      forth g (inr (inl (n, cap, less, after, (placed, t, full, round, u, i, a), is))) =
-          (n, cap, placed, t, full, less, after, round, u, i, a)
-      forth g (inr (inr (cap, after, is))) =
+      forth g made (inr (inl (n, cap, less, after, (placed, t, full, round, u, i, a), is))) =
+          (n, cap, placed, t, full, less, sym made ∙ ap (λ (x : Replanned). x.rounds) is, after, round, u, i, a)
+      forth g made (inr (inr (cap, after, is))) =
           let e : none 2 ≡ none 1 = differ (none 2) (none 1) replan allowance is g in
           let z : ◌≡◌ {A = ℕ} 2 1 = cc in
           absurd (omega arith)
@@ -171,37 +182,54 @@ module _
           × (t : ℕ)
           × (full : ℕ)
           × (n < allowance)
+          × (rounds ≡ n + 1)
           × AreCapsAfter s f n cap
           × IsRound s f cap placed
           × IsFirstUneven s f placed t
           × IsFullest s f placed t full
           × (placed_active placed full t ≡ false)
-          → replan.proposal ≡ none 1
-      back (n, cap, placed, t, full, less, after, round, u, i, a) =
-          ap (λ (r : Replanned). r.proposal)
-          (stops s v f there allowance n cap (none 1) less after
-          (inactive_ends s v f there cap (caps_of s v f there n cap after) (placed, t, full, round, u, i, a)))
+          → (replan.proposal ≡ none 1) × (replan.rounds ≡ rounds)
+      back (n, cap, placed, t, full, less, times, after, round, u, i, a) =
+          let is : replan ≡ replanned (none 1) (n + 1)
+          = stops s v f there allowance n cap (none 1) less after
+          (inactive_ends s v f there cap (caps_of s v f there n cap after) (placed, t, full, round, u, i, a)) in
+          (ap (λ (r : Replanned). r.proposal) is, ap (λ (r : Replanned). r.rounds) is ∙ sym times)
 
-  allowance_spent : HasCause m 2 ↔ ((cap : Caps) × AreCapsAfter s f allowance cap)
-  allowance_spent = (
-    (λ e. forth ((own 2 (omega arith) (omega arith)).0 e) end),
-    (λ q. (own 2 (omega arith) (omega arith)).1 (ap (λ (r : Replanned). r.proposal) (spent s v f there allowance q.0 q.1 some))),
+  allowance_spent :
+      (rounds : ℕ) → HasCauseAfter m 2 rounds ↔ ((cap : Caps) × (rounds ≡ allowance) × AreCapsAfter s f allowance cap)
+  allowance_spent rounds = (
+    (λ e. let c = (own 2 rounds (omega arith) (omega arith)).0 e in forth c.0 c.1 end),
+    (λ q. (own 2 rounds (omega arith) (omega arith)).1 (back q.0 q.1 q.2)),
   )
     where
-      forth : replan.proposal ≡ none 2 → Ends s v f there allowance replan → (cap : Caps) × AreCapsAfter s f allowance cap
-      forth g (inl (us, n, cap, less, after, q, is)) =
+      forth :
+          replan.proposal ≡ none 2
+          → replan.rounds ≡ rounds
+          → Ends s v f there allowance replan
+          → (cap : Caps) × (rounds ≡ allowance) × AreCapsAfter s f allowance cap
+      forth g made (inl (us, n, cap, less, after, q, is)) =
           absurd (none_apart 2 us (sym (differ (starts us) (none 2) replan (n + 1) is g)))
-      forth g (inr (inl (n, cap, less, after, q, is))) =
+      forth g made (inr (inl (n, cap, less, after, q, is))) =
           let e : none 1 ≡ none 2 = differ (none 1) (none 2) replan (n + 1) is g in
           let z : ◌≡◌ {A = ℕ} 1 2 = cc in
           absurd (omega arith)
-      forth g (inr (inr (cap, after, is))) = (cap, after)
+      forth g made (inr (inr (cap, after, is))) = (cap, sym made ∙ ap (λ (x : Replanned). x.rounds) is, after)
+
+      back :
+          (cap : Caps)
+          → rounds ≡ allowance
+          → AreCapsAfter s f allowance cap
+          → (replan.proposal ≡ none 2) × (replan.rounds ≡ rounds)
+      back cap times after =
+          let is : replan ≡ replanned (none 2) allowance = spent s v f there allowance cap after some in
+          (ap (λ (r : Replanned). r.proposal) is, ap (λ (r : Replanned). r.rounds) is ∙ sym times)
 
 pub starts_of_an_even_round : StartsOfAnEvenRound
 starts_of_an_even_round s m v meets f allowance named free ss rounds = even_round s m v meets f allowance named free ss rounds
 
 pub cause_one_is_none_active : CauseOneIsNoneActive
-cause_one_is_none_active s m v meets f allowance named free = none_active s m v meets f allowance named free
+cause_one_is_none_active s m v meets f allowance named free rounds = none_active s m v meets f allowance named free rounds
 
 pub cause_two_is_allowance_spent : CauseTwoIsAllowanceSpent
-cause_two_is_allowance_spent s m v meets f allowance named free = allowance_spent s m v meets f allowance named free
+cause_two_is_allowance_spent s m v meets f allowance named free rounds =
+    allowance_spent s m v meets f allowance named free rounds

@@ -19,7 +19,7 @@ use Rattle.calls.specs.declared.Call.{Call}
 use Rattle.calls.specs.declared.Call.TheVariants.{Preview, Commit, Move, Offer, ReplanLatest, ReplanLines, Enquire, Board, Withdraw}
 use Rattle.calls.specs.Applied.{call_of}
 use Rattle.theorem.specs.Theorem.{Made, MeetsApply, call_made, given}
-use Rattle.theorem.specs.Single.{answer_told, IsGranted, HasCause, tests}
+use Rattle.theorem.specs.Single.{answer_told, IsGranted, HasCause, HasCauseAfter, tests}
 use Rattle.theorem.specs.Planned.{BetterStartsAreTaken, BetterOfferIsTaken, TakenStartsAreInOrder, TakenStartsAreGiven, OtherwiseTheStationStays, PlanIsAnswered, PlanWritesNothing}
 use Rattle.theorem.specs.Proposed.{Plan, plan, no_plan, plan_in, Proposes, with_starts, AreBetter}
 use Rattle.theorem.proofs.Single.{of_step, very_station, none_of, list_of}
@@ -107,6 +107,38 @@ module _
           ≡ planned cause b a r
           = sym (answer_tested free) ∙ e in
           cc
+
+  -- and so are the rounds
+  pub cause_after_tested :
+      IsGranted m → (cause times : ℕ) → HasCauseAfter m cause times ↔ ((cause_of (view s) f proposal ≡ cause) × (rounds ≡ times))
+  cause_after_tested free cause times = (
+    (λ h. same h.0 h.1 h.2),
+    (λ e. (
+      lateness (charges_on (view s) f),
+      lateness (charges_on (view m.station) f),
+      answer_tested free
+          ∙ ap
+          (λ (k : ℕ). planned k (lateness (charges_on (view s) f)) (lateness (charges_on (view m.station) f)) rounds)
+          e.0
+          ∙ ap
+          (λ (r : ℕ). planned cause (lateness (charges_on (view s) f)) (lateness (charges_on (view m.station) f)) r)
+          e.1,
+    )),
+  )
+    where
+      same : (b a : ℕ) → answer_told m ≡ planned cause b a times → (cause_of (view s) f proposal ≡ cause) × (rounds ≡ times)
+      same b a e = (of_cause, of_rounds)
+        where
+          q :
+              planned (cause_of (view s) f proposal) (lateness (charges_on (view s) f)) (lateness (charges_on (view m.station) f)) rounds
+              ≡ planned cause b a times
+          q = sym (answer_tested free) ∙ e
+
+          of_cause : cause_of (view s) f proposal ≡ cause
+          of_cause = let p = q in cc
+
+          of_rounds : rounds ≡ times
+          of_rounds = let p = q in cc
 
 module _
     (s : Station) (m : Made) (v : Valid s) (meets : MeetsApply s m) (f rounds : ℕ) (ss : List ℕ)

@@ -6,7 +6,7 @@ use Rattle.rules.specs.Replan.{starts, starts_in, placed_active}
 use Rattle.rules.specs.Site.{charges_on}
 use Rattle.station.specs.View.{view}
 use Rattle.calls.specs.declared.Call.TheVariants.{ReplanLines}
-use Rattle.theorem.specs.Single.{OfEveryCall, IsGranted, HasCause}
+use Rattle.theorem.specs.Single.{OfEveryCall, IsGranted, HasCauseAfter}
 use Rattle.theorem.specs.Proposed.{Proposes}
 use Rattle.theorem.specs.Rounds.{IsRound, IsEvenAt, IsFirstUneven, IsFullest, AreCapsAfter}
 
@@ -30,31 +30,36 @@ StartsOfAnEvenRound =
     × ((t : ℕ) → s.clock ≤ t → IsEvenAt s f placed t)
     × (starts_in placed (waiting_charges s.clock (charges_on (view s) f)) ≡ ss)))
 
--- It has cause 1 exactly when, in a round within the allowance, no placed charge of the fullest line is active in the first uneven minute.
+-- It has cause 1 after so many rounds exactly when each round before the last of them found a cap to lower, and in the last, within the
+-- allowance, no placed charge of the fullest line is active in the first uneven minute.
 abbrev pub CauseOneIsNoneActive : Type 0
 CauseOneIsNoneActive =
     OfEveryCall (λ s m.
     (f allowance : ℕ)
     → m.call ≡ ReplanLines f allowance
     → IsGranted m
-    → HasCause m 1
+    → (rounds : ℕ)
+    → HasCauseAfter m 1 rounds
     ↔ ((n : ℕ)
     × (cap : Caps)
     × (placed : List Charge)
     × (t : ℕ)
     × (full : ℕ)
     × (n < allowance)
+    × (rounds ≡ n + 1)
     × AreCapsAfter s f n cap
     × IsRound s f cap placed
     × IsFirstUneven s f placed t
     × IsFullest s f placed t full
     × (placed_active placed full t ≡ false)))
 
--- It has cause 2 exactly when as many rounds as the allowance each lowered a cap.
+-- It has cause 2 after so many rounds exactly when as many rounds as the allowance each found a cap to lower, and these are the rounds. What
+-- the last of them found is lowered no more, as no round is left for it.
 abbrev pub CauseTwoIsAllowanceSpent : Type 0
 CauseTwoIsAllowanceSpent =
     OfEveryCall (λ s m.
     (f allowance : ℕ)
     → m.call ≡ ReplanLines f allowance
     → IsGranted m
-    → HasCause m 2 ↔ ((cap : Caps) × AreCapsAfter s f allowance cap))
+    → (rounds : ℕ)
+    → HasCauseAfter m 2 rounds ↔ ((cap : Caps) × (rounds ≡ allowance) × AreCapsAfter s f allowance cap))

@@ -29,6 +29,10 @@ tests s m = refusals (view s) (call_made m)
 abbrev pub HasCause : Made → ℕ → Type 0
 HasCause m cause = (before : ℕ) × (after : ℕ) × (rounds : ℕ) × (answer_told m ≡ planned cause before after rounds)
 
+-- and it is answered with this cause and so many rounds: those that a replan by lines has made, of which there are none in all other calls
+abbrev pub HasCauseAfter : Made → ℕ → ℕ → Type 0
+HasCauseAfter m cause rounds = (before : ℕ) × (after : ℕ) × (answer_told m ≡ planned cause before after rounds)
+
 -- it holds of some member of the list
 abbrev pub OfSome {ℓ} : {A : Type ℓ} → (A → Type 0) → List A → Type 0
 OfSome P [] = ⊥
