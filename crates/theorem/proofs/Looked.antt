@@ -5,17 +5,20 @@ use Prim.Native.Nat.{ℕ, zero, suc, ◌+◌, ◌≤◌, ◌<◌}
 use mathlib.Core.Bool.{Bool, true, false, cond}
 use mathlib.Core.List.{List, [], ◌∷◌, map}
 use native.Mathlib.Omega.{arith}
-use lib.Dec.{eqb}
+use lib.Dec.{leb, eqb}
 use lib.ListN.{length, get_or, drop}
-use borrow.Author.Tests.{eqb-true, eqb-false, ltb-true, ltb-false}
-use Rattle.rules.specs.Basics.{Each, first_of}
-use Rattle.rules.proofs.Sites.{map_length}
+use borrow.Author.Tests.{eqb-true, eqb-false, ltb-true, ltb-false, lt-leb}
+use Rattle.rules.specs.Basics.{Each, first_of, keep}
+use Rattle.rules.proofs.Sites.{map_length, by_place}
+use Rattle.rules.proofs.Distinct.{each_joined}
 use Rattle.rules.specs.Charge.{Charge, is_begun}
-use Rattle.rules.specs.Site.{State, site_charges}
+use Rattle.rules.specs.Site.{State, charges_on, site_charges}
 use Rattle.rules.specs.Calls as rules
-use Rattle.rules.specs.Calls.{Answer, refused, waiting, charging, Result, answering, enquire, board, refusals, lent, written, not_held, enquiring, step}
-use Rattle.guarantee.specs.DemandTwo.{shown_by, BoardShown}
+use Rattle.rules.specs.Calls.{Answer, refused, waiting, charging, looked, Result, answering, enquire, board, refusals, lent, written, not_held, enquiring, step}
+use Rattle.rules.specs.Valid.{ValidState}
+use Rattle.guarantee.specs.DemandTwo.{shown_by, highest, BoardShown}
 use Rattle.guarantee.proofs.DemandTwo.{valid_demand_two}
+use Rattle.guarantee.proofs.Each.{each_in}
 use Rattle.guarantee.proofs.Enquiries.{enquiry_told}
 use Rattle.station.specs.declared.Station.{Station}
 use Rattle.station.specs.View.{view, Valid}
@@ -23,7 +26,7 @@ use Rattle.calls.specs.declared.Call.TheVariants.{Enquire, Board}
 use Rattle.calls.specs.Applied.{list_after}
 use Rattle.theorem.specs.Theorem.{Made, MeetsApply, given}
 use Rattle.theorem.specs.Single.{answer_told, IsGranted, OfSome}
-use Rattle.theorem.specs.Looked.{EnquiryTellsTheCharge, EnquiryChangesNothing, BoardCounts, BoardWritesStarts, BoardKeepsLaterPlaces, BoardChangesNothing}
+use Rattle.theorem.specs.Looked.{EnquiryTellsTheCharge, EnquiryChangesNothing, BoardCounts, BoardOfNoneLooksAtNone, BoardWritesStarts, BoardKeepsLaterPlaces, BoardChangesNothing}
 use Rattle.theorem.proofs.Conditions.{some_map}
 use Rattle.theorem.proofs.Places.{front_at, behind_at, written_length}
 use Rattle.theorem.proofs.Single.{step_of, none_of, list_of, very_station}
@@ -120,6 +123,23 @@ module _ (s : Station) (m : Made) (v : Valid s) (meets : MeetsApply s m) (named 
 pub board_counts : BoardCounts
 board_counts s m v meets named free =
     (shows s m v meets named).answer (none_of s m v meets Board named free)
+
+-- no ticket is 0
+tickets_low : (s : State) → ValidState s → Each (λ c. 1 ≤ c.ticket) (site_charges s)
+tickets_low s v =
+    each_joined (λ c. 1 ≤ c.ticket) s.feeders
+    (by_place s (λ g. Each (λ c. 1 ≤ c.ticket) g.charges)
+    (λ f h. each_in (λ c w. w.ticket_low) (charges_on s f) (v.plan f h).each))
+
+none_up_to_zero : (cs : List Charge) → Each (λ c. 1 ≤ c.ticket) cs → keep (λ c. leb c.ticket 0) cs ≡ []
+none_up_to_zero [] e = refl
+none_up_to_zero (c ∷ cs) e = rw (lt-leb c.ticket 0 e.0, none_up_to_zero cs e.1)
+
+pub board_of_none_looks_at_none : BoardOfNoneLooksAtNone
+board_of_none_looks_at_none s m v meets named free empty =
+    board_counts s m v meets named free
+    ∙ ap (λ (asked : List ℕ). looked (length (keep (λ c. leb c.ticket (highest asked)) (site_charges (view s))))) empty
+    ∙ ap (λ (cs : List Charge). looked (length cs)) (none_up_to_zero (site_charges (view s)) (tickets_low (view s) v.state))
 
 pub board_writes_starts : BoardWritesStarts
 board_writes_starts s m v meets named free place h =

@@ -1,5 +1,5 @@
 -- What an enquiry tells and a board shows, in words.
-use Rattle.std.specs.Prelude.{◌⊎◌, ◌≡◌, ℕ, ◌+◌, ◌≤◌, ◌<◌, leb, length, get_or}
+use Rattle.std.specs.Prelude.{◌⊎◌, ◌≡◌, ℕ, ◌+◌, ◌≤◌, ◌<◌, [], leb, length, get_or}
 use Rattle.rules.specs.Basics.{keep, Each}
 use Rattle.rules.specs.Site.{site_charges}
 use Rattle.rules.specs.Calls.{refused, waiting, charging, looked}
@@ -32,6 +32,11 @@ BoardCounts =
     m.call ≡ Board
     → IsGranted m
     → answer_told m ≡ looked (length (keep (λ c. leb c.ticket (highest m.numbers)) (site_charges (view s)))))
+
+-- Asked for no tickets, it looks at no charge.
+abbrev pub BoardOfNoneLooksAtNone : Type 0
+BoardOfNoneLooksAtNone =
+    OfEveryCall (λ s m. m.call ≡ Board → IsGranted m → m.numbers ≡ [] → answer_told m ≡ looked 0)
 
 -- At the place of each ticket it writes the start of its charge, or 4,294,967,295 where no charge held has it.
 abbrev pub BoardWritesStarts : Type 0
