@@ -53,8 +53,8 @@ CauseOneIsNoneActive =
     × IsFullest s f placed t full
     × (placed_active placed full t ≡ false)))
 
--- It has cause 2 after so many rounds exactly when as many rounds as the allowance each found a cap to lower, and these are the rounds. What
--- the last of them found is lowered no more, as no round is left for it.
+-- It has cause 2 after so many rounds exactly when as many rounds as the allowance each found a cap to lower, and these are the rounds. The
+-- cap that the last of them found is lowered no more: no round is left to use it.
 abbrev pub CauseTwoIsAllowanceSpent : Type 0
 CauseTwoIsAllowanceSpent =
     OfEveryCall (λ s m.

@@ -64,7 +64,7 @@ Lowers s f cap next =
     × (placed_active placed full t ≡ true)
     × (next ≡ lowered cap full t (count_with s f placed empty t + (feeder_of (view s) f).bound))
 
--- the caps after n rounds, each of which found one to lower, as it is with all of them lowered; at first they are the feeder's limit
+-- the caps when n rounds have each found one to lower, and all these are lowered; at first they are the feeder's limit
 abbrev pub AreCapsAfter : Station → ℕ → ℕ → Caps → Type 0
 AreCapsAfter s f zero cap = cap ≡ (λ line t. (feeder_of (view s) f).limit)
 AreCapsAfter s f (suc n) cap = (before : Caps) × AreCapsAfter s f n before × Lowers s f before cap

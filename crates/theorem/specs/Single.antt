@@ -29,7 +29,7 @@ tests s m = refusals (view s) (call_made m)
 abbrev pub HasCause : Made → ℕ → Type 0
 HasCause m cause = (before : ℕ) × (after : ℕ) × (rounds : ℕ) × (answer_told m ≡ planned cause before after rounds)
 
--- and it is answered with this cause and so many rounds: those that a replan by lines has made, of which there are none in all other calls
+-- the same, with the number of rounds that is answered: those made by a replan by lines, 0 for an offer and a replan by latest start
 abbrev pub HasCauseAfter : Made → ℕ → ℕ → Type 0
 HasCauseAfter m cause rounds = (before : ℕ) × (after : ℕ) × (answer_told m ≡ planned cause before after rounds)
 

@@ -39,9 +39,9 @@ pub fn latest_starts()
 
 /// The replan by lines makes rounds, each with the caps that the rounds before it have lowered,
 /// until one is even in every minute from the clock on; its starts are put to the test. It has
-/// cause 1 exactly when in some round no placed charge of the fullest line is active in the first
-/// uneven minute, and cause 2 exactly when as many rounds as the allowance have each found a cap to
-/// lower; so many rounds are answered.
+/// cause 1 after some rounds exactly when in the last of them no placed charge of the fullest line
+/// is active in the first uneven minute, and cause 2 exactly when as many rounds as the allowance
+/// have each found a cap to lower; so many rounds are answered.
 pub fn rounds_made()
     ensures starts { StartsOfAnEvenRound }
     ensures one { CauseOneIsNoneActive }
