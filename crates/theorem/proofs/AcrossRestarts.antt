@@ -1,12 +1,12 @@
 -- What is claimed across restarts holds of the code, and each sentence of it.
 use mathlib.Core.Path.{◌≡◌, refl, sym, ap, subst, ◌∙◌}
-use Prim.Native.Nat.{ℕ, ◌+◌, ◌≤◌, ◌<◌}
+use Prim.Native.Nat.{ℕ, zero, suc, ◌+◌, ◌≤◌, ◌<◌}
 use mathlib.Core.Bool.{Bool, cond}
 use mathlib.Core.List.{List, [], ◌∷◌, ◌++◌, map}
 use native.Mathlib.Omega.{arith}
 use lib.Dec.{ltb}
-use lib.ListN.{length}
-use borrow.Author.Tests.{lt-ltb}
+use lib.ListN.{length, get_or}
+use borrow.Author.Tests.{lt-ltb, le-ltb}
 use Rattle.station.proofs.Refusing.{number_some}
 use Rattle.refusals.specs.Refusals.{refusal_in}
 use Rattle.std.specs.Prelude.{Result, Ok, Err}
@@ -33,7 +33,7 @@ use Rattle.theorem.specs.Images.{given_back}
 use Rattle.theorem.specs.Keeper.{CodeEvent, by_restore, by_image, Start, with_opening, with_image, started, Happened, MadeList, none_made, MadeLists, brought_by, lists_with, lists_after, lists_first, made_in_force, kept_after, calls_in, all_events_of, asked_first, events_from}
 use Rattle.theorem.specs.AcrossRestarts.{IsAsTheRulesSay, AreAsTheRulesSay, known_in_force, GuaranteedAcross, CodeAcrossRestarts}
 use Rattle.theorem.specs.ClaimsAcrossRestarts.{AfterAnyEvents, ItsStationIsValid, ItsListIsThatOfTheRules, ItsStationIsOfThisList, AllSeenIsAsTheRulesSay, FurtherCallsAreTheRules, AllKnownWasSeen, RefusalsOfItsStation, PlansOfItsStation, OrdersOfItsList}
-use Rattle.theorem.specs.MinutesAcrossRestarts.{WhateverHappens, NoLineAboveItsLimitSince, NoLinesFurtherApartSince, SiteWithinItsLimitSince, SinceAnyImage, BegunKeepTheirStarts, NoneOfThemIsReported, ListAfterARefusedRestore, ListAfterASavedImage}
+use Rattle.theorem.specs.MinutesAcrossRestarts.{WhateverHappens, NoLineAboveItsLimitSince, NoLinesFurtherApartSince, SiteWithinItsLimitSince, SinceAnyImage, BegunKeepTheirStarts, NoneOfThemIsReported, ListAfterARefusedRestore, ListOfARefusedBeginning, ListAfterASaveNotMade, ListAfterASavedImage}
 use Rattle.theorem.proofs.Chains.{one_step}
 use Rattle.theorem.proofs.Kept.{get_map, lists_in, Goes, brought_same, brought_known, all_go, all_seen, all_lists}
 
@@ -178,12 +178,17 @@ begins_anew b es r refusal h e =
     = ap (λ (l : MadeLists). l.now) (lists_split (lists_first b) es (by_image r ∷ [])) ∙ ap (brought_by r.image) e in
     (new, (holds b (es ++ (by_image r ∷ [])) h).station ∙ ap (λ (l : MadeList). left (calls_in l)) new)
 
+pub begins_refused : ListOfARefusedBeginning
+begins_refused r refusal h e =
+    let new : made_in_force (with_image r) [] ≡ none_made a_refused_restore = ap (brought_by r.image) e in
+    (new, (holds (with_image r) [] h).station ∙ ap (λ (l : MadeList). left (calls_in l)) new)
+
 -- the last of the events: the rules say what was seen of it
 last_seen : (l : MadeLists) (es : List CodeEvent) (e : CodeEvent) → AreAsTheRulesSay l (es ++ (e ∷ [])) → IsAsTheRulesSay (lists_after l es) e
 last_seen l [] e h = h.0
 last_seen l (d ∷ es) e h = last_seen (lists_with l d) es e h.1
 
-accepted : (a : Result Unit Refusal) → refusal_in a ≡ 0 → a ≡ Ok tt
+pub accepted : (a : Result Unit Refusal) → refusal_in a ≡ 0 → a ≡ Ok tt
 accepted (Ok done) e = refl
 accepted (Err refusal) e = absurd (omega (arith, e, number_some refusal))
 
@@ -196,4 +201,23 @@ saved_comes_back b es k r h few =
       accepted r.answer (ap (λ (x : RestoreResult). x.refusal) seen ∙ ap (λ (b : Bool). cond b 0 20) (lt-ltb k (length l.saved) few)),
       ap (λ (x : MadeLists). x.now) (lists_split (lists_first b) es (by_restore k r ∷ [])),
       ap (λ (x : RestoreResult). x.state) seen ∙ ap left (sym (get_map calls_in l.saved k none)),
+    )
+
+get_none : {A : Type 0} (l : List A) (k : ℕ) (a : A) → length l ≤ k → get_or l k a ≡ a
+get_none [] k a low = refl
+get_none (x ∷ l) zero a low = absurd (omega (arith, low))
+get_none (x ∷ l) (suc k) a low = get_none l k a (omega (arith, low))
+
+pub not_made_refused : ListAfterASaveNotMade
+not_made_refused b es k r h many =
+    let l : MadeLists = lists_after (lists_first b) es in
+    let none : MadeList = none_made a_refused_restore in
+    let seen : given_back r ≡ record { refusal = cond (ltb k (length l.saved)) 0 20; state = left (up_to (map calls_in l.saved) k) }
+    = last_seen (lists_first b) es (by_restore k r) (holds b (es ++ (by_restore k r ∷ [])) h).seen in
+    let past : get_or l.saved k none ≡ none = get_none l.saved k none many in (
+      ap (λ (x : RestoreResult). x.refusal) seen ∙ ap (λ (b : Bool). cond b 0 20) (le-ltb k (length l.saved) many),
+      ap (λ (x : MadeLists). x.now) (lists_split (lists_first b) es (by_restore k r ∷ [])) ∙ past,
+      ap (λ (x : RestoreResult). x.state) seen
+          ∙ ap left (sym (get_map calls_in l.saved k none))
+          ∙ ap (λ (x : MadeList). left (calls_in x)) past,
     )

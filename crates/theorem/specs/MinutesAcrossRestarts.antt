@@ -8,13 +8,14 @@ use Rattle.rules.specs.Site.{State, feeder_of, charges_on, site_charges}
 use Rattle.rules.specs.Valid.{IsFeeder}
 use Rattle.rules.specs.Calls.{fresh, least, step}
 use Rattle.refusals.specs.declared.Refusal.{Refusal}
+use Rattle.refusals.specs.Refusals.{refusal_in}
 use Rattle.guarantee.specs.Past.{Past, Report, order_of, report_of, times_reported, start_of, count_in, site_in}
 use Rattle.layout.specs.Reading.{restoring}
 use Rattle.station.specs.View.{view}
 use Rattle.restarts.specs.Events.{an_image, a_refused_restore, left}
 use Rattle.restarts.specs.Minutes.{first_minute, began_with}
 use Rattle.theorem.specs.Images.{Restore}
-use Rattle.theorem.specs.Keeper.{CodeEvent, by_restore, by_image, Start, Happened, none_made, lists_after, lists_first, made_in_force, calls_in, kept_after}
+use Rattle.theorem.specs.Keeper.{CodeEvent, by_restore, by_image, Start, with_image, Happened, none_made, lists_after, lists_first, made_in_force, calls_in, kept_after}
 use Rattle.theorem.specs.AcrossRestarts.{known_in_force}
 
 -- Whatever happens to a controller, it holds: of the station that was opened, read from an image or, beside a refused restore, the fresh one;
@@ -76,6 +77,24 @@ ListAfterARefusedRestore =
     → r.answer ≡ Err refusal
     → (made_in_force b (events ++ (by_image r ∷ [])) ≡ none_made a_refused_restore)
     × (view (kept_after b (events ++ (by_image r ∷ []))).station ≡ fresh least)
+
+-- A controller that begins with a refused image begins with a new list of calls, from the same station.
+abbrev pub ListOfARefusedBeginning : Type 0
+ListOfARefusedBeginning =
+    (r : Restore) (refusal : Refusal)
+    → Happened (with_image r) []
+    → r.answer ≡ Err refusal
+    → (made_in_force (with_image r) [] ≡ none_made a_refused_restore) × (view r.station ≡ fresh least)
+
+-- A restore of a save that was not made is refused with 20, for it is lent no bytes, and followed by a new list from the same station.
+abbrev pub ListAfterASaveNotMade : Type 0
+ListAfterASaveNotMade =
+    (b : Start) (events : List CodeEvent) (k : ℕ) (r : Restore)
+    → Happened b (events ++ (by_restore k r ∷ []))
+    → length (lists_after (lists_first b) events).saved ≤ k
+    → (refusal_in r.answer ≡ 20)
+    × (made_in_force b (events ++ (by_restore k r ∷ [])) ≡ none_made a_refused_restore)
+    × (view r.station ≡ fresh least)
 
 -- A restore of the image that save k wrote is accepted, and followed by the list of calls up to this save: the calls between fall out.
 abbrev pub ListAfterASavedImage : Type 0

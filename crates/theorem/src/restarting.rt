@@ -22,6 +22,8 @@ ghost use Rattle.theorem.specs.MinutesAcrossRestarts.{
   BegunKeepTheirStarts,
   NoneOfThemIsReported,
   ListAfterARefusedRestore,
+  ListOfARefusedBeginning,
+  ListAfterASaveNotMade,
   ListAfterASavedImage,
 };
 
@@ -49,11 +51,14 @@ pub fn every_minute_since()
     ensures site { WhateverHappens SiteWithinItsLimitSince }
 {}
 
-/// A saved image is accepted, and the list of calls up to its save goes on; a refused restore is followed by a new list.
+/// A saved image is accepted, and the list of calls up to its save goes on; a refused restore is followed by a new list, also
+/// where a controller begins with it, and where the save that is asked for was not made.
 /// The charges that have begun in an image which something else wrote keep their starts and are not reported again.
 pub fn after_a_restore()
     ensures saved_image { ListAfterASavedImage }
     ensures refused_restore { ListAfterARefusedRestore }
+    ensures refused_beginning { ListOfARefusedBeginning }
+    ensures save_not_made { ListAfterASaveNotMade }
     ensures begun_starts { SinceAnyImage BegunKeepTheirStarts }
     ensures not_reported_again { SinceAnyImage NoneOfThemIsReported }
 {}
