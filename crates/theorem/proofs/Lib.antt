@@ -22,6 +22,7 @@ pub mod Places
 pub mod Planned
 pub mod Refused
 pub mod Rounds
+pub mod SavedAndRestored
 pub mod Saving
 pub mod Single
 pub mod Soundness

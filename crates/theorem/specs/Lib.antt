@@ -24,6 +24,7 @@ pub mod Planned
 pub mod Proposed
 pub mod Refused
 pub mod Rounds
+pub mod SavedAndRestored
 pub mod Single
 pub mod Soundness
 pub mod Theorem

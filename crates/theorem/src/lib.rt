@@ -10,6 +10,7 @@ pub mod every_opening;
 pub mod every_order;
 pub mod every_ticket;
 pub mod every_withdrawal;
+pub mod image_calls;
 pub mod keeping;
 pub mod order_calls;
 pub mod other_calls;
