@@ -19,6 +19,7 @@
 
 struct bus {
     const char *kept; /* the file in which the image is kept, or NULL */
+    struct lock lock; /* of that file, held as long as it is kept */
     struct buffer image;
 };
 
@@ -42,7 +43,7 @@ static const char *answer_read(struct bus *bus, const char *path, struct text *t
 }
 
 static const char *answer_write(const struct bus *bus, const char *path, struct text *text) {
-    const char *wrong = store_write(&bus->image, path);
+    const char *wrong = store_copy(&bus->image, path, bus->kept ? &bus->lock : NULL);
 
     if (!wrong) text_add(text, "written %zu", bus->image.length);
     return wrong;
@@ -80,17 +81,28 @@ static void answer(struct bus *bus, const char *line, int length, struct text *t
     text_add(text, "error %s", wrong);
 }
 
-/* The image that the file keeps; where there is no such file yet, the zero bytes. */
-static void begin(struct bus *bus, const char *kept) {
-    const char *wrong;
+/* The image that the file keeps; where there is no such file yet, the zero bytes. It is locked before it is read, and from then on. */
+static const char *begin_kept(struct bus *bus, const char *path) {
+    static char place[PATH_ROOM];
+    const char *wrong = strlen(path) >= LINE_MOST ? "file name too long" : store_place(place, path);
+
+    if (!wrong) wrong = lock_take(&bus->lock, place);
+    if (wrong) return wrong;
+    bus->kept = place;
+    errno = 0;
+    wrong = store_read(&bus->image, place);
+    if (!wrong || errno == ENOENT) return NULL;
+    lock_leave(&bus->lock, place);
+    return wrong;
+}
+
+static void begin(struct bus *bus, const char *path) {
+    const char *wrong = NULL;
 
     bus->image.length = TOGBEYIS_IMAGE;
-    bus->kept = kept;
-    if (!kept) return;
-    errno = 0;
-    wrong = strlen(kept) >= LINE_MOST ? "file name too long" : store_read(&bus->image, kept);
-    if (!wrong || errno == ENOENT) return;
-    fprintf(stderr, "bus: %s: %s\n", kept, wrong);
+    if (path) wrong = begin_kept(bus, path);
+    if (!wrong) return;
+    fprintf(stderr, "bus: %s: %s\n", path, wrong);
     exit(1);
 }
 
@@ -110,5 +122,6 @@ int main(int count, char **words) {
         answer(&bus, line, length, &text);
         if (text.length) text_print(&text);
     }
+    if (bus.kept) lock_leave(&bus.lock, bus.kept);
     return 0;
 }

@@ -1,4 +1,4 @@
-#define _POSIX_C_SOURCE 200809L
+#define _XOPEN_SOURCE 700
 #include "store.h"
 
 #include <errno.h>
@@ -78,17 +78,44 @@ static void sync_folder(const char *path) {
     close(file);
 }
 
-const char *store_write(const struct buffer *buffer, const char *path) {
-    char temporary[PATH_ROOM];
+static int ends_with(const char *path, const char *end) {
+    return strlen(path) >= strlen(end) && strcmp(path + strlen(path) - strlen(end), end) == 0;
+}
+
+const char *store_place(char place[PATH_ROOM], const char *path) {
     struct stat about;
 
-    /* A device or a pipe has no place to be put in. */
-    if (stat(path, &about) == 0 && !S_ISREG(about.st_mode)) return write_down(buffer, path) == 0 ? NULL : "cannot write";
-    if (snprintf(temporary, sizeof temporary, "%s.new", path) >= (int)sizeof temporary) return "cannot write";
+    if (!*path || strlen(path) >= PATH_ROOM) return "no file name";
+    strcpy(place, path);
+    if (lstat(path, &about) == 0 && S_ISLNK(about.st_mode) && !realpath(path, place)) return "a link that leads nowhere";
+    if (stat(place, &about) == 0 && !S_ISREG(about.st_mode)) return "not a plain file";
+    return ends_with(place, END_NEW) || ends_with(place, END_LOCK) ? "a name that ends with " END_NEW " or " END_LOCK : NULL;
+}
+
+const char *store_write(const struct buffer *buffer, const char *path) {
+    char temporary[PATH_ROOM];
+
+    if (snprintf(temporary, sizeof temporary, "%s" END_NEW, path) >= (int)sizeof temporary) return "cannot write";
     if (write_down(buffer, temporary) != 0 || rename(temporary, path) != 0) {
         unlink(temporary);
         return "cannot write";
     }
     sync_folder(path);
     return NULL;
+}
+
+const char *store_copy(const struct buffer *buffer, const char *path, const struct lock *own) {
+    char place[PATH_ROOM];
+    struct stat about;
+    struct lock lock;
+    const char *wrong;
+
+    /* A device or a pipe has no place to be put in. */
+    if (stat(path, &about) == 0 && !S_ISREG(about.st_mode)) return write_down(buffer, path) == 0 ? NULL : "cannot write";
+    if (store_place(place, path)) return "cannot write";
+    if (own && lock_is_of(own, place)) return store_write(buffer, place);
+    if (lock_take(&lock, place)) return "cannot write";
+    wrong = store_write(buffer, place);
+    lock_leave(&lock, place);
+    return wrong;
 }
