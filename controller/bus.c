@@ -5,7 +5,10 @@
  *
  * The lines are in docs/INTERFACE.md.
  */
+#define _XOPEN_SOURCE 700
 #include <errno.h>
+#include <fcntl.h>
+#include <signal.h>
 #include <stdio.h>
 #include <stdlib.h>
 #include <string.h>
@@ -106,6 +109,20 @@ static void begin(struct bus *bus, const char *path) {
     exit(1);
 }
 
+/* A write that fails is to be answered or told, and not to end the program without a word: one beyond a limit on the size of files,
+ * or to a pipe that nobody reads. Where one of the three is closed, a file would be opened in its place. */
+static void begin_process(void) {
+    int file;
+
+    signal(SIGXFSZ, SIG_IGN);
+    signal(SIGPIPE, SIG_IGN);
+    for (file = 0; file < 3; file++) {
+        if (fcntl(file, F_GETFD) != -1) continue;
+        fprintf(stderr, "bus: standard input, output and error are to be open\n");
+        exit(1);
+    }
+}
+
 int main(int count, char **words) {
     static struct bus bus;
     static struct text text;
@@ -116,6 +133,7 @@ int main(int count, char **words) {
         fprintf(stderr, "usage: bus [FILE]\n");
         return 2;
     }
+    begin_process();
     begin(&bus, count == 2 ? words[1] : NULL);
     while ((length = line_read(line)) != LINE_END) {
         text.length = 0;
@@ -123,5 +141,7 @@ int main(int count, char **words) {
         if (text.length) text_print(&text);
     }
     if (bus.kept) lock_leave(&bus.lock, bus.kept);
-    return 0;
+    if (!ferror(stdin)) return 0;
+    fprintf(stderr, "bus: standard input cannot be read\n");
+    return 1;
 }

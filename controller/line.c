@@ -10,6 +10,6 @@ int line_read(char line[LINE_MOST]) {
         if (length < LINE_MOST) line[length] = (char)byte;
         if (length <= LINE_MOST) length++;
     }
-    if (byte == EOF && length == 0) return LINE_END;
+    if (byte == EOF && (length == 0 || ferror(stdin))) return LINE_END;
     return length > LINE_MOST ? LINE_LONG : (int)length;
 }

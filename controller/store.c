@@ -49,7 +49,7 @@ static int write_down(const struct buffer *buffer, const char *path) {
         ssize_t put = write(file, buffer->bytes + written, buffer->length - written);
 
         if (put < 0 && errno == EINTR) continue;
-        if (put < 0) break;
+        if (put <= 0) break;
         written += (size_t)put;
     }
     if (written < buffer->length || (fsync(file) != 0 && errno != EINVAL)) {

@@ -1,8 +1,10 @@
 #include "text.h"
 
+#include <errno.h>
 #include <stdarg.h>
 #include <stdio.h>
 #include <stdlib.h>
+#include <string.h>
 
 void text_add(struct text *text, const char *format, ...) {
     size_t room = sizeof text->bytes - text->length;
@@ -20,6 +22,7 @@ void text_add(struct text *text, const char *format, ...) {
 }
 
 void text_print(const struct text *text) {
-    if (fwrite(text->bytes, 1, text->length, stdout) != text->length || putchar('\n') == EOF || fflush(stdout) != 0)
-        exit(1);
+    if (fwrite(text->bytes, 1, text->length, stdout) == text->length && putchar('\n') != EOF && fflush(stdout) == 0) return;
+    fprintf(stderr, "bus: an answer cannot be written: %s\n", strerror(errno));
+    exit(1);
 }

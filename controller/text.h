@@ -14,7 +14,7 @@ struct text {
 /* Adds to the text as printf does. */
 void text_add(struct text *text, const char *format, ...);
 
-/* Prints the text as a line and flushes it; the program stops where nobody can read it. */
+/* Prints the text as a line and flushes it; where it cannot be written the program says so and ends with status 1. */
 void text_print(const struct text *text);
 
 #endif
