@@ -26,12 +26,18 @@ struct bus {
     struct buffer image;
 };
 
+/* The file is written only under its lock: somebody may have removed what is locked, or put another folder in the place of its own,
+ * and another program may then keep its image there. */
+static const char *keep(const struct bus *bus, const struct buffer *next) {
+    return lock_is_of(&bus->lock, bus->kept) ? store_write(next, bus->kept) : "cannot write";
+}
+
 /* Makes `next` the image, in its file first; the answer is NULL, or why that cannot be done. */
 static const char *hold(struct bus *bus, const struct buffer *next) {
     const char *wrong = NULL;
     int same = next->length == bus->image.length && memcmp(next->bytes, bus->image.bytes, next->length) == 0;
 
-    if (bus->kept && !same) wrong = store_write(next, bus->kept);
+    if (bus->kept && !same) wrong = keep(bus, next);
     if (!wrong) bus->image = *next;
     return wrong;
 }

@@ -12,7 +12,8 @@
  * at most an empty FILE.lock that nobody has locked, which the next program locks; that the file is there says nothing.
  *
  * Only who holds the lock removes FILE.lock. Whoever had opened it before then locks a file without a name; so what was locked is
- * compared with what the name leads to, and where they differ it is tried again. */
+ * compared with what the name leads to, and where they differ it is tried again. Where somebody else removes it all the same, the
+ * program that held it writes FILE no more (keep in bus.c). */
 struct lock {
     int file;
 };
@@ -20,7 +21,7 @@ struct lock {
 /* Takes the lock of a file. The answer is NULL, or why it cannot be taken, at once and with nothing changed. */
 const char *lock_take(struct lock *lock, const char *path);
 
-/* Whether this is the lock of that file. */
+/* Whether this is the lock of that file, and still is. */
 int lock_is_of(const struct lock *lock, const char *path);
 
 /* Removes the file that is locked and lets go of it: the last that is done with the file kept. */
