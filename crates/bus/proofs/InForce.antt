@@ -24,8 +24,8 @@ use Rattle.restarts.proofs.Minutes.{limit_claimed, balance_claimed, site_claimed
 use Rattle.service.specs.Left.{Left, told, left, called, Whole}
 use Rattle.bus.specs.Images.{opened_over}
 use Rattle.bus.specs.Chains.{Made, calls, opens, left_by, chained, opened_one, behind}
-use Rattle.bus.specs.CallLists.{Ran, MeetsInC, ChainInC, image_after, list_with, list_after}
-use Rattle.bus.specs.InC.{Begun, with_an_image, with_an_opening, AnswersInC, ImageInC, ClaimInC, LimitInC, BalanceInC, SiteInC}
+use Rattle.bus.specs.CallLists.{CallInC, MeetsInC, ChainInC, image_after, list_with, list_after}
+use Rattle.bus.specs.InC.{BeginningInC, with_an_image, with_an_opening, AnswersInC, ImageInC, ClaimInC, LimitInC, BalanceInC, SiteInC}
 use Rattle.bus.proofs.Chaining.{Held, opening_held, called_saved, opened_left, opened_image, chained_saved}
 use Rattle.bus.proofs.Returning.{zero_opened, as_many}
 
@@ -36,11 +36,11 @@ met image (calls numbers c) l h = h.result
 met image (opens numbers x) l h = ap (λ (list : List ℕ). record { number = l.number; numbers = l.numbers; image = l.image; list = list }) h.1 ∙ h.0.result
 
 all_met :
-    (image : List ℕ) (rs : List Ran) → ChainInC image rs → map (λ (r : Ran). r.left) rs ≡ chained image (map (λ (r : Ran). r.made) rs)
+    (image : List ℕ) (rs : List CallInC) → ChainInC image rs → map (λ (r : CallInC). r.left) rs ≡ chained image (map (λ (r : CallInC). r.made) rs)
 all_met image [] h = refl
 all_met image (r ∷ rs) h =
     ap (λ (ls : List Left). r.left ∷ ls) (all_met r.left.image rs h.1)
-    ∙ ap (λ (l : Left). l ∷ chained l.image (map (λ (s : Ran). s.made) rs)) (met image r.made r.left h.0)
+    ∙ ap (λ (l : Left). l ∷ chained l.image (map (λ (s : CallInC). s.made) rs)) (met image r.made r.left h.0)
 
 -- A list of calls, and the image of the station that it left
 
@@ -147,7 +147,7 @@ next_stands l image (calls numbers c) r s e = called_stands l image numbers c r 
 next_stands l image (opens numbers x) r s e = opened_stands l image numbers x r s e
 
 all_stand :
-    (l : CallList) (image : List ℕ) (rs : List Ran)
+    (l : CallList) (image : List ℕ) (rs : List CallInC)
     → Stands l image
     → ChainInC image rs
     → Stands (list_after l rs) (image_after image rs)
@@ -159,7 +159,7 @@ all_stand l image (r ∷ rs) s h =
 
 -- Where a list begins
 
-begun_stands : (image : List ℕ) (l : CallList) → Begun image l → Stands l image
+begun_stands : (image : List ℕ) (l : CallList) → BeginningInC image l → Stands l image
 begun_stands _ _ (with_an_image image e) =
     record {
       right = restoring_valid image;
@@ -174,10 +174,10 @@ pub answers_in_c : AnswersInC
 answers_in_c image l b rs h =
     let s : Stands l image = begun_stands image l b in
     all_met image rs h
-    ∙ ap (λ (i : List ℕ). chained i (map (λ (r : Ran). r.made) rs)) s.image_is
-    ∙ chained_saved (station_left l) (map (λ (r : Ran). r.made) rs) s.held
+    ∙ ap (λ (i : List ℕ). chained i (map (λ (r : CallInC). r.made) rs)) s.image_is
+    ∙ chained_saved (station_left l) (map (λ (r : CallInC). r.made) rs) s.held
 
-chain_stands : (image : List ℕ) (l : CallList) → Begun image l → (rs : List Ran) → ChainInC image rs → Stands (list_after l rs) (image_after image rs)
+chain_stands : (image : List ℕ) (l : CallList) → BeginningInC image l → (rs : List CallInC) → ChainInC image rs → Stands (list_after l rs) (image_after image rs)
 chain_stands image l b rs h = all_stand l image rs (begun_stands image l b) h
 
 pub image_in_c : ImageInC

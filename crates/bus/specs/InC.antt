@@ -11,25 +11,25 @@ use Rattle.restarts.specs.Restarts.{Claimed}
 use Rattle.bus.specs.Images.{Opens}
 use Rattle.restarts.specs.Minutes.{first_minute, began_with, known_of}
 use Rattle.bus.specs.Chains.{results_of, left_of_each}
-use Rattle.bus.specs.CallLists.{Ran, ChainInC, image_after, list_after}
+use Rattle.bus.specs.CallLists.{CallInC, ChainInC, image_after, list_after}
 
 -- Where a list of calls begins in C: with an image that restore accepts, wherever it comes from, or with an opening that returns 0,
 -- whatever list of bytes it was lent. Behind it stand the image that the next call gets and the list of calls.
-pub data Begun : List ℕ → CallList → Type 0 where
-  with_an_image : (image : List ℕ) → (restoring image).refusal ≡ 0 → Begun image (beginning_with (an_image image))
+pub data BeginningInC : List ℕ → CallList → Type 0 where
+  with_an_image : (image : List ℕ) → (restoring image).refusal ≡ 0 → BeginningInC image (beginning_with (an_image image))
   with_an_opening :
       (numbers before : List ℕ) (x : Asked) (number : ℕ) (behind image : List ℕ)
       → Opens numbers before x number behind image
       → number ≡ 0
-      → Begun image (beginning_with (an_opening x))
+      → BeginningInC image (beginning_with (an_opening x))
 
 -- Any C functions called then, each on the image that the last one left, return and leave what the rules answer to the station of the
 -- list of calls that is in force.
 abbrev pub AnswersInC : Type 0
 AnswersInC =
     (image : List ℕ) (l : CallList)
-    → Begun image l
-    → (rs : List Ran)
+    → BeginningInC image l
+    → (rs : List CallInC)
     → ChainInC image rs
     → map (λ r. r.left) rs ≡ left_of_each (left l) (map (λ r. r.made) rs) (results_of (left l) (map (λ r. r.made) rs))
 
@@ -37,8 +37,8 @@ AnswersInC =
 abbrev pub ImageInC : Type 0
 ImageInC =
     (image : List ℕ) (l : CallList)
-    → Begun image l
-    → (rs : List Ran)
+    → BeginningInC image l
+    → (rs : List CallInC)
     → ChainInC image rs
     → restoring (image_after image rs) ≡ record { refusal = 0; state = left (list_after l rs) }
 
@@ -47,8 +47,8 @@ ImageInC =
 abbrev pub ClaimInC : Type 0
 ClaimInC =
     (image : List ℕ) (l : CallList)
-    → Begun image l
-    → (rs : List Ran)
+    → BeginningInC image l
+    → (rs : List CallInC)
     → ChainInC image rs
     → Claimed (list_after l rs)
 
@@ -56,8 +56,8 @@ ClaimInC =
 abbrev pub LimitInC : Type 0
 LimitInC =
     (image : List ℕ) (l : CallList)
-    → Begun image l
-    → (rs : List Ran)
+    → BeginningInC image l
+    → (rs : List CallInC)
     → ChainInC image rs
     → (f n t : ℕ)
     → IsFeeder (began_with (list_after l rs)) f
@@ -69,8 +69,8 @@ LimitInC =
 abbrev pub BalanceInC : Type 0
 BalanceInC =
     (image : List ℕ) (l : CallList)
-    → Begun image l
-    → (rs : List Ran)
+    → BeginningInC image l
+    → (rs : List CallInC)
     → ChainInC image rs
     → (f n m t : ℕ)
     → IsFeeder (began_with (list_after l rs)) f
@@ -84,8 +84,8 @@ BalanceInC =
 abbrev pub SiteInC : Type 0
 SiteInC =
     (image : List ℕ) (l : CallList)
-    → Begun image l
-    → (rs : List Ran)
+    → BeginningInC image l
+    → (rs : List CallInC)
     → ChainInC image rs
     → (t : ℕ)
     → first_minute (list_after l rs).beginning ≤ t

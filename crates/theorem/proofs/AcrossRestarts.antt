@@ -39,9 +39,6 @@ use Rattle.theorem.proofs.Kept.{get_map, lists_in, Goes, brought_same, brought_k
 
 -- Where it begins
 
-opened_least : controller.Controller
-opened_least = controller.opened least
-
 start_goes : (b : Start) (events : List CodeEvent) → Happened b events → Goes (started b) (lists_first b)
 start_goes (with_opening o) es h =
     record {

@@ -21,7 +21,8 @@ use Rattle.rules.proofs.Searches.{unbalanced_first, unbalanced_none}
 use Rattle.rules.proofs.Rounds.{largest_line_lem, smallest_line_lem}
 use Rattle.rules.proofs.Sites.{count_beside}
 use Rattle.rules.proofs.Picking.{LinesPlaced}
-use Rattle.rules.proofs.Standing.{CapsOf, round_complete}
+use Rattle.rules.specs.laws.Rounds.{CapsOf}
+use Rattle.rules.proofs.Standing.{round_complete}
 use Rattle.station.specs.declared.Station.{Station}
 use Rattle.station.specs.View.{view, Valid}
 use Rattle.theorem.specs.Rounds.{IsRound, count_with, IsEvenAt, IsFirstUneven, IsFullest, IsEmptiest, Lowers, AreCapsAfter}
@@ -179,7 +180,7 @@ module _ (s : Station) (v : Valid s) (f : ℕ) (h : IsFeeder (view s) f) where
   comes_to cap c = rw done.gives (searched (first_unbalanced y s.clock (base ++ loads_of placed)) refl)
     where
       done : LinesPlaced (fits_at s.site cap) s.clock base waiting 3
-      done = (round_complete (view s) v.state f h cap c).0
+      done = (round_complete (view s) v.state f h cap c).lines
 
       placed : List Charge
       placed = done.plan

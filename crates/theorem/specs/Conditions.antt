@@ -17,7 +17,8 @@ use Rattle.theorem.specs.Soundness.{IsSound, IsEarliestStart}
 abbrev pub no_such_feeder : Station → ℕ → Condition
 no_such_feeder s f = when ((f < 1) ⊎ (s.count < f)) 29
 
--- what an order is refused for, previewed or committed: its feeder, line, charging time, rate and due minute, a full feeder, and that all tickets are given
+-- what an order is refused for, previewed or committed: its feeder, line, charging time, rate and due minute, that the feeder is full, and
+-- that all tickets are given
 abbrev pub order_conditions : Station → Order → List Condition
 order_conditions s o =
     no_such_feeder s o.feeder
@@ -38,7 +39,7 @@ Rises [] = Unit {0}
 Rises (a ∷ []) = Unit {0}
 Rises (a ∷ b ∷ l) = (a < b) × Rises (b ∷ l)
 
--- what a call is refused for, with the list that it reads and the one that it writes; the first that holds gives the number
+-- what a call is refused for, with the list that it reads and the one that it writes
 abbrev pub conditions_by : Station → Call → List ℕ → List ℕ → List Condition
 conditions_by s (Preview o) numbers list = order_conditions s o
 conditions_by s (Commit o shown) numbers list =

@@ -1,7 +1,7 @@
 -- An opening, a save and a restore of the code, each known by its contract alone.
 --
 -- A station is saved by `save`, `save_back` or `save_only` (crates/image/src/saving.rt) and restored by `restore` (restoring.rt there),
--- which gives the only feeder, of which `Station::of_only` makes the station. src/images.rt calls them, and the checker has proved there
+-- which gives the only feeder, of which `Station::of_only` makes the station. src/keeping.rt calls them, and the checker has proved there
 -- that what they give meets what is said here.
 use Rattle.std.specs.Prelude.{◌≡◌, ℕ, List, Result}
 use Rattle.rules.specs.Calls.{Asked}
