@@ -98,9 +98,10 @@ fn open_of(numbers: &[u32]) -> Result<Request, Reason>
     ensures { Calls Open numbers.now result }
 {
     match numbers {
-        [count, site, settings @ ..] if settings.len() % 3 == 0 => Ok(Request::Open {
-            asked: Asked::from_numbers(*count, *site, settings),
-        }),
+        [count, site, settings @ ..] if settings.len() % 3 == 0 => {
+            let asked = Asked::from_numbers(*count, *site, settings);
+            Ok(Request::Open { asked })
+        }
         _ => Err(Reason::MissingNumber),
     }
 }
