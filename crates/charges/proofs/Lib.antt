@@ -1,4 +1,5 @@
 pub mod Storing
+pub mod Clearing
 pub mod Members
 pub mod Totals
 pub mod NewStarts

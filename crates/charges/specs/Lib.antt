@@ -3,3 +3,4 @@ pub mod Drawn
 pub mod Held
 pub mod Places
 pub mod Starts
+pub mod Zeros

@@ -1,7 +1,6 @@
 -- What a contract sees of a list of starts.
-use Rattle.std.specs.Prelude.{ℕ}
-use Rattle.arrayvec.specs.ArrayVec.{ArrayVec}
+use Rattle.std.specs.Prelude.{ℕ, List}
 
--- the starts are its items
+-- the starts, in order
 abbrev pub Starts : Type 0
-Starts = ArrayVec ℕ
+Starts = List ℕ

@@ -13,7 +13,7 @@ use std::marker::Model;
 pub const SITE_PLACES: usize = 4 * PLACES;
 
 // Columns as those of the charges, for all feeders of a site.
-#[derive(Drop)]
+#[derive(Clone, Copy)]
 pub struct Drawn {
     held: usize,
     lines: [u32; SITE_PLACES],
@@ -22,17 +22,38 @@ pub struct Drawn {
     rates: [u32; SITE_PLACES],
 }
 
-// Seen as the loads drawn.
+// Seen as the loads drawn, which determine the columns: the places behind them are 0.
 impl Model for Drawn {
-    ghost use Rattle.std.specs.Prelude.{List, ◌≤◌};
+    ghost use Rattle.std.specs.Prelude.{List, ◌-◌, ◌≤◌, length, map};
+    ghost use Rattle.std.proofs.Common.{ap, ◌∙◌, arith};
     ghost use Rattle.rules.specs.Load.{Load};
-    ghost use Rattle.charges.specs.Drawn.{site_places, loads_in};
+    ghost use Rattle.rules.proofs.Lists.{length_tabulate};
+    ghost use Rattle.charges.specs.Drawn.{site_places, load_in, loads_in};
+    ghost use Rattle.charges.specs.Zeros.{Cleared, before_zeros, made_again, lines_again, active_times_again, starts_again, rates_again};
 
     ghost Value = { List Load };
 
     ghost view = { λ d. loads_in d.held d.lines d.active_times d.starts d.rates };
 
-    ghost invariant = { λ d. d.held ≤ site_places };
+    ghost invariant = { λ d. (d.held ≤ site_places)
+        × Cleared site_places d.held d.lines × Cleared site_places d.held d.active_times
+        × Cleared site_places d.held d.starts × Cleared site_places d.held d.rates };
+
+    ghost inverse = { λ xs. record {
+      held = length xs;
+      lines = before_zeros site_places (map (λ x. x.line) xs);
+      active_times = before_zeros site_places (map (λ x. x.until - x.from) xs);
+      starts = before_zeros site_places (map (λ x. x.from) xs);
+      rates = before_zeros site_places (map (λ x. x.rate) xs);
+    } };
+
+    ghost inverse_ok = { λ d h i. record {
+      held = length_tabulate (load_in d.lines d.active_times d.starts d.rates) d.held 0 i;
+      lines = (ap (before_zeros site_places) (lines_again d.held d.lines d.active_times d.starts d.rates (omega (arith, h.0, h.1.full))) ∙ made_again site_places d.held d.lines h.0 h.1) i;
+      active_times = (ap (before_zeros site_places) (active_times_again d.held d.lines d.active_times d.starts d.rates (omega (arith, h.0, h.2.full))) ∙ made_again site_places d.held d.active_times h.0 h.2) i;
+      starts = (ap (before_zeros site_places) (starts_again d.held d.lines d.active_times d.starts d.rates (omega (arith, h.0, h.3.full))) ∙ made_again site_places d.held d.starts h.0 h.3) i;
+      rates = (ap (before_zeros site_places) (rates_again d.held d.lines d.active_times d.starts d.rates (omega (arith, h.0, h.4.full))) ∙ made_again site_places d.held d.rates h.0 h.4) i;
+    } };
 }
 
 impl Drawn {

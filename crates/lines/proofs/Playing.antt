@@ -68,7 +68,7 @@ module _ {size : ℕ} {k : Task} {p : Profile} {by_place : List ℕ}
     found cap shown = first b.clock (loads cap shown) b.limits.limit b.limits.site (loads_lent b.others) (plan cap shown).plan.shows
 
     pub plays_balanced :
-        {listed : Starts} {r : Round} → u ≡ None → WaitingStarts b.clock c by_place listed.items → r ≡ Break (Ok listed) → Plays k r
+        {listed : Starts} {r : Round} → u ≡ None → WaitingStarts b.clock c by_place listed → r ≡ Break (Ok listed) → Plays k r
     plays_balanced e s told =
         rw told
         (record {

@@ -24,7 +24,7 @@ module _ (y : Limits) {clock : ℕ} {c : Charges} {q : List ℕ} (u : Queue cloc
   pub latest_starts :
       {p : Profile} {by_place : List ℕ} {listed : Starts}
       → AllPlaced (place_all (sound_in y clock c) [] (queue_from c q 0)) y clock c p by_place
-      → WaitingStarts clock c by_place listed.items
+      → WaitingStarts clock c by_place listed
       → Proposes clock c (latest y clock (charges_of c)) (Ok listed)
   unfolding latest
   latest_starts a w = record { same = rw (← u.charges, a.gives, w.gives a.placed a.plan.stored); many = w.many }

@@ -9,12 +9,12 @@ use Rattle.planner.specs.Starts.{waiting_count}
 
 -- starts for the waiting charges, or the cause for having none
 abbrev pub proposal_of : Result Starts Cause → Proposal
-proposal_of (Ok list) = starts list.items
+proposal_of (Ok list) = starts list
 proposal_of (Err cause) = none (number_of cause)
 
 -- a start for each of n waiting charges, where there are starts
 abbrev pub ForEach : ℕ → Result Starts Cause → Type 0
-ForEach n (Ok list) = length list.items ≡ n
+ForEach n (Ok list) = length list ≡ n
 ForEach n (Err cause) = Unit {0}
 
 -- the answer is this proposal

@@ -5,4 +5,4 @@ use Rattle.planner.proofs.Collecting.{starts_at}
 use Rattle.planner.proofs.starts.waiting_starts.Given as goal
 
 abbrev pub invariant-loop-place : goal.invariant-loop-place
-invariant-loop-place l = l.starts.items ≡ starts_at l.by_place (take l.place-index l.place-items)
+invariant-loop-place l = l.starts ≡ starts_at l.by_place (take l.place-index l.place-items)
