@@ -24,7 +24,7 @@ use std::ops::ControlFlow;
 type Round = ControlFlow<Result<Starts, Cause>, Lowering>;
 
 // What replan by lines proposes, with the rounds made for it.
-#[derive(Drop)]
+#[derive(Clone, Copy)]
 pub struct Replanned {
     pub proposed: Result<Starts, Cause>,
     pub rounds: u32,

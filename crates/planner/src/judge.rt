@@ -17,7 +17,7 @@ use charges::Charges;
 use charges::waiting::start_below;
 
 // The charges that are held where the plan is taken, or the cause for keeping the held one; and the lateness before and after.
-#[derive(Drop)]
+#[derive(Clone, Copy)]
 pub struct Judgement {
     pub taken: Result<Charges, Cause>,
     pub before: u64,
