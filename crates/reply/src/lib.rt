@@ -108,7 +108,7 @@ impl<const NUMBERS: usize, const PLACES: usize> Lists<NUMBERS, PLACES> {
                 // A slice first: no part with a start is lent of an array of any length.
                 let numbers = &self.numbers[..];
                 let lent = requests::places_lent(places);
-                let read = &numbers[read];
+                let read = &numbers[read.start..read.end];
                 let asked = read.len();
                 let answer = make(station, call, read, &mut self.list[..lent]);
                 Said::Call {

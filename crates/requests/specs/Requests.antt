@@ -16,9 +16,9 @@ use Rattle.station.specs.Opened as opened
 use Rattle.station.specs.Opened.{asked_of}
 use Rattle.calls.specs.Applied as applied
 use Rattle.calls.specs.declared.Call as declared_call
+use Rattle.requests.specs.declared.request.ReadPlaces.{ReadPlaces}
 use Rattle.requests.specs.declared.request.Request as declared
 use Rattle.requests.specs.declared.request.Request.TheVariants as request
-use Rattle.std.specs.declared.ops.Range.{Range}
 use Rattle.std.specs.declared.ops.RangeInclusive.{RangeInclusive}
 
 -- What is asked for: nothing, an opening, a call of the station that stands; or why none of these.
@@ -162,10 +162,10 @@ Fits k (request.Open x) = Unit {0}
 Fits k (request.Call c read places) = (read.start ≤ read.end) × ((read.end ≤ k) × Lent (applied.lends c) read.end places)
 
 -- no numbers, and those behind the first, by their places
-abbrev pub no_numbers : Range ℕ
+abbrev pub no_numbers : ReadPlaces
 no_numbers = record { start = 0; end = 0 }
 
-abbrev pub behind_first : List ℕ → Range ℕ
+abbrev pub behind_first : List ℕ → ReadPlaces
 behind_first ns = record { start = min (length ns) 1; end = length ns }
 
 -- A call with what is lent to it: those of its numbers that stand behind the first to one that reads; so many places to one that writes,

@@ -8,4 +8,4 @@ mod request;
 mod word;
 
 pub use error::print_error;
-pub use request::{LENT, LONGEST, MOST, Reason, Request, places_lent, read_request};
+pub use request::{LENT, LONGEST, MOST, ReadPlaces, Reason, Request, places_lent, read_request};

@@ -9,7 +9,7 @@ use crate::word::{CallName, call_named};
 use calls::Call;
 use ordering::Order;
 use station::open::{Asked, number_or_zero};
-use std::ops::{Range, RangeInclusive};
+use std::ops::RangeInclusive;
 use text::{NumberError, read_number, split_once};
 
 // Why a request is no call.
@@ -22,9 +22,16 @@ pub enum Reason {
     LineTooLong,
 }
 
+// The range of places in the list lent for reading, from `start` up to `end`: the library's range is not copied.
+#[derive(Clone, Copy)]
+pub struct ReadPlaces {
+    pub start: usize,
+    pub end: usize,
+}
+
 // What a line of text asks for. The numbers that an offer or a board reads stand in the list that was lent for reading, in the
 // places `read`; a clock move and a board ask for so many places to write to. Any other call has none of either.
-#[derive(Drop)]
+#[derive(Clone, Copy)]
 pub enum Request {
     Nothing,
     Open {
@@ -32,7 +39,7 @@ pub enum Request {
     },
     Call {
         call: Call,
-        read: Range<usize>,
+        read: ReadPlaces,
         places: u32,
     },
 }
@@ -110,12 +117,16 @@ fn open_of(numbers: &[u32]) -> Result<Request, Reason>
 fn with_lent(call: Call, numbers: &[u32]) -> Request
     ensures { result ≡ with_lent (lends call) call numbers.now }
 {
-    let behind = numbers.len().min(1)..numbers.len();
+    let none = ReadPlaces { start: 0, end: 0 };
+    let behind = ReadPlaces {
+        start: numbers.len().min(1),
+        end: numbers.len(),
+    };
     let (read, places) = match call {
-        Call::Move { .. } => (0..0, number_or_zero(numbers, 1)),
+        Call::Move { .. } => (none, number_or_zero(numbers, 1)),
         Call::Offer { .. } => (behind, 0),
         Call::Board => (behind, number_or_zero(numbers, 0)),
-        _ => (0..0, 0),
+        _ => (none, 0),
     };
     Request::Call { call, read, places }
 }
