@@ -29,8 +29,10 @@ fn print_wall(image: &[u8], out: &mut Text<MOST_BYTES>)
     }
 }
 
-// Reads until the text is full or the input ends.
-fn read_full(input: &mut Stdin, text: &mut Text<LONGEST>) {
+// Reads until the text is full or the input ends: no more than there is room.
+fn read_full(input: &mut Stdin, text: &mut Text<LONGEST>)
+    ensures within { length text.new ≤ 65536 }
+{
     while text.as_bytes().len() < LONGEST {
         if text.read_more(input) == 0 {
             break;
