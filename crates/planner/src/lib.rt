@@ -13,6 +13,7 @@ ghost use Rattle.planner.specs.Others.{Others, others_prop};
 
 use charges::loads::Loads;
 use search::limits::Limits;
+pub use starts::waiting_starts;
 
 // What a plan of a feeder stands beside: the clock, its limits, and what the other feeders draw, lent.
 #[derive(Clone, Copy)]

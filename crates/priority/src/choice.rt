@@ -65,7 +65,7 @@ impl<'a> Left<'a> {
     }
 
     // The first of them, from the given one on, that is no longer than the run of minutes with room for its rate.
-    fn fitting(&self, runs: Runs, from: usize) -> Option<usize>
+    pub fn fitting(&self, runs: Runs, from: usize) -> Option<usize>
         requires { Inside self.now.places.now × (from ≤ length self.now.places.now) }
         ensures { FirstFitting self.now runs from result }
     {

@@ -85,7 +85,7 @@ impl<const N: usize> Profile<N> {
 
     // The same levels, with both minutes the beginnings of steps: the steps from the one up to the other. Where both are new, each step
     // behind them moves once.
-    fn split(&mut self, from: u32, until: u32) -> Range<usize>
+    pub fn split(&mut self, from: u32, until: u32) -> Range<usize>
         requires { CanSplit self.old N from × (length self.old + 2 ≤ N) × (from < until) }
         ensures { SplitBoth self.old self.new from until result }
     {
@@ -111,7 +111,7 @@ impl<const N: usize> Profile<N> {
     }
 
     // The rate more on the line in these steps.
-    fn raise(&mut self, steps: Range<usize>, line: u32, rate: u32)
+    pub fn raise(&mut self, steps: Range<usize>, line: u32, rate: u32)
         requires { CanRaise self.old steps line rate }
         ensures { Raised self.old steps line rate self.new }
     {

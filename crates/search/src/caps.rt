@@ -30,7 +30,7 @@ pub struct Lowering {
 }
 
 // Counts below n are at or below the cap of the line in every minute.
-fn unlowered(n: usize) -> [u32; CAP_PLACES]
+pub fn unlowered(n: usize) -> [u32; CAP_PLACES]
     requires { n ≤ cap_places }
     ensures { Unlowered n result }
 {

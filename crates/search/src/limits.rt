@@ -5,7 +5,7 @@ ghost use Rattle.profile.specs.Steps.{counts_of};
 ghost use Rattle.search.specs.Numbers.{limits_beside, with_draw, rate_within};
 ghost use Rattle.search.specs.Rooms.{SmallStep};
 
-use profile::loads::Draw;
+pub use profile::loads::Draw;
 use profile::steps::Step;
 use rules::OTHERS;
 
