@@ -13,6 +13,7 @@ pub mod rest;
 pub mod surroundings;
 
 use charges::Charges;
+pub use only::One;
 
 // "1 to 4 feeders"
 pub const FEEDERS: usize = 4;

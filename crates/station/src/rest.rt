@@ -11,7 +11,7 @@ use charges::drawn::Drawn;
 
 impl Station {
     // What the feeders but that at the place draw, as a fourth line.
-    pub(crate) fn rest(&self, place: usize) -> Drawn
+    pub fn rest(&self, place: usize) -> Drawn
         requires { Formed self.now × (place < self.now.count) }
         ensures { (result ≡ map elsewhere (loads_of (others_of (view self.now) (place + 1)))) × (length result ≤ 540) }
     {
