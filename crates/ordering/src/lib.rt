@@ -2,7 +2,7 @@
 #![tactic(auto)]
 
 pub mod commit;
-mod refusal;
+pub mod refusal;
 pub mod start;
 
 ghost use Rattle.std.specs.Prelude.{◌≡◌};

@@ -10,12 +10,7 @@ use refusals::Refusal;
 use search::limits::Limits;
 
 // The first refusal of an order whose feeder is there: by the feeder's limits, how many charges it holds, and the next ticket.
-pub(crate) fn order_refusal(
-    limits: Limits,
-    held: usize,
-    next: u32,
-    order: Order,
-) -> Result<(), Refusal>
+pub fn order_refusal(limits: Limits, held: usize, next: u32, order: Order) -> Result<(), Refusal>
     ensures { refusal_in result ≡ first_of (order_rows limits held next order) }
 {
     if !(1..=3).contains(&order.line) {
