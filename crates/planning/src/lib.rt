@@ -3,7 +3,7 @@
 
 pub mod offer;
 pub mod replan;
-mod tested;
+pub mod tested;
 
 ghost use Rattle.std.specs.Prelude.{◌≡◌};
 ghost use Rattle.planner.specs.Causes.{cause_in};

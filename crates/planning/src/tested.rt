@@ -15,12 +15,7 @@ use planner::cause::Cause;
 use plans::judged;
 
 // With no cause the waiting charges of a feeder get these starts. Otherwise its charges are unchanged.
-pub(crate) fn tested(
-    charges: &mut Charges,
-    beside: Beside<'_>,
-    starts: &[u32],
-    rounds: u32,
-) -> Planned
+pub fn tested(charges: &mut Charges, beside: Beside<'_>, starts: &[u32], rounds: u32) -> Planned
     requires { Columns charges.old × Listed charges.old × (length starts.now ≡ waiting_count beside.clock charges.old) }
     ensures { Tests beside.entry charges.old rounds (starts_of starts.now) result charges.new }
 {
@@ -41,7 +36,7 @@ pub(crate) fn tested(
 }
 
 // What a replan proposes meets the test, or its cause keeps the held plan.
-pub(crate) fn replanned(
+pub fn replanned(
     charges: &mut Charges,
     beside: Beside<'_>,
     proposed: Result<Starts, Cause>,

@@ -43,7 +43,7 @@ pub const LINE: Field = Field { from: 18, width: 1 };
 pub const RATE: Field = Field { from: 19, width: 1 };
 
 // The place of byte j of record q: behind block 0 the bytes of the records stand in the order of their numbers.
-pub(crate) fn place_of(q: usize, j: usize) -> usize
+pub fn place_of(q: usize, j: usize) -> usize
     requires { (q < 200) × (j < 20) }
     ensures { (result ≡ record_place q j) × (result < 4508) }
 {

@@ -20,7 +20,7 @@ pub enum Enquiry {
 
 impl Enquiry {
     // What is told of a charge. A start equal to the clock still waits.
-    fn of(charge: Charge, clock: u32) -> Enquiry
+    pub fn of(charge: Charge, clock: u32) -> Enquiry
         requires { Small (charge_of charge) }
         ensures { enquiry_answer result ≡ told_charge clock (charge_of charge) }
     {
