@@ -4,6 +4,7 @@ use Prim.Native.Nat.{ℕ, ◌+◌, ◌<◌}
 use mathlib.Core.Bool.{Bool, true, false}
 use mathlib.Core.List.{List, map, ◌++◌}
 use lib.ListN.{length, get_or, length-append, length-map}
+use lib.Seq.{take-length}
 use Rattle.rules.specs.Load.{Load, elsewhere, limits}
 use Rattle.rules.specs.Charge.{load_of, loads_of, seen}
 use Rattle.rules.specs.Site as rules
@@ -13,6 +14,7 @@ use Rattle.charges.specs.declared.Charges.{Charges}
 use Rattle.charges.specs.Arrays.{charge_at, charges_of, Holds}
 use Rattle.search.specs.declared.limits.Limits.{Limits}
 use Rattle.charges.specs.Drawn.{loads_lent, seen_from}
+use Rattle.charges.proofs.Feeders.{OthersDrawn}
 use Rattle.station.specs.declared.Station.{Station}
 use Rattle.planner.specs.declared.Beside.{Beside}
 use Rattle.station.specs.declared.surroundings.Surroundings.{Surroundings}
@@ -23,6 +25,12 @@ use Rattle.station.proofs.Views.{view_at, view_number}
 -- the feeder at place i, as the gathering asks
 pub held_at_lem : (s : Station) (i : ℕ) → Formed s → i < s.count → Holds (get_or (view s).feeders i no_feeder).charges (feeder_at s i).charges
 held_at_lem s i w h = record { charges = ap (λ (g : rules.Feeder). g.charges) (sym (view_at s i h)); columns = w.columns i h }
+
+-- behind the last feeder all the others are gathered
+pub all_gathered :
+    (s : rules.State) {f k : ℕ} {drawn : List Load} → OthersDrawn f s.feeders k drawn → k ≡ length s.feeders →
+    drawn ≡ map elsewhere (loads_of (others_of s f))
+all_gathered s v e = rw (v.loads, e, take-length s.feeders)
 
 -- with its charges behind them, so many loads more are gathered
 pub length_gathered :

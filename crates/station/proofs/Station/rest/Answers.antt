@@ -4,14 +4,14 @@ use native.Mathlib.Omega.{arith}
 use mathlib.Core.Bool.{false}
 use mathlib.Core.List.{◌++◌}
 use lib.ListN.{length}
-use lib.Seq.{take-length}
+use Rattle.std.proofs.Common.{rules}
 use Rattle.rules.specs.Charge.{loads_of}
 use Rattle.charges.specs.Arrays.{charges_of}
 use Rattle.charges.specs.Drawn.{seen_from}
 use Rattle.charges.proofs.Feeders.{others_pass, others_join}
 use Rattle.station.specs.View.{feeder_at, view}
 use Rattle.station.proofs.Views.{view_length, length_among, among, among_read}
-use Rattle.station.proofs.Rests.{held_at_lem, length_gathered}
+use Rattle.station.proofs.Rests.{all_gathered, held_at_lem, length_gathered}
 use Rattle.station.proofs.Station.rest.Goals.{then-i-place, else-i-place}
 use Rattle.station.proofs.Station.rest.Goals as goal
 
@@ -41,6 +41,6 @@ returns c =
     let last : c.loop-i.i ≡ s.count =
     omega (arith, length_among s c.requires.0, ap length c.feeders-other-items.ensures, c.loop-i-test.false, c.loop-i.auto) in
     let whole : c.loop-i.i ≡ length (view s).feeders = omega (arith, last, view_length s) in (
-      rw (gathered.0.loads, whole, take-length (view s).feeders),
+      search (rules, all_gathered (view s) gathered.0 whole),
       omega (arith, last, c.requires.0.few, gathered.1 (omega (arith, last, c.requires.1))),
     )
