@@ -69,6 +69,12 @@ room_told {f} {p} {until} {i} {end} {m} {t} room u same e top small is = rw is (
         (λ d. omega arith)
         (below_or_not end until)))
 
+-- there is room in all minutes below `until`
+pub room_through :
+    {f : ℕ → Bool} {p : Profile} {until i t : ℕ} {held : Step} (room : ℕ) → Visit p until i held t
+    → ((v : ℕ) → In p i v → f v ≡ has_room room v) → until ≤ room → FailsIn f p until i t None
+room_through room u same h = λ v a b c. same v c ∙ room_before room v (omega arith)
+
 -- what an answer says
 pub told_at :
     (f : ℕ → Bool) (p : Profile) (from until : ℕ) (r : Option Failing) (x : Failing) → FirstFailing f p from until r → r ≡ Some x

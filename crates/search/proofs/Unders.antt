@@ -4,27 +4,26 @@ use mathlib.Core.Path.{◌≡◌, refl, sym, ◌∙◌, ap}
 use mathlib.Core.Bool.{Bool, true, false, cond, ◌&&◌, and-true, and-false, true≢false}
 use mathlib.Core.List.{List}
 use native.Mathlib.Omega.{arith}
-use borrow.Author.Tests.{le-leb}
+use borrow.Author.Tests.{le-leb, ne_eqb}
 use lib.Dec.{ltb, leb}
 use lib.ListN.{length, get_or}
 use Rattle.std.specs.Prelude.{Option}
-use Rattle.std.specs.Bool.{then_some}
 use Rattle.rules.specs.Basics.{run_of}
 use Rattle.rules.specs.Load.{draw, Load, IsLine, whole_of, counts}
 use Rattle.rules.specs.Search.{Caps, room_for, fits_under}
 use Rattle.rules.proofs.Ranges.{fails, throughout_at}
 use Rattle.rules.proofs.Fitting.{run_is, fits_run_lem}
-use Rattle.profile.specs.Steps.{empty_step, In}
+use Rattle.profile.specs.Steps.{level_at, minutes_of, counts_of, empty_step, In}
 use Rattle.profile.specs.Shows.{Profile, line_of, level_of, levels, last_minute, Shows}
 use Rattle.profile.specs.declared.steps.Step.{Step}
 use Rattle.profile.proofs.Lines.{line_column}
 use Rattle.profile.proofs.Levels.{level_in}
-use Rattle.search.specs.Rooms.{has_room, End, Visit, FailsAt, FailsIn, Misses, Least}
+use Rattle.search.specs.Rooms.{has_room, Visit, FailsAt, FailsIn, FailsPast, Misses, Least}
 use Rattle.search.specs.Starts.{CanStart}
-use Rattle.search.specs.Caps.{caps_of, CapsShown, under_in, room_under, CanCap, EarliestStartUnder}
+use Rattle.search.specs.Caps.{list_of, caps_of, CapsShown, under_in, room_under, CanCap, EarliestStartUnder}
 use Rattle.search.specs.declared.caps.LineCaps.{LineCaps}
 use Rattle.search.proofs.Sounds.{whole_none, whole_columns}
-use Rattle.search.proofs.Rooms.{room_after, room_always, room_told}
+use Rattle.search.proofs.Rooms.{room_after, room_always}
 
 -- The room of a step
 
@@ -46,9 +45,23 @@ step_room p c line rate i e v h =
 
 -- an answer goes by the room that there is
 pub under_told :
-    {p : Profile} (c : LineCaps) (line rate : ℕ) {until i end m t x : ℕ} {held : Step} {r : Option ℕ} → Visit p until i held t → until < 2 ^ 32
-    → x ≡ under_in c line rate held → End p i until end → m ≡ max t x → r ≡ then_some (ltb m end) m → FailsIn (room_under p c line rate) p until i t r
-under_told {p} c line rate {i = i} {x = x} u small at e top is = room_told x u (step_room p c line rate i (rw u.item at at)) e top small is
+    {p : Profile} (c : LineCaps) (line rate : ℕ) {until i t x : ℕ} {held : Step} (r : Option ℕ) → Visit p until i held t
+    → x ≡ under_in c line rate held → FailsPast p until i t x r → FailsIn (room_under p c line rate) p until i t r
+under_told {p} c line rate {i = i} {held = held} r u at past = past.told (room_under p c line rate) held u (step_room p c line rate i (rw u.item at at))
+
+-- what is no line has the room of the other feeders
+module _ (line : ℕ) (one : line ≡ 1 → ⊥) (two : line ≡ 2 → ⊥) (three : line ≡ 3 → ⊥) where
+  others_count : (s : Step) → counts_of s 4 ≡ counts_of s line
+  others_count s = rw (ne_eqb line 1 one, ne_eqb line 2 two, ne_eqb line 3 three) refl
+
+  others_list : (c : LineCaps) → list_of c 4 ≡ list_of c line
+  others_list c = rw (ne_eqb line 1 one, ne_eqb line 2 two) refl
+
+  pub others_under : (p : Profile) (c : LineCaps) (rate : ℕ) → room_under p c 4 rate ≡ room_under p c line rate
+  others_under p c rate =
+      λ i t.
+      has_room (get_or (others_list c i) (level_at (minutes_of p) (λ m. others_count (get_or p m (empty_step 0)) i) (length p) t + rate) 0) t
+      && leb (whole_of (levels p t) + rate) c.site
 
 -- The smallest start
 

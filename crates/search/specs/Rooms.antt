@@ -45,6 +45,10 @@ abbrev pub FailsIn : (ℕ → Bool) → Profile → ℕ → ℕ → ℕ → Opti
 FailsIn f p until i t (Some m) = FailsAt f p t until m i
 FailsIn f p until i t None = (v : ℕ) → t ≤ v → v < until → In p i v → f v ≡ true
 
+-- where the minutes of a step from t on fail any test that they pass up to, and without, the minute `room`
+pub record FailsPast (p : Profile) (until i t room : ℕ) (r : Option ℕ) : Type 0 where
+  pub told : (f : ℕ → Bool) (step : Step) → Visit p until i step t → ((v : ℕ) → In p i v → f v ≡ has_room room v) → FailsIn f p until i t r
+
 -- in each step the answers are those of this test
 abbrev pub Tells : (ℕ → Step → ℕ → Option ℕ → Type 0) → Profile → ℕ → (ℕ → Bool) → Type 0
 Tells answers p until f = (i : ℕ) (step : Step) (t : ℕ) → Visit p until i step t → (r : Option ℕ) → answers i step t r → FailsIn f p until i t r

@@ -3,12 +3,13 @@
 ghost use Rattle.std.specs.Prelude.{◌+◌, ◌<◌, ◌≤◌, max, length};
 ghost use Rattle.profile.specs.Steps.{In};
 ghost use Rattle.profile.specs.Shows.{last_minute, Formed};
-ghost use Rattle.search.specs.Rooms.{End, Visit, Tells, FirstFailing, CanSeek, Tried, Tests, Settled, FirstPassing};
+ghost use Rattle.search.specs.Rooms.{End, Visit, Tells, FirstFailing, FailsPast, CanSeek, Tried, Tests, Settled, FirstPassing};
 ghost use Rattle.search.specs.Caps.{room_under, CanRun};
 
 use crate::caps::LineCaps;
 use profile::loads::Draw;
 use profile::steps::{Step, place};
+use rules::OTHERS;
 use std::ops::Range;
 
 // Where step i ends, or `until`, where the walk ends.
@@ -52,7 +53,41 @@ pub fn first_failing_by<F: Fn(usize, Step, u32) -> Option<u32>>(
     None
 }
 
-// The first of the load's minutes from `from` on without room for it under the cap of its line.
+// Where a step fails from its minute t on, if it does: there is room up to, and without, the minute `room`. Mostly that is behind the last
+// minute of the walk, and then it doesn't matter where the step ends.
+fn failing_minute(steps: &[Step], i: usize, t: u32, until: u32, room: u32) -> Option<u32>
+    requires { i < length steps.now }
+    ensures { FailsPast steps.now until i t room result }
+{
+    if until <= room {
+        return None;
+    }
+    let minute = t.max(room);
+    (minute < step_end(steps, i, until)).then_some(minute)
+}
+
+// The first of the load's minutes from `from` on without room for it under the cap of its line, whose number is known before the program
+// runs: a walk looks at many steps, and a choice of the line at each of them costs more.
+fn first_failing_on<const LINE: u32>(
+    steps: &[Step],
+    caps: &LineCaps,
+    draw: Draw,
+    first: usize,
+    from: u32,
+) -> Option<Failing>
+    requires { CanRun steps.now draw.time from × In steps.now first from }
+    ensures { FirstFailing (room_under steps.now caps.now LINE draw.rate) steps.now from (from + draw.time) result }
+{
+    let until = from + draw.time;
+    let draw = Draw { line: LINE, ..draw };
+    first_failing_by(steps, first, from..until, |i, step, t| {
+        let room = caps.under_in(step, draw);
+        failing_minute(steps, i, t, until, room)
+    })
+}
+
+// The first of the load's minutes from `from` on without room for it under the cap of its line; what is no line goes, as in `under_in`, by
+// what the other feeders draw.
 pub fn first_failing(
     steps: &[Step],
     caps: &LineCaps,
@@ -63,11 +98,12 @@ pub fn first_failing(
     requires { CanRun steps.now draw.time from × In steps.now first from }
     ensures { FirstFailing (room_under steps.now caps.now draw.line draw.rate) steps.now from (from + draw.time) result }
 {
-    let until = from + draw.time;
-    first_failing_by(steps, first, from..until, |i, step, t| {
-        let minute = t.max(caps.under_in(step, draw));
-        (minute < step_end(steps, i, until)).then_some(minute)
-    })
+    match draw.line {
+        1 => first_failing_on::<1>(steps, caps, draw, first, from),
+        2 => first_failing_on::<2>(steps, caps, draw, first, from),
+        3 => first_failing_on::<3>(steps, caps, draw, first, from),
+        _ => first_failing_on::<OTHERS>(steps, caps, draw, first, from),
+    }
 }
 
 // The first start, not below the one given, that passes a test by the minutes below `until`: the answer passes, or it reaches `until` or

@@ -1,13 +1,14 @@
 -- `search::walk::first_failing` meets its contract.
-use Prim.Native.Nat.{◌+◌, ◌^◌, ◌<◌}
+use mathlib.Core.Path.{subst}
+use Prim.Native.Nat.{ℕ, ◌+◌}
 use native.Mathlib.Omega.{arith}
-use Rattle.std.proofs.Common.{rules}
-use Rattle.search.specs.Caps.{room_under}
-use Rattle.search.proofs.Unders.{under_told}
+use mathlib.Core.Bool.{Bool}
+use Rattle.search.specs.Rooms.{FirstFailing}
+use Rattle.search.proofs.Unders.{others_under}
 use Rattle.search.proofs.walk.first_failing.Goals as goal
 
-pub returns : goal.returns
-returns c =
-    let small : c.args.from + c.args.draw.time < 2 ^ 32 = omega (arith, c.requires.0.ends_fit) in
-    c.first_failing_by.ensures (room_under c.args.steps.now c.args.caps.now c.args.draw.line c.args.draw.rate)
-    (λ i held t u r e. search (rules, under_told))
+pub returns-in_default : goal.returns-in_default
+returns-in_default c =
+    subst (λ (f : ℕ → Bool). FirstFailing f c.args.steps.now c.args.from (c.args.from + c.args.draw.time) c.first_failing_on-in_default.result)
+    (others_under c.args.draw.line (omega arith) (omega arith) (omega arith) c.args.steps.now c.args.caps.now c.args.draw.rate)
+    c.first_failing_on-in_default.ensures
