@@ -4,8 +4,10 @@
 
 pub mod numbers;
 
-ghost use Rattle.std.specs.Prelude.{◌≡◌, []};
+ghost use Rattle.std.specs.Prelude.{◌≡◌, [], Ok};
 ghost use Rattle.calls.specs.Applied.{call_of, none, lends, list_after, ListStays};
+ghost use Rattle.station.specs.View.{Alone};
+ghost use Rattle.image.specs.Answers.{Restores};
 ghost use Rattle.service.specs.Named.{Serves};
 
 use calls::{Call, make};
@@ -14,6 +16,30 @@ use image::saving::save_back;
 use numbers::Numbers;
 use refusals::Refusal;
 use station::Station;
+use station::only::One;
+
+// The call to the only feeder of a station, and the station saved over its image. Not inlined, since room for a whole station is cleared
+// at each call of the function it stands in, and a refused image needs none.
+#[inline(never)]
+fn serve_restored(
+    one: &One,
+    image: &mut [u8],
+    call: Call,
+    numbers: &[u32],
+    list: &mut [u32],
+) -> Result<Numbers, Refusal>
+    requires { Alone one.now }
+    ensures serves { Restores image.old (Ok tt) one.now → Serves image.old (call_of call numbers.now list.old) result image.new (list_after call numbers.now list.new) }
+    ensures list_stays { ListStays (lends call) list.old list.new }
+{
+    let mut station = Station::of_only(*one);
+    let answer = make(&mut station, call, numbers, list)?;
+    let blocks = save_back(&station, image)?;
+    Ok(Numbers {
+        blocks,
+        ..Numbers::from(answer)
+    })
+}
 
 // The lists are those of `calls::make`: one to read from, and one to write to.
 pub fn serve(
@@ -27,13 +53,7 @@ pub fn serve(
 {
     let restored = restore(image);
     restored.answer?;
-    let mut station = Station::of_only(restored.station);
-    let answer = make(&mut station, call, numbers, list)?;
-    let blocks = save_back(&station, image)?;
-    Ok(Numbers {
-        blocks,
-        ..Numbers::from(answer)
-    })
+    serve_restored(&restored.station, image, call, numbers, list)
 }
 
 // A call that takes no list.
