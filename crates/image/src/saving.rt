@@ -22,8 +22,6 @@ fn write(one: &One, previous: &[u8; IMAGE], image: &mut [u8; IMAGE]) -> u32
 }
 
 // A station over an image that is lent beside the previous one: refused with 20 for the length of either, and with 22 for several feeders.
-// Inlined, since then a caller that has just made the station makes no feeder but the first.
-#[inline(always)]
 pub fn save(station: &Station, previous: &[u8], image: &mut [u8]) -> Result<u32, Refusal>
     requires { Valid station.now }
     ensures { Saves (view station.now) previous.now image.old image.new result }
@@ -34,8 +32,7 @@ pub fn save(station: &Station, previous: &[u8], image: &mut [u8]) -> Result<u32,
     Ok(write(&one, previous, image))
 }
 
-// A station over its previous image. Inlined for the reason of `save`.
-#[inline(always)]
+// A station over its previous image.
 pub fn save_back(station: &Station, image: &mut [u8]) -> Result<u32, Refusal>
     requires { Valid station.now }
     ensures { Saves (view station.now) image.old image.old image.new result }
