@@ -4,7 +4,7 @@ ghost use Rattle.std.specs.Prelude.{◌+◌, ◌<◌, ◌≤◌, max, length};
 ghost use Rattle.profile.specs.Steps.{In};
 ghost use Rattle.profile.specs.Shows.{last_minute, Formed};
 ghost use Rattle.search.specs.Rooms.{End, Visit, Tells, FirstFailing, FailsPast, CanSeek, Tried, Tests, Settled, FirstPassing};
-ghost use Rattle.search.specs.Caps.{room_under, CanRun};
+ghost use Rattle.search.specs.Caps.{under_in, room_under, CanRun};
 
 use crate::caps::LineCaps;
 use profile::loads::Draw;
@@ -79,11 +79,20 @@ fn first_failing_on<const LINE: u32>(
     ensures { FirstFailing (room_under steps.now caps.now LINE draw.rate) steps.now from (from + draw.time) result }
 {
     let until = from + draw.time;
-    let draw = Draw { line: LINE, ..draw };
-    first_failing_by(steps, first, from..until, |i, step, t| {
-        let room = caps.under_in(step, draw);
-        failing_minute(steps, i, t, until, room)
-    })
+    // The line's number stands in the closure itself, since a closure that only reads it from a variable is one for all lines.
+    first_failing_by(
+        steps,
+        first,
+        from..until,
+        |i, step, t|
+            requires { i < length steps.now }
+            ensures { FailsPast steps.entry.now until i t (under_in caps.entry.now LINE draw.rate step) result }
+        {
+            let draw = Draw { line: LINE, ..draw };
+            let room = caps.under_in(step, draw);
+            failing_minute(steps, i, t, until, room)
+        },
+    )
 }
 
 // The first of the load's minutes from `from` on without room for it under the cap of its line; what is no line goes, as in `under_in`, by
