@@ -27,10 +27,10 @@ returns-in_err-one c =
     (several (view s) c.in_ok-previous.previous.now _ _ (search rules) (λ n. none_out s c.only.ensures (search rules) (sym (view_length s) ∙ n)) (search rules) (search rules))
     refl (search rules) (search rules))
 
-pub write-requires : goal.write-requires
-write-requires c =
-    (taken_alone c.args.station.now c.in_ok-one.one c.requires c.only.ensures (search rules)).valid.formed.columns 0 (omega arith)
-
 pub returns : goal.returns
 returns c =
     lent c.write.ensures (ap view (taken_out c.args.station.now c.in_ok-one.one c.only.ensures (search rules))) (search rules) (search rules)
+
+pub write-requires : goal.write-requires
+write-requires c =
+    (taken_alone c.args.station.now c.in_ok-one.one c.requires c.only.ensures (search rules)).valid.formed.columns 0 (omega arith)
