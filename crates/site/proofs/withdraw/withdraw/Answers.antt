@@ -30,11 +30,6 @@ returns-then-charges-holder c =
 pub surroundings-surroundings-requires : goal.surroundings-surroundings-requires
 surroundings-surroundings-requires c = (c.requires, (holder_some c.args.station.now c.args.ticket c.holder.ensures c.in_ok-holder.ensures.ok_part).inside)
 
-pub plan_sound-requires : goal.plan_sound-requires
-plan_sound-requires c =
-    let o = holder_some c.args.station.now c.args.ticket c.holder.ensures c.in_ok-holder.ensures.ok_part in
-    rest_profiled c.args.station.now c.args.ticket c.requires o c.index-station-holder.result c.without-kept.ensures
-
 pub returns-then-not-plan_sound : goal.returns-then-not-plan_sound
 returns-then-not-plan_sound c =
     let o = holder_some c.args.station.now c.args.ticket c.holder.ensures c.in_ok-holder.ensures.ok_part in
@@ -46,3 +41,8 @@ returns c =
     let o = holder_some c.args.station.now c.args.ticket c.holder.ensures c.in_ok-holder.ensures.ok_part in
     withdraw_taken c.args.station.now c.args.ticket c.requires o c.index-station-holder.result {kept = c.without-kept.result} c.without-kept.ensures (omega (arith, c.if-charges-holder.false))
     {b = c.lent.result} c.surroundings-surroundings.ensures (search rules) c.lent.ensures c.plan_sound.ensures _ c.if-not-plan_sound.false
+
+pub plan_sound-requires : goal.plan_sound-requires
+plan_sound-requires c =
+    let o = holder_some c.args.station.now c.args.ticket c.holder.ensures c.in_ok-holder.ensures.ok_part in
+    rest_profiled c.args.station.now c.args.ticket c.requires o c.index-station-holder.result c.without-kept.ensures
