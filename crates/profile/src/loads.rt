@@ -1,6 +1,6 @@
 // A profile, and one more load in it.
 ghost use Rattle.std.specs.Prelude.{◌≡◌, [], ◌+◌, ◌≤◌, ◌<◌, length};
-ghost use Rattle.profile.specs.Shows.{Shows, CanSplit, SplitBoth, CanAdd, LoadAdded};
+ghost use Rattle.profile.specs.Shows.{Shows, CanSplit, Split, SplitBoth, CanAdd, LoadAdded};
 ghost use Rattle.profile.specs.Loads.{PutIn, CanRaise, Raised};
 
 use crate::steps::{Step, place};
@@ -83,9 +83,22 @@ impl<const N: usize> Profile<N> {
         self.count += 1;
     }
 
+    // The same levels, with minute t the beginning of a step: its place.
+    pub fn split(&mut self, t: u32) -> usize
+        requires { CanSplit self.old N t }
+        ensures { Split self.old self.new t result }
+    {
+        let i = place(self.steps(), t);
+        if self.list[i].minute == t {
+            return i;
+        }
+        self.put_in(i, t);
+        i + 1
+    }
+
     // The same levels, with both minutes the beginnings of steps: the steps from the one up to the other. Where both are new, each step
     // behind them moves once.
-    pub fn split(&mut self, from: u32, until: u32) -> Range<usize>
+    fn split_both(&mut self, from: u32, until: u32) -> Range<usize>
         requires { CanSplit self.old N from × (length self.old + 2 ≤ N) × (from < until) }
         ensures { SplitBoth self.old self.new from until result }
     {
@@ -135,7 +148,7 @@ impl<const N: usize> Profile<N> {
         if !(1..=OTHERS).contains(&draw.line) {
             return;
         }
-        let steps = self.split(from, until);
+        let steps = self.split_both(from, until);
         self.raise(steps, draw.line, draw.rate);
     }
 }
