@@ -1,5 +1,5 @@
 -- What an offer and both replans answer, and the test that they end with.
-use Rattle.std.specs.Prelude.{◌≡◌, ℕ, Result, Ok, Err}
+use Rattle.std.specs.Prelude.{◌≡◌, ℕ, ◌≤◌, length, take, Result, Ok, Err}
 use Rattle.rules.specs.Charge.{lateness}
 use Rattle.rules.specs.Judgement.{restarted, judged}
 use Rattle.rules.specs.Replan.{Proposal, starts, none}
@@ -8,9 +8,10 @@ use Rattle.refusals.specs.declared.Refusal.{Refusal}
 use Rattle.refusals.specs.Refusals.{answer_by}
 use Rattle.charges.specs.declared.Charges.{Charges}
 use Rattle.charges.specs.Arrays.{charges_of, Holds}
+use Rattle.charges.specs.Starts.{Starts}
 use Rattle.planner.specs.declared.Beside.{Beside}
 use Rattle.planner.specs.declared.cause.Cause.{Cause}
-use Rattle.planner.specs.Causes.{cause_in}
+use Rattle.planner.specs.Causes.{number_of, cause_in}
 use Rattle.planner.specs.Ready.{terms_of}
 use Rattle.planning.specs.declared.Planned.{Planned}
 
@@ -20,6 +21,16 @@ planned_of p = planned (cause_in p.taken) p.before p.after p.rounds
 
 abbrev pub plan_answer : Result Planned Refusal → Answer
 plan_answer = answer_by planned_of
+
+-- a start for each of n waiting charges, where there are starts; what follows them is not read
+abbrev pub Enough : ℕ → Result Starts Cause → Type 0
+Enough n (Ok list) = n ≤ length list
+Enough n (Err cause) = Unit {0}
+
+-- the first n starts, or the cause for having none
+abbrev pub first_starts : ℕ → Result Starts Cause → Proposal
+first_starts n (Ok list) = starts (take n list)
+first_starts n (Err cause) = none (number_of cause)
 
 -- the cause for keeping the held charges against what is proposed
 abbrev pub cause_by : Beside → Charges → Proposal → ℕ

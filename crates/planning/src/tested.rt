@@ -4,8 +4,7 @@ ghost use Rattle.rules.specs.Replan.{starts as starts_of};
 ghost use Rattle.charges.specs.Arrays.{Columns};
 ghost use Rattle.charges.specs.Held.{Listed};
 ghost use Rattle.planner.specs.Starts.{waiting_count};
-ghost use Rattle.planner.specs.Answers.{ForEach, proposal_of};
-ghost use Rattle.planning.specs.Answers.{Tests};
+ghost use Rattle.planning.specs.Answers.{Enough, first_starts, Tests};
 
 use crate::Planned;
 use charges::Charges;
@@ -35,18 +34,21 @@ pub fn tested(charges: &mut Charges, beside: Beside<'_>, starts: &[u32], rounds:
     }
 }
 
-// What a replan proposes meets the test, or its cause keeps the held plan.
+// What a replan proposes meets the test, or its cause keeps the held plan. Starts behind those for the waiting charges are not read.
 pub fn replanned(
     charges: &mut Charges,
     beside: Beside<'_>,
     proposed: Result<Starts, Cause>,
     rounds: u32,
 ) -> Planned
-    requires { Columns charges.old × Listed charges.old × ForEach (waiting_count beside.clock charges.old) proposed }
-    ensures { Tests beside.entry charges.old rounds (proposal_of proposed) result charges.new }
+    requires { Columns charges.old × Listed charges.old × Enough (waiting_count beside.clock charges.old) proposed }
+    ensures { Tests beside.entry charges.old rounds (first_starts (waiting_count beside.entry.clock charges.old) proposed) result charges.new }
 {
     match proposed {
-        Ok(starts) => tested(charges, beside, starts.as_slice(), rounds),
+        Ok(starts) => {
+            let count = charges.waiting_count(beside.clock);
+            tested(charges, beside, &starts.as_slice()[..count], rounds)
+        }
         Err(cause) => {
             let before = charges.lateness();
             Planned {

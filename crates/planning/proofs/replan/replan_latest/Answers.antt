@@ -5,7 +5,7 @@ use Rattle.std.proofs.lemmas.Result.{err_from_is_err_and}
 use Rattle.rules.specs.Calls.{replan_latest}
 use Rattle.planning.proofs.Ready.{can_test, own_columns, ready}
 use Rattle.planning.proofs.Refusals.{gives_no_feeder}
-use Rattle.planning.proofs.Replanning.{latest_tested}
+use Rattle.planning.proofs.Replanning.{enough, latest_tested}
 use Rattle.planning.proofs.replan.replan_latest.Goals as goal
 
 pub returns-in_err-place : goal.returns-in_err-place
@@ -19,7 +19,7 @@ latest-proposed-requires c = ready (can_test c.requires c.in_ok-place.ensures.1 
 pub replanned-requires : goal.replanned-requires
 replanned-requires c =
     let w = can_test c.requires c.in_ok-place.ensures.1 c.surroundings-surroundings.ensures c.lent-beside.ensures refl in
-    (own_columns w _, (ready w _).listed, c.latest-proposed.ensures.many)
+    (own_columns w _, (ready w _).listed, enough _ _ c.latest-proposed.ensures.many)
 
 pub returns : goal.returns
 returns c =

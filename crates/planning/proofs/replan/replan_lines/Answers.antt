@@ -6,7 +6,7 @@ use Rattle.std.proofs.lemmas.Bool.Decides.{nat_tests}
 use Rattle.rules.specs.Calls.{replan_lines}
 use Rattle.planning.proofs.Ready.{can_test, own_columns, ready}
 use Rattle.planning.proofs.Refusals.{gives_no_feeder, lines_refused}
-use Rattle.planning.proofs.Replanning.{lines_tested}
+use Rattle.planning.proofs.Replanning.{enough, lines_tested}
 use Rattle.planning.proofs.replan.replan_lines.Goals as goal
 
 pub returns-in_err-place : goal.returns-in_err-place
@@ -23,7 +23,7 @@ by_lines-made-requires c = ready (can_test c.requires c.in_ok-place.ensures.1 c.
 pub replanned-requires : goal.replanned-requires
 replanned-requires c =
     let w = can_test c.requires c.in_ok-place.ensures.1 c.surroundings-surroundings.ensures c.lent-beside.ensures refl in
-    (own_columns w _, (ready w _).listed, c.by_lines-made.ensures.many)
+    (own_columns w _, (ready w _).listed, enough _ _ c.by_lines-made.ensures.many)
 
 pub returns : goal.returns
 returns c =
