@@ -12,6 +12,7 @@ use lib.Dec.{ltb, eqb}
 use lib.ListN.{length, drop, get_or, length-append, drop_of_length-le}
 use lib.Seq.{drop-cons}
 use Rattle.rules.proofs.Ranges.{below_or_not}
+use Rattle.std.specs.Fmt.{decimal as printed}
 use Rattle.std.proofs.lemmas.Fmt.{decimal_by_steps}
 use Rattle.text.specs.Numbers.{is_digit, value_from, number_of, digits_within, decimal}
 use Rattle.text.specs.LawsOfNumbers.{PrintedIsReadBack, LibraryPrintsDigits, TwentyDigitsSuffice}
@@ -113,6 +114,10 @@ same_digits n h =
     (λ m small k. sym (decimal_small m small))
     (λ m ds large e k. rw (e (omega arith)) (sym (decimal_more m large k)))
     n h h
+
+-- so what it prints of a number that is n has the digits of n
+pub digits_printed : {bytes : List ℕ} {m : ℕ} (n : ℕ) → bytes ≡ printed m → m < 2 ^ 64 → m ≡ n → bytes ≡ decimal n
+digits_printed {m = m} n same h is = same ∙ same_digits m h ∙ ap decimal is
 
 length_digits : (k n : ℕ) → length (digits_within k n) ≤ k
 unfolding digits_within
