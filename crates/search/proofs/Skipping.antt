@@ -1,24 +1,10 @@
--- A loop over the steps with their numbers that passes over the first n of them.
+-- A loop over the steps from step n on: what it comes to in its turn k is step n + k.
 use Prim.Native.Nat.{ℕ, ◌+◌, ◌-◌, ◌<◌, ◌≤◌}
-use mathlib.Core.Path.{◌≡◌, ◌∙◌, sym, ap}
-use mathlib.Core.List.{List}
+use mathlib.Core.Path.{◌≡◌, refl, ◌∙◌, sym, ap}
 use native.Mathlib.Omega.{arith}
-use lib.ListN.{length, get_or, drop}
-use denote.Ref.{Bor}
-use Rattle.std.specs.Prelude.{Option, Some, None}
-use Rattle.std.specs.List.{enumerate_from}
-use Rattle.std.specs.Slice.Iter.{iter_rest}
-use Rattle.std.specs.Iterator.{Yields}
-use Rattle.std.specs.Iterator.Adapters.{enumerate_source, enumerate_count, enumerate_steps, skip_source, skip_count, skip_steps}
-use Rattle.std.specs.declared.slice.Iter.{Iter}
-use Rattle.std.specs.declared.iter.Enumerate.{Enumerate}
-use Rattle.std.specs.declared.iter.Skip.{Skip}
-use Rattle.std.proofs.iter.Yields.{fronts}
-use Rattle.std.proofs.lemmas.List.{get_or-drop, get_or_default, length-drop}
-use Rattle.std.proofs.lemmas.List.FromFn.{get_or-enumerate_from, length-enumerate_from}
-use Rattle.std.proofs.lemmas.Iterator.{YieldsList, YieldsList-from_slice}
-use Rattle.std.proofs.lemmas.Iterator.Adapters.{YieldsList-from_skip}
-use Rattle.std.proofs.lemmas.Iterator.Consumers.{YieldsList-from_enumerate, YieldsList-at, YieldsList-turn, YieldsList-end}
+use lib.ListN.{length, get_or, drop, take}
+use Rattle.std.proofs.Common.{slice_index_or}
+use Rattle.std.proofs.lemmas.List.{get_or-drop, get_or_default, length-drop, length-take-le, take_all}
 use Rattle.profile.specs.Steps.{minutes_of, empty_step}
 use Rattle.profile.specs.Shows.{Profile}
 use Rattle.profile.specs.declared.steps.Step.{Step}
@@ -31,41 +17,30 @@ pub record IsStep (p : Profile) (k i : ℕ) (held : Step) : Type 0 where
   pub item : held ≡ get_or p k (empty_step 0)
   pub minute : get_or (minutes_of p) k 0 ≡ held.minute
 
-module _ {first : Iter Step} {numbered : Enumerate (Iter Step)} {behind start : Skip (Enumerate (Iter Step))} (p : Profile) (n : ℕ)
-    (rest : iter_rest first ≡ p) (source : enumerate_source numbered ≡ first) (zero : enumerate_count numbered ≡ 0)
-    (over : skip_source behind ≡ numbered) (count : skip_count behind ≡ n) (same : start ≡ behind)
-    (seen : List (ℕ × Bor Step)) (t : Skip (Enumerate (Iter Step))) (y : Yields (skip_steps (enumerate_steps fronts)) start seen t) where
-  abbrev all : List (ℕ × Step)
-  all = drop n (enumerate_from 0 p)
+-- the steps that the loop goes over
+abbrev pub later : Profile → ℕ → Profile
+later p n = take (length p - n) (drop n p)
 
-  road : YieldsList (skip_steps (enumerate_steps fronts)) (λ x. (x.0, x.1.now)) start all
-  road =
-      YieldsList-at same
-      (YieldsList-from_skip n (YieldsList-at over (YieldsList-from_enumerate (YieldsList-at source (YieldsList-from_slice p rest)) zero)) count)
+later_size : (p : Profile) (n : ℕ) → length (later p n) ≡ length p - n
+later_size p n = length-take-le (length p - n) (drop n p) (omega (arith, length-drop n p))
 
-  size : length all ≡ length p - n
-  size = length-drop n (enumerate_from 0 p) ∙ ap (λ (m : ℕ). m - n) (length-enumerate_from 0 p)
+later_all : (p : Profile) (n : ℕ) → later p n ≡ drop n p
+later_all p n = take_all (length p - n) (drop n p) (omega (arith, length-drop n p))
 
-  -- the next item
-  pub skipped_turn : (r : Option (ℕ × Bor Step)) (u : Skip (Enumerate (Iter Step))) (i : ℕ) (held : Bor Step) → r ≡ Some (i, held) → skip_steps (enumerate_steps fronts) t r u
-      → IsStep p (n + length seen) i held.now
-  skipped_turn r u i held is gives =
-      record { below = below; number = omega (arith, ap (λ (x : ℕ × Step). x.0) e); item = at; minute = minute_in p (n + length seen) held.now below ∙ sym (ap (λ (x : ℕ × Step). x.1.minute) e) }
-    where
-      turn : (length seen < length all) × (◌≡◌ {A = ℕ × Step} (i, held.now) (get_or all (length seen) (i, held.now)))
-      turn = YieldsList-turn road seen t y r u (i, held) is gives
+-- where the loop begins with step n; that it does is shown last, so that a loop that begins elsewhere is refused there
+pub later_step :
+    {m : ℕ} (p : Profile) (n k : ℕ) (d : Step) → k < length (later p m) → m ≡ n → IsStep p (n + k) (n + k) (slice_index_or (later p m) k d)
+later_step {m = m} p n k d h same =
+    let below : n + k < length p = omega (arith, h, later_size p m, same) in
+    let item : get_or (later p m) k d ≡ get_or p (n + k) d =
+    ap (λ (q : Profile). get_or q k d) (later_all p m) ∙ get_or-drop m p k d ∙ ap (λ (x : ℕ). get_or p (x + k) d) same in
+    record {
+      below = below;
+      number = refl;
+      item = item ∙ get_or_default p (n + k) d (empty_step 0) below;
+      minute = minute_in p (n + k) d below ∙ sym (ap (λ (s : Step). s.minute) item);
+    }
 
-      below : n + length seen < length p
-      below = omega (arith, turn.0, size)
-
-      e : ◌≡◌ {A = ℕ × Step} (i, held.now) (0 + (n + length seen), get_or p (n + length seen) held.now)
-      e =
-          turn.1 ∙ get_or-drop n (enumerate_from 0 p) (length seen) (i, held.now)
-          ∙ get_or-enumerate_from 0 p (n + length seen) (i, held.now) (omega (arith, below))
-
-      at : held.now ≡ get_or p (n + length seen) (empty_step 0)
-      at = ap (λ (x : ℕ × Step). x.1) e ∙ get_or_default p (n + length seen) held.now (empty_step 0) below
-
-  -- there is no item left
-  pub skipped_end : (r : Option (ℕ × Bor Step)) (u : Skip (Enumerate (Iter Step))) → r ≡ None → skip_steps (enumerate_steps fronts) t r u → length p ≤ n + length seen
-  skipped_end r u is gives = omega (arith, (YieldsList-end road seen t y r u is gives).1, size)
+-- there is no step left
+pub later_end : {m : ℕ} (p : Profile) (n k : ℕ) → length (later p m) ≤ k → m ≡ n → length p ≤ n + k
+later_end {m = m} p n k h same = omega (arith, h, later_size p m, same)

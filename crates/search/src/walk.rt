@@ -41,11 +41,13 @@ pub fn first_failing_by<F: Fn(usize, Step, u32) -> Option<u32>>(
     requires callable { (i : _) (step : _) (t : _) → Visit steps.now minutes.end i step t → F.pre fails i step t }
     ensures { (f : _) → Tells (F.post fails) steps.now minutes.end f → FirstFailing f steps.now minutes.start minutes.end result }
 {
-    for (i, step) in steps.iter().enumerate().skip(first) {
+    // A slice from there on: to skip the steps before it would cost something at each one behind.
+    for (k, step) in steps[first..].iter().enumerate() {
         let t = step.minute.max(minutes.start);
         if minutes.end <= t {
             break;
         }
+        let i = first + k;
         if let Some(minute) = fails(i, *step, t) {
             return Some(Failing { minute, step: i });
         }
