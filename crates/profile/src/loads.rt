@@ -83,7 +83,7 @@ impl<const N: usize> Profile<N> {
         self.count += 1;
     }
 
-    // The same levels, with minute t the beginning of a step: its place.
+    // The same levels, with minute t the beginning of a step. The answer: the place of that step.
     pub fn split(&mut self, t: u32) -> usize
         requires { CanSplit self.old N t }
         ensures { Split self.old self.new t result }

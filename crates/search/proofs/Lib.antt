@@ -1,6 +1,6 @@
 pub mod Places
 pub mod Walks
-pub mod Skipping
+pub mod Later
 pub mod Rooms
 pub mod Sounds
 pub mod Within

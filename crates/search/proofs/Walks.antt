@@ -12,7 +12,7 @@ use Rattle.profile.specs.Shows.{Profile}
 use Rattle.profile.specs.declared.steps.Step.{Step}
 use Rattle.profile.proofs.Levels.{at_step, in_more, same_or_not}
 use Rattle.search.specs.Rooms.{Visit, FailsAt, FailsIn}
-use Rattle.search.proofs.Skipping.{IsStep}
+use Rattle.search.proofs.Later.{IsStep}
 
 -- of the minutes from `from` on and below `until` those before step i pass the test
 pub record Walk (f : ℕ → Bool) (p : Profile) (from until i : ℕ) : Type 0 where

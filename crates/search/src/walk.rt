@@ -41,7 +41,7 @@ pub fn first_failing_by<F: Fn(usize, Step, u32) -> Option<u32>>(
     requires callable { (i : _) (step : _) (t : _) → Visit steps.now minutes.end i step t → F.pre fails i step t }
     ensures { (f : _) → Tells (F.post fails) steps.now minutes.end f → FirstFailing f steps.now minutes.start minutes.end result }
 {
-    // A slice from there on: to skip the steps before it would cost something at each one behind.
+    // A slice from the first step on: `skip` would cost something at each step behind it.
     for (k, step) in steps[first..].iter().enumerate() {
         let t = step.minute.max(minutes.start);
         if minutes.end <= t {

@@ -115,7 +115,7 @@ same_digits n h =
     (λ m ds large e k. rw (e (omega arith)) (sym (decimal_more m large k)))
     n h h
 
--- so what it prints of a number that is n has the digits of n
+-- so what the library prints of m has the digits of n, where m is n
 pub digits_printed : {bytes : List ℕ} {m : ℕ} (n : ℕ) → bytes ≡ printed m → m < 2 ^ 64 → m ≡ n → bytes ≡ decimal n
 digits_printed {m = m} n same h is = same ∙ same_digits m h ∙ ap decimal is
 

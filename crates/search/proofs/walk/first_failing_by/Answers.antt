@@ -1,7 +1,7 @@
 use native.Mathlib.Omega.{arith}
 use Rattle.profile.specs.Steps.{empty_step}
 use Rattle.search.proofs.Walks.{walk_begin, walk_visit, walk_passed, walk_fails, walk_on, walk_done}
-use Rattle.search.proofs.Skipping.{later_step, later_end}
+use Rattle.search.proofs.Later.{later_step, later_end}
 use Rattle.search.proofs.walk.first_failing_by.Goals as goal
 use Rattle.search.proofs.walk.first_failing_by.Goals.{else-loop-k-test, then-loop-k-test+then-minutes-t}
 

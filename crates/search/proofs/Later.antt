@@ -27,7 +27,7 @@ later_size p n = length-take-le (length p - n) (drop n p) (omega (arith, length-
 later_all : (p : Profile) (n : ℕ) → later p n ≡ drop n p
 later_all p n = take_all (length p - n) (drop n p) (omega (arith, length-drop n p))
 
--- where the loop begins with step n; that it does is shown last, so that a loop that begins elsewhere is refused there
+-- step n + k, where the loop begins with step n: that is asked last, so that a loop that begins elsewhere is refused there
 pub later_step :
     {m : ℕ} (p : Profile) (n k : ℕ) (d : Step) → k < length (later p m) → m ≡ n → IsStep p (n + k) (n + k) (slice_index_or (later p m) k d)
 later_step {m = m} p n k d h same =
